@@ -1,6 +1,6 @@
 -- Lists whose rows are found by their ids, as they grow.
 use Rattle.std.proofs.Common.{ℕ, ◌≡◌, ◌+◌, ◌<◌, get_or, Bool, true, false, cond, suc, List, [], ◌∷◌, ◌++◌, length, map, Option, Some, None, refl, sym, ap, subst, ◌∙◌, inl, inr, arith, add-zero}
-use Rattle.std.specs.Prelude.{◌&&◌, ◌||◌, not, nat_eq, find}
+use Rattle.std.specs.Prelude.{◌&&◌, ◌||◌, not, nat_eq, find, IfSome}
 use Rattle.std.specs.List.{list_any, position_from}
 use Rattle.std.specs.Str.{bytes_eq}
 use Rattle.std.specs.Global.{Vec}
@@ -172,3 +172,8 @@ no_place id bytes rows h = no_place_from id bytes rows 0 h
 pub any_named : {T : Type 0} (name : T → List ℕ) (text : List ℕ) (rows : List T) → list_any (λ row. bytes_eq (name row) text) rows ≡ is_among (map name rows) text
 any_named name text [] = refl
 any_named name text (row ∷ rows) = ap (λ b. bytes_eq (name row) text || b) (any_named name text rows)
+
+-- a place that is found is in the list
+pub place_bound : {T : Type 0} (id : T → List ℕ) (bytes : List ℕ) (rows : List T) (found : Option ℕ) → found ≡ place_of bytes (map id rows) → IfSome found (λ place. place < length rows)
+place_bound id bytes rows None h = tt
+place_bound id bytes rows (Some place) h = place_within id bytes rows place (sym h)

@@ -1,5 +1,5 @@
 //! Lists whose rows are found by their ids.
-ghost use Rattle.std.specs.Prelude.{◌≡◌, ℕ, ◌<◌, List, [], ◌∷◌, ◌++◌, true, None, Some, IfErr, OnOk, OnErr, IfOk, length, map, ◌≤◌, nat_le};
+ghost use Rattle.std.specs.Prelude.{◌≡◌, ℕ, ◌<◌, List, [], ◌∷◌, ◌++◌, true, None, Some, IfErr, OnOk, OnErr, IfOk, IfSome, length, map, ◌≤◌, nat_le};
 ghost use Rattle.contest_types.specs.Places.{place_of, are_different};
 ghost use Rattle.contest_types.specs.Additions.{standing_of, addition, addition_by, IsFaultOf, grown};
 
@@ -71,6 +71,7 @@ impl<T: Identified + Drop> IdList<T> {
     /// The place of the row with this id, from 0.
     pub fn place(&self, id: &[u8]) -> Option<usize>
         ensures place { result ≡ place_of id.now (map T.id self.now) }
+        ensures within { IfSome result (λ place. place < length self.now) }
     {
         self.places.get(id).copied()
     }

@@ -31,12 +31,20 @@ impl Model for RelTime {
 }
 
 impl RelTime {
-    /// The time that a text shows, if it shows one.
+    /// The time that a text shows, if it shows one. It takes no memory.
     pub fn parse(text: &str) -> Option<RelTime>
         ensures found { IfSome result (λ time. IsRelTimeText text.now time) }
         ensures none { IfNone result ((time : ℤ) → IsRelTimeText text.now time → ⊥) }
     {
-        let (negative, digits) = sign_of(text.as_bytes());
+        RelTime::from_bytes(text.as_bytes())
+    }
+
+    /// The time that bytes show, if they show one. It takes no memory.
+    pub fn from_bytes(text: &[u8]) -> Option<RelTime>
+        ensures found { IfSome result (λ time. IsRelTimeText text.now time) }
+        ensures none { IfNone result ((time : ℤ) → IsRelTimeText text.now time → ⊥) }
+    {
+        let (negative, digits) = sign_of(text);
         let n = clock_of(digits)?;
         let milliseconds = if negative { -(n as i64) } else { n as i64 };
         Some(RelTime { milliseconds })

@@ -1,5 +1,5 @@
 //! What a contest is set up with.
-ghost use Rattle.std.specs.Prelude.{◌≡◌, ◌≤◌, Ok, Err, Some, None, false, [], IfOk, IfErr, OnErr, length, map};
+ghost use Rattle.std.specs.Prelude.{◌≡◌, ◌<◌, Ok, Err, Some, None, false, [], IfOk, IfErr, IfSome, OnErr, length, map};
 ghost use Rattle.contest_types.specs.Setup.{Setup, IsValid, is_valid_head, has_valid_freeze, has_valid_medals, labels_of, refers};
 ghost use Rattle.contest_types.specs.Additions.{IsFaultOf};
 ghost use Rattle.contest_types.specs.SetupAdditions.{IsNew, type_addition, language_addition, problem_addition, group_addition, team_addition, with_type, with_language, with_problem, with_group, with_team};
@@ -108,35 +108,45 @@ impl Settings {
 
     /// The place of the judgement type with this id, from 0.
     pub fn judgement_type_place(&self, id: &[u8]) -> Option<usize>
-        ensures { result ≡ place_of id.now (map (λ t. t.id) self.now.types) }
+        ensures place { result ≡ place_of id.now (map (λ t. t.id) self.now.types) }
+        ensures within { IfSome result (λ place. place < length self.now.types) }
+        ensures valid { IsValid self.now }
     {
         self.types.place(id)
     }
 
     /// The place of the language with this id, from 0.
     pub fn language_place(&self, id: &[u8]) -> Option<usize>
-        ensures { result ≡ place_of id.now (map (λ l. l.id) self.now.languages) }
+        ensures place { result ≡ place_of id.now (map (λ l. l.id) self.now.languages) }
+        ensures within { IfSome result (λ place. place < length self.now.languages) }
+        ensures valid { IsValid self.now }
     {
         self.languages.place(id)
     }
 
     /// The place of the problem with this id, from 0.
     pub fn problem_place(&self, id: &[u8]) -> Option<usize>
-        ensures { result ≡ place_of id.now (map (λ p. p.id) self.now.problems) }
+        ensures place { result ≡ place_of id.now (map (λ p. p.id) self.now.problems) }
+        ensures within { IfSome result (λ place. place < length self.now.problems) }
+        ensures valid { IsValid self.now }
     {
         self.problems.place(id)
     }
 
     /// The place of the group with this id, from 0.
     pub fn group_place(&self, id: &[u8]) -> Option<usize>
-        ensures { result ≡ place_of id.now (map (λ g. g.id) self.now.groups) }
+        ensures place { result ≡ place_of id.now (map (λ g. g.id) self.now.groups) }
+        ensures within { IfSome result (λ place. place < length self.now.groups) }
+        ensures valid { IsValid self.now }
     {
         self.groups.place(id)
     }
 
     /// The place of the team with this id, from 0.
     pub fn team_place(&self, id: &[u8]) -> Option<usize>
-        ensures { result ≡ place_of id.now (map (λ t. t.id) self.now.teams) }
+        ensures place { result ≡ place_of id.now (map (λ t. t.id) self.now.teams) }
+        ensures within { IfSome result (λ place. place < length self.now.teams) }
+        ensures valid { IsValid self.now }
     {
         self.teams.place(id)
     }
