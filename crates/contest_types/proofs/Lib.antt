@@ -2,6 +2,7 @@ pub mod PlaceLemmas
 pub mod AdditionLemmas
 pub mod SetupLemmas
 pub mod IdLemmas
+pub mod NameLemmas
 pub mod RelTimeLemmas
 pub mod Times
 pub mod Printed

@@ -1,7 +1,7 @@
 -- Lists whose rows are found by their ids, as they grow.
 use Rattle.std.proofs.Common.{ℕ, ◌≡◌, ◌+◌, ◌<◌, get_or, Bool, true, false, cond, suc, List, [], ◌∷◌, ◌++◌, length, map, Option, Some, None, refl, sym, ap, subst, ◌∙◌, inl, inr, arith, add-zero}
-use Rattle.std.specs.Prelude.{◌&&◌, ◌||◌, not, nat_eq, find, IfSome}
-use Rattle.std.specs.List.{list_any, position_from}
+use Rattle.std.specs.Prelude.{◌&&◌, ◌||◌, not, nat_eq, find, IfSome, IsSome}
+use Rattle.std.specs.List.{list_any, list_all, position_from}
 use Rattle.std.specs.Str.{bytes_eq}
 use Rattle.std.specs.Global.{Vec}
 use Rattle.std.specs.Map.{IsKeyTest, AreApart, KeepsOthers, lookup}
@@ -11,6 +11,7 @@ use Rattle.std.proofs.lemmas.Bool.{cases_Bool, false≢true}
 use Rattle.std.proofs.lemmas.List.{map-append, length-map}
 use Rattle.std.proofs.lemmas.Slice.Eq.{bytes_eq-Decides}
 use Rattle.std.proofs.lemmas.Cmp.{nat_list_eq_equiv}
+use Rattle.contest_types.specs.IdText.{is_id}
 use Rattle.contest_types.specs.Places.{is_among, are_different, place_of, IsIndexed}
 
 pub and_left : (a b : Bool) → (a && b) ≡ true → a ≡ true
@@ -82,6 +83,10 @@ place_old : (id other : List ℕ) (n : ℕ) (ids : List (List ℕ)) → bytes_eq
 place_old id other n [] e = rw e refl
 place_old id other n (x ∷ xs) e = ap (λ o. cond (bytes_eq other x) (Some n) o) (place_old id other (n + 1) xs e)
 
+pub all_push : {T : Type 0} (test : T → Bool) (xs : List T) (y : T) → list_all test xs ≡ true → test y ≡ true → list_all test (xs ++ y ∷ []) ≡ true
+all_push test [] y h e = both_true _ _ e refl
+all_push test (x ∷ xs) y h e = both_true _ _ (and_left _ _ h) (all_push test xs y (and_right (test x) _ h) e)
+
 other_entries : {K X : Type 0} (eq : K → K → Bool) (test : K → Bool) (old new : List (K × X)) → KeepsOthers eq test old new → (other : K → Bool) → IsKeyTest eq other → AreApart test other → lookup other new ≡ lookup other old
 unfolding KeepsOthers
 other_entries eq test old new h = h
@@ -93,9 +98,9 @@ abbrev pub key_eq : Vec ℕ → Vec ℕ → Bool
 key_eq a b = pointwise nat_eq a.items b.items
 
 -- the map with one more id
-pub IsIndexed-push : {T H : Type 0} (id : T → List ℕ) (rows : List T) (row : T) (key : Vec ℕ) (m n : HashMap (Vec ℕ) ℕ H) → key.items ≡ id row → place_of (id row) (map id rows) ≡ None
+pub IsIndexed-push : {T H : Type 0} (id : T → List ℕ) (rows : List T) (row : T) (key : Vec ℕ) (m n : HashMap (Vec ℕ) ℕ H) → key.items ≡ id row → is_id (id row) ≡ true → place_of (id row) (map id rows) ≡ None
     → UpdatesBy key_eq (key_eq key) m n (Some (length rows)) → IsIndexed id rows m → IsIndexed id (rows ++ row ∷ []) n
-IsIndexed-push {T} {H} id rows row key m n e none u old =
+IsIndexed-push {T} {H} id rows row key m n e spelled none u old =
     let ids = map id rows in
     let self : bytes_eq (id row) (id row) ≡ true = (bytes_eq-Decides (id row) (id row)).1 refl in
     let count : 0 + length ids ≡ length rows = omega (arith, length-map rows id) in
@@ -110,6 +115,7 @@ IsIndexed-push {T} {H} id rows row key m n e none u old =
             ∙ old.agree bytes ∙ sym (rw map-append (place_old (id row) bytes 0 ids (differs (id row) bytes f)))
       ];
       different = rw map-append (different_push ids (id row) old.different (not_among (id row) 0 ids none));
+      spelled = rw map-append (all_push is_id ids (id row) old.spelled spelled);
     }
 
 -- the row at the place of an id is the one that has it
@@ -177,3 +183,16 @@ any_named name text (row ∷ rows) = ap (λ b. bytes_eq (name row) text || b) (a
 pub place_bound : {T : Type 0} (id : T → List ℕ) (bytes : List ℕ) (rows : List T) (found : Option ℕ) → found ≡ place_of bytes (map id rows) → IfSome found (λ place. place < length rows)
 place_bound id bytes rows None h = tt
 place_bound id bytes rows (Some place) h = place_within id bytes rows place (sym h)
+
+-- an id that stands among ids is one
+spelled_next : (bytes : List ℕ) (n : ℕ) (id : List ℕ) (ids : List (List ℕ)) (place : ℕ) (b : Bool) → bytes_eq bytes id ≡ b → (position_from (bytes_eq bytes) (n + 1) ids ≡ Some place → is_id bytes ≡ true) → list_all is_id (id ∷ ids) ≡ true → position_from (bytes_eq bytes) n (id ∷ ids) ≡ Some place → is_id bytes ≡ true
+spelled_next bytes n id ids place true e more all h = ap is_id (same_bytes bytes id e) ∙ and_left _ _ all
+spelled_next bytes n id ids place false e more all h = more (rw e at h)
+
+spelled_from : (bytes : List ℕ) (n : ℕ) (ids : List (List ℕ)) (place : ℕ) → list_all is_id ids ≡ true → position_from (bytes_eq bytes) n ids ≡ Some place → is_id bytes ≡ true
+spelled_from bytes n [] place all h = absurd (cc h)
+spelled_from bytes n (id ∷ ids) place all h = spelled_next bytes n id ids place (bytes_eq bytes id) refl (spelled_from bytes (n + 1) ids place (and_right (is_id id) _ all)) all h
+
+pub place_spelled : (bytes : List ℕ) (ids : List (List ℕ)) (found : Option ℕ) → list_all is_id ids ≡ true → found ≡ place_of bytes ids → IsSome found → is_id bytes ≡ true
+place_spelled bytes ids None all h some = absurd (false≢true some)
+place_spelled bytes ids (Some place) all h some = spelled_from bytes 0 ids place all (sym h)

@@ -10,7 +10,7 @@ use Rattle.contest_types.specs.Additions.{addition_by, grown}
 use Rattle.contest_types.specs.declared.id_list.Standing.TheVariants.{New}
 use Rattle.contest_types.specs.declared.objects.Problem.{Problem}
 use Rattle.contest_types.specs.declared.objects.Team.{Team}
-use Rattle.contest_types.proofs.PlaceLemmas.{and_left, and_right, both_true, different_push}
+use Rattle.contest_types.proofs.PlaceLemmas.{and_left, and_right, both_true, different_push, all_push}
 
 all_wider : {T : Type 0} (s t : T → Bool) → ((x : T) → s x ≡ true → t x ≡ true) → (xs : List T) → list_all s xs ≡ true → list_all t xs ≡ true
 all_wider s t f [] h = refl
@@ -26,10 +26,6 @@ refers_wider m n l teams h = all_wider (refers m) (refers n) (λ t. all_wider (�
 pub length_grown : {T : Type 0} (added : Bool) (rows : List T) (row : T) → length rows ≤ length (grown added rows row)
 length_grown true rows row = omega (arith, length-append rows (row ∷ []))
 length_grown false rows row = omega arith
-
-all_push : {T : Type 0} (test : T → Bool) (xs : List T) (y : T) → list_all test xs ≡ true → test y ≡ true → list_all test (xs ++ y ∷ []) ≡ true
-all_push test [] y h e = both_true _ _ e refl
-all_push test (x ∷ xs) y h e = both_true _ _ (and_left _ _ h) (all_push test xs y (and_right (test x) _ h) e)
 
 -- one more team whose groups are there
 pub refers_grown : (n : ℕ) (added : Bool) (teams : List Team) (team : Team) → list_all (refers n) teams ≡ true → refers n team ≡ true → list_all (refers n) (grown added teams team) ≡ true

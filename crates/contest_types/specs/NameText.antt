@@ -1,7 +1,7 @@
 -- Names: labels, entry points and reasons too.
 use Rattle.std.specs.Prelude.{◌&&◌, ℕ, Bool, not, List, Option, Some, None, if◌then◌else◌, length, nat_lt, nat_le}
 use Rattle.std.specs.List.{list_all}
-use Rattle.std.specs.Str.{chars}
+use Rattle.std.specs.Str.{chars, is_utf8}
 use Rattle.contest_types.specs.declared.limits.TheConstants.{NAME_LENGTH}
 
 -- no control character
@@ -14,3 +14,7 @@ is_name text = nat_lt 0 (length text) && nat_le (length text) NAME_LENGTH && lis
 
 abbrev pub name_of : List ℕ → Option (List ℕ)
 name_of text = if is_name text then Some text else None
+
+-- the name that bytes spell
+abbrev pub name_from : List ℕ → Option (List ℕ)
+name_from bytes = if is_utf8 bytes then name_of bytes else None

@@ -1,10 +1,11 @@
 -- Lists whose rows are found by their ids.
 use Rattle.std.specs.Prelude.{ℕ, ◌≡◌, ◌&&◌, Bool, true, not, List, [], ◌∷◌, Option, nat_eq, map}
-use Rattle.std.specs.List.{list_any, position_from}
+use Rattle.std.specs.List.{list_any, list_all, position_from}
 use Rattle.std.specs.Str.{bytes_eq}
 use Rattle.std.specs.Cmp.Lexicographic.{pointwise}
 use Rattle.std.specs.HashMap.{HashMap, get_by}
 use Rattle.std.specs.Global.{Vec}
+use Rattle.contest_types.specs.IdText.{is_id}
 
 -- one of the texts is this one
 abbrev pub is_among : List (List ℕ) → List ℕ → Bool
@@ -19,7 +20,8 @@ are_different (x ∷ xs) = not (is_among xs x) && are_different xs
 abbrev pub place_of : List ℕ → List (List ℕ) → Option ℕ
 place_of id ids = position_from (bytes_eq id) 0 ids
 
--- a map from ids to places has each row at its place, and nothing else
+-- a map from ids to places has each row at its place, and nothing else; each id is one
 pub record IsIndexed {T H : Type 0} (id : T → List ℕ) (rows : List T) (places : HashMap (Vec ℕ) ℕ H) : Type 0 where
   pub agree : (bytes : List ℕ) → get_by (λ k. pointwise nat_eq bytes k.items) places ≡ place_of bytes (map id rows)
   pub different : are_different (map id rows) ≡ true
+  pub spelled : list_all is_id (map id rows) ≡ true

@@ -77,7 +77,8 @@ impl Id {
 
     /// Its bytes.
     pub fn as_bytes(&self) -> &[u8]
-        ensures { result.now ≡ self.now }
+        ensures bytes { result.now ≡ self.now }
+        ensures id { IsId self.now }
     {
         self.text.as_bytes()
     }

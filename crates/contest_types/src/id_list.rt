@@ -1,5 +1,6 @@
 //! Lists whose rows are found by their ids.
-ghost use Rattle.std.specs.Prelude.{◌≡◌, ℕ, ◌<◌, List, [], ◌∷◌, ◌++◌, true, None, Some, IfErr, OnOk, OnErr, IfOk, IfSome, length, map, ◌≤◌, nat_le};
+ghost use Rattle.std.specs.Prelude.{◌≡◌, ℕ, ◌<◌, List, [], ◌∷◌, ◌++◌, true, None, Some, IfErr, OnOk, OnErr, IfOk, IfSome, IsSome, length, map, ◌≤◌, nat_le};
+ghost use Rattle.contest_types.specs.IdText.{IsId};
 ghost use Rattle.contest_types.specs.Places.{place_of, are_different};
 ghost use Rattle.contest_types.specs.Additions.{standing_of, addition, addition_by, IsFaultOf, grown};
 
@@ -72,6 +73,7 @@ impl<T: Identified + Drop> IdList<T> {
     pub fn place(&self, id: &[u8]) -> Option<usize>
         ensures place { result ≡ place_of id.now (map T.id self.now) }
         ensures within { IfSome result (λ place. place < length self.now) }
+        ensures spelled { IsSome result → IsId id.now }
     {
         self.places.get(id).copied()
     }

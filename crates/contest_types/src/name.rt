@@ -7,7 +7,7 @@ ghost use Rattle.std.specs.Cmp.{partial_order_from_own_ties};
 ghost use Rattle.std.specs.Cmp.Rules.{comparing};
 ghost use Rattle.std.specs.Cmp.Lexicographic.{slice_cmp};
 ghost use Rattle.std.specs.Ordering.{nat_cmp, as_partial_cmp};
-ghost use Rattle.contest_types.specs.NameText.{is_plain, is_name, name_of};
+ghost use Rattle.contest_types.specs.NameText.{is_plain, is_name, name_of, name_from};
 
 use crate::Refusal;
 use crate::limits::NAME_LENGTH;
@@ -56,6 +56,7 @@ impl Name {
     ///
     /// Want of memory alone.
     pub fn from_bytes(alloc: Global, bytes: &[u8]) -> Result<Option<Name>, Refusal>
+        ensures value { IfOk result (λ found. found ≡ name_from bytes.now) }
         ensures err { IfErr result (λ e. e ≡ Refusal.Memory) }
     {
         match std::str::from_utf8(bytes) {

@@ -1,5 +1,6 @@
 //! What a contest is set up with.
-ghost use Rattle.std.specs.Prelude.{◌≡◌, ◌<◌, Ok, Err, Some, None, false, [], IfOk, IfErr, IfSome, OnErr, length, map};
+ghost use Rattle.std.specs.Prelude.{◌≡◌, ◌<◌, Ok, Err, Some, None, false, [], IfOk, IfErr, IfSome, IsSome, OnErr, length, map};
+ghost use Rattle.contest_types.specs.IdText.{IsId};
 ghost use Rattle.contest_types.specs.Setup.{Setup, IsValid, is_valid_head, has_valid_freeze, has_valid_medals, labels_of, refers};
 ghost use Rattle.contest_types.specs.Additions.{IsFaultOf};
 ghost use Rattle.contest_types.specs.SetupAdditions.{IsNew, type_addition, language_addition, problem_addition, group_addition, team_addition, with_type, with_language, with_problem, with_group, with_team};
@@ -110,6 +111,7 @@ impl Settings {
     pub fn judgement_type_place(&self, id: &[u8]) -> Option<usize>
         ensures place { result ≡ place_of id.now (map (λ t. t.id) self.now.types) }
         ensures within { IfSome result (λ place. place < length self.now.types) }
+        ensures spelled { IsSome result → IsId id.now }
         ensures valid { IsValid self.now }
     {
         self.types.place(id)
@@ -119,6 +121,7 @@ impl Settings {
     pub fn language_place(&self, id: &[u8]) -> Option<usize>
         ensures place { result ≡ place_of id.now (map (λ l. l.id) self.now.languages) }
         ensures within { IfSome result (λ place. place < length self.now.languages) }
+        ensures spelled { IsSome result → IsId id.now }
         ensures valid { IsValid self.now }
     {
         self.languages.place(id)
@@ -128,6 +131,7 @@ impl Settings {
     pub fn problem_place(&self, id: &[u8]) -> Option<usize>
         ensures place { result ≡ place_of id.now (map (λ p. p.id) self.now.problems) }
         ensures within { IfSome result (λ place. place < length self.now.problems) }
+        ensures spelled { IsSome result → IsId id.now }
         ensures valid { IsValid self.now }
     {
         self.problems.place(id)
@@ -137,6 +141,7 @@ impl Settings {
     pub fn group_place(&self, id: &[u8]) -> Option<usize>
         ensures place { result ≡ place_of id.now (map (λ g. g.id) self.now.groups) }
         ensures within { IfSome result (λ place. place < length self.now.groups) }
+        ensures spelled { IsSome result → IsId id.now }
         ensures valid { IsValid self.now }
     {
         self.groups.place(id)
@@ -146,6 +151,7 @@ impl Settings {
     pub fn team_place(&self, id: &[u8]) -> Option<usize>
         ensures place { result ≡ place_of id.now (map (λ t. t.id) self.now.teams) }
         ensures within { IfSome result (λ place. place < length self.now.teams) }
+        ensures spelled { IsSome result → IsId id.now }
         ensures valid { IsValid self.now }
     {
         self.teams.place(id)

@@ -1,9 +1,14 @@
 use Rattle.std.proofs.Common.{◌≡◌, map, rules}
 use Rattle.contest_types.specs.Places.{place_of}
-use Rattle.contest_types.proofs.PlaceLemmas.{place_bound}
+use Rattle.contest_types.proofs.PlaceLemmas.{place_bound, place_spelled}
 use Rattle.contest_types.proofs.id_list.IdList.place.Goals as goal
 
 pub returns-clause-within : goal.returns-clause-within
 returns-clause-within g c =
     let at : c.copied.result ≡ place_of c.args.id.now (map g.T.Identified.id c.args.self.now) = search (rules, c.self.invariant.agree c.args.id.now) in
     place_bound g.T.Identified.id c.args.id.now c.args.self.now c.copied.result at
+
+pub returns-clause-spelled : goal.returns-clause-spelled
+returns-clause-spelled g c = λ some.
+    let at : c.copied.result ≡ place_of c.args.id.now (map g.T.Identified.id c.self.inside.rows.items) = search (rules, c.self.invariant.agree c.args.id.now) in
+    place_spelled c.args.id.now (map g.T.Identified.id c.self.inside.rows.items) c.copied.result c.self.invariant.spelled at some
