@@ -6,3 +6,4 @@ pub mod NameLemmas
 pub mod RelTimeLemmas
 pub mod Times
 pub mod Printed
+pub mod RelTimeReading

@@ -1,6 +1,7 @@
 pub mod IdText
 pub mod NameText
 pub mod RelTimeText
+pub mod RelTimeRead
 pub mod MomentText
 pub mod Refusals
 pub mod Places

@@ -1,6 +1,7 @@
 //! Relative times: lengths of time, and their texts.
 ghost use Rattle.std.specs.Prelude.{◌≡◌, ◌≢◌, ◌+◌, ◌-◌, ◌*◌, ◌/◌, ◌%◌, ◌<◌, ◌≤◌, ◌∷◌, ◌++◌, ◌↔◌, ◌==◌, ℕ, ℤ, List, [], Bool, Option, Some, None, SomeIff, MatchOption, IfSome, IfNone, length, pos, neg_ℤ, drop, take, false, slice_index, unsigned_abs};
 ghost use Rattle.std.specs.Str.Parse.{IsNumeral, digits_value};
+ghost use Rattle.contest_types.specs.RelTimeRead.{reltime_of};
 ghost use Rattle.contest_types.specs.RelTimeText.{farthest, AreDigits, Field, IsSplit, IsClock, IsRelTimeText, sign, rel_time_text, clock_text};
 
 use crate::backwards::Backwards;
@@ -33,6 +34,7 @@ impl Model for RelTime {
 impl RelTime {
     /// The time that a text shows, if it shows one. It takes no memory.
     pub fn parse(text: &str) -> Option<RelTime>
+        ensures value { result ≡ reltime_of text.now }
         ensures found { IfSome result (λ time. IsRelTimeText text.now time) }
         ensures none { IfNone result ((time : ℤ) → IsRelTimeText text.now time → ⊥) }
     {
@@ -41,13 +43,11 @@ impl RelTime {
 
     /// The time that bytes show, if they show one. It takes no memory.
     pub fn from_bytes(text: &[u8]) -> Option<RelTime>
+        ensures value { result ≡ reltime_of text.now }
         ensures found { IfSome result (λ time. IsRelTimeText text.now time) }
         ensures none { IfNone result ((time : ℤ) → IsRelTimeText text.now time → ⊥) }
     {
-        let (negative, digits) = sign_of(text);
-        let n = clock_of(digits)?;
-        let milliseconds = if negative { -(n as i64) } else { n as i64 };
-        Some(RelTime { milliseconds })
+        time_shown(text)
     }
 
     /// So many milliseconds; none farther from zero than the last moment is from 1970.
@@ -68,6 +68,17 @@ impl RelTime {
     {
         self.milliseconds
     }
+}
+
+/// The time that a text shows, if it shows one.
+fn time_shown(text: &[u8]) -> Option<RelTime>
+    ensures found { IfSome result (λ time. IsRelTimeText text.now time) }
+    ensures none { IfNone result ((time : ℤ) → IsRelTimeText text.now time → ⊥) }
+{
+    let (negative, digits) = sign_of(text);
+    let n = clock_of(digits)?;
+    let milliseconds = if negative { -(n as i64) } else { n as i64 };
+    Some(RelTime { milliseconds })
 }
 
 /// Whether a text begins with a minus, and what is behind it.
