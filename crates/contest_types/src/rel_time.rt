@@ -5,6 +5,7 @@ ghost use Rattle.contest_types.specs.RelTimeRead.{reltime_of};
 ghost use Rattle.contest_types.specs.RelTimeText.{farthest, AreDigits, Field, IsSplit, IsClock, IsRelTimeText, sign, rel_time_text, clock_text};
 
 use crate::backwards::Backwards;
+use crate::decimal::decimal_number;
 use crate::limits::LAST_MOMENT;
 use std::marker::Model;
 
@@ -101,7 +102,7 @@ fn clock_of(text: &[u8]) -> Option<u64>
     let (clock, thousandths) = fraction_of(text);
     let (front, seconds) = field_at_end(clock, b':', 2)?;
     let (front, minutes) = field_at_end(front, b':', 2)?;
-    let hours = number_of(front, LAST_MOMENT / HOUR)?;
+    let hours = decimal_number(front, LAST_MOMENT / HOUR)?;
     if minutes >= 60 || seconds >= 60 {
         return None;
     }
@@ -135,29 +136,8 @@ fn field_at_end(text: &[u8], mark: u8, digits: usize) -> Option<(&[u8], u64)>
     if text[at] != mark {
         return None;
     }
-    let value = number_of(&text[at + 1..], 999_999_999)?;
+    let value = decimal_number(&text[at + 1..], 999_999_999)?;
     Some((&text[..at], value))
-}
-
-/// The number that decimal digits write.
-fn number_of(text: &[u8], most: u64) -> Option<u64>
-    requires { most < 1_000_000_000_000 }
-    ensures { SomeIff result (IsNumeral 10 text.now × (digits_value 10 text.now ≤ most)) (digits_value 10 text.now) }
-{
-    if text.is_empty() {
-        return None;
-    }
-    let mut value: u64 = 0;
-    for byte in text {
-        if !byte.is_ascii_digit() {
-            return None;
-        }
-        value = value * 10 + (*byte - b'0') as u64;
-        if value > most {
-            return None;
-        }
-    }
-    Some(value)
 }
 
 /// Writes a time at the front of the buffer, and answers how many bytes that took.
