@@ -1,13 +1,14 @@
 //! The five fields of a replay's record, and the values that they spell.
-ghost use Rattle.std.specs.Prelude.{◌≡◌, option_map, IfErr};
-ghost use Rattle.csv.specs.Records.{fields_of};
-ghost use Rattle.contest_cli.specs.Fields.{five_of, flag_of};
+ghost use Rattle.std.specs.Prelude.{◌≡◌, ◌<◌, Some, length};
+ghost use Rattle.csv.specs.Records.{fields_of, field_at};
+ghost use Rattle.contest_cli.specs.FieldTexts.{five_of, is_empty, flag_of, flag_or_empty, span_of, span_or_empty, ordinal_of};
 
-use contest_types::{Cause, Refusal, RelTime, RowFault, TimeSpan};
+use contest_types::{RelTime, TimeSpan, decimal_number};
 use csv::ByteRecord;
+use std::marker::Model;
 
 /// The fields of a record, in the order of the header `kind,id,f1,f2,f3`.
-#[derive(Clone, Copy)]
+#[derive(Drop)]
 pub(crate) struct Fields<'a> {
     pub(crate) kind: &'a [u8],
     pub(crate) id: &'a [u8],
@@ -16,31 +17,38 @@ pub(crate) struct Fields<'a> {
     pub(crate) third: &'a [u8],
 }
 
+impl<'a> Model for Fields<'a> {
+    ghost use Rattle.contest_cli.specs.FieldTexts.{FiveFields};
+
+    ghost Value = { FiveFields };
+
+    ghost view = { λ f. record { kind = f.kind.now; id = f.id.now; first = f.first.now; second = f.second.now; third = f.third.now } };
+}
+
 /// The fields of a record that has five.
-pub(crate) fn five_fields(record: &ByteRecord) -> Option<Fields<'_>>
-    ensures { option_map (λ f. (f.kind.now, f.id.now, f.first.now, f.second.now, f.third.now)) result ≡ five_of (fields_of record.now) }
+pub(crate) fn five_fields(row: &ByteRecord) -> Option<Fields<'_>>
+    ensures { result ≡ five_of (fields_of row.now) }
 {
-    if record.len() != 5 {
+    if row.len() != 5 {
         return None;
     }
     Some(Fields {
-        kind: record.get(0)?,
-        id: record.get(1)?,
-        first: record.get(2)?,
-        second: record.get(3)?,
-        third: record.get(4)?,
+        kind: field(row, 0),
+        id: field(row, 1),
+        first: field(row, 2),
+        second: field(row, 3),
+        third: field(row, 4),
     })
 }
 
-/// What a field must be: its value, `Malformed` where it is none, or want of memory.
-pub(crate) fn well_formed<T: Drop>(parsed: Result<Option<T>, Refusal>) -> Result<T, RowFault>
-    requires { IfErr parsed (λ e. e ≡ Refusal.Memory) }
+/// The field at a place that is there.
+fn field(row: &ByteRecord, place: usize) -> &[u8]
+    requires { place < length (fields_of row.now) }
+    ensures { field_at (fields_of row.now) place ≡ Some result.now }
 {
-    match parsed {
-        Ok(Some(value)) => Ok(value),
-        Ok(None) => Err(RowFault::Fault(Cause::Malformed)),
-        Err(Refusal::Memory) => Err(RowFault::Memory),
-        Err(_) => unreachable!(),
+    match row.get(place) {
+        Some(field) => field,
+        None => unreachable!(),
     }
 }
 
@@ -58,7 +66,9 @@ pub(crate) fn flag(field: &[u8]) -> Option<bool>
 }
 
 /// `true`, `false`, or nothing for false.
-pub(crate) fn flag_or_empty(field: &[u8]) -> Option<bool> {
+pub(crate) fn flag_or_empty(field: &[u8]) -> Option<bool>
+    ensures { result ≡ flag_or_empty field.now }
+{
     if field.is_empty() {
         Some(false)
     } else {
@@ -67,29 +77,34 @@ pub(crate) fn flag_or_empty(field: &[u8]) -> Option<bool> {
 }
 
 /// A relative time that isn't below zero.
-pub(crate) fn time_span(field: &[u8]) -> Option<TimeSpan> {
-    TimeSpan::from_reltime(RelTime::from_bytes(field)?)
+pub(crate) fn time_span(field: &[u8]) -> Option<TimeSpan>
+    ensures { result ≡ span_of field.now }
+{
+    match RelTime::from_bytes(field) {
+        Some(time) => TimeSpan::from_reltime(time),
+        None => None,
+    }
 }
 
 /// A relative time that isn't below zero, or nothing.
-pub(crate) fn time_span_or_empty(field: &[u8]) -> Option<Option<TimeSpan>> {
+pub(crate) fn time_span_or_empty(field: &[u8]) -> Option<Option<TimeSpan>>
+    ensures { result ≡ span_or_empty field.now }
+{
     if field.is_empty() {
         return Some(None);
     }
-    Some(Some(time_span(field)?))
+    match time_span(field) {
+        Some(span) => Some(Some(span)),
+        None => None,
+    }
 }
 
 /// One or more decimal digits that write a number up to 65535.
-pub(crate) fn ordinal(field: &[u8]) -> Option<u16> {
-    if field.is_empty() {
-        return None;
+pub(crate) fn ordinal(field: &[u8]) -> Option<u16>
+    ensures { result ≡ ordinal_of field.now }
+{
+    match decimal_number(field, 65_535) {
+        Some(number) => Some(number as u16),
+        None => None,
     }
-    let mut value: u16 = 0;
-    for byte in field {
-        if !byte.is_ascii_digit() {
-            return None;
-        }
-        value = value.checked_mul(10)?.checked_add(u16::from(*byte - b'0'))?;
-    }
-    Some(value)
 }

@@ -1,0 +1,5 @@
+//! The commands of the program `desk`, over any reader and writers.
+#![tactic(auto)]
+
+mod fields;
+mod records;
