@@ -1,0 +1,10 @@
+pub mod Counted
+pub mod CellSteps
+pub mod Sums
+pub mod Different
+pub mod InOrder
+pub mod KeyOrder
+pub mod ProblemOrder
+pub mod Ranks
+pub mod Placed
+pub mod BoardOrder

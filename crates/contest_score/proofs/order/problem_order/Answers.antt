@@ -1,0 +1,12 @@
+use Rattle.std.proofs.Common.{◌∙◌}
+use Rattle.contest_score.proofs.ProblemOrder.{problems_sorted, few_problems}
+use Rattle.contest_score.proofs.order.problem_order.Goals as goal
+
+pub returns-clause-order : goal.returns-clause-order
+returns-clause-order c =
+    (rw c.deref-key-items.ensures.value at c.loop-key.invariant)
+    ∙ problems_sorted c.args.settings.now c.problems.ensures.valid c.in_ok-keys.keys.items c.sort_unstable.new.self.items c.sort_unstable.ensures.permutation (rw c.problems.ensures.list at c.in_ok-keys.ensures.places) (rw c.problems.ensures.list at c.in_ok-keys.ensures.told) c.sort_unstable.ensures.sorted c.loop-key.key-index (rw c.deref-key-items.ensures.value at c.loop-key-test.false)
+
+pub returns-clause-few : goal.returns-clause-few
+returns-clause-few c =
+    few_problems c.args.settings.now c.problems.ensures.valid c.in_ok-keys.keys.items c.sort_unstable.new.self.items c.sort_unstable.ensures.permutation (rw c.problems.ensures.list at c.in_ok-keys.ensures.places) c.loop-key.key-index c.loop-key.order.items (rw c.deref-key-items.ensures.value at c.loop-key.invariant)

@@ -1,0 +1,6 @@
+pub mod Scoring
+pub mod Ranking
+pub mod Keys
+pub mod Table
+pub mod Masks
+pub mod Counting

@@ -1,0 +1,81 @@
+-- Ranks and the board (Contest Control System Requirements, "Scoring": most solved, least time,
+-- earliest last accepted, shared ranks). Teams and problems go by their places in the settings'
+-- lists, from 0. The shown teams are any set of them: those that aren't hidden, or some of these.
+use Rattle.std.specs.Prelude.{ℕ, ◌+◌, Bool, false, not, ◌&&◌, ◌||◌, ◌==◌, nat_lt, List, [], length, map, filter, count_by, find, slice_get}
+use Rattle.std.specs.List.{filter_map, range_with_len}
+use Rattle.std.specs.Option.{option_map_or}
+use Rattle.std.specs.Ordering.{nat_cmp, is_lt, ordering_then}
+use Rattle.std.specs.Cmp.Lexicographic.{slice_cmp}
+use Rattle.std.specs.declared.cmp.Ordering.{Ordering}
+use Rattle.contest_types.specs.declared.objects.Problem.{Problem}
+use Rattle.contest_types.specs.Setup.{Setup}
+use Rattle.contest_score.specs.declared.cell.Cell.{Cell}
+use Rattle.contest_score.specs.declared.score.Score.{Score}
+use Rattle.contest_score.specs.declared.row.Row.{Row}
+use Rattle.contest_score.specs.Scoring.{score_of_cells}
+
+-- how many of xs come before x
+abbrev pub place_in : {X : Type 0} → (X → X → Ordering) → List X → X → ℕ
+place_in R xs x = count_by (λ y. is_lt (R y x)) xs
+
+-- xs in order: at each place the one that so many come before
+abbrev pub in_order : {X : Type 0} → (X → X → Ordering) → List X → List X
+in_order R xs = filter_map (λ k. find (λ x. place_in R xs x == k) xs) (range_with_len 0 (length xs))
+
+abbrev pub ordinal_at : List Problem → ℕ → ℕ
+ordinal_at ps p = option_map_or (λ q. q.ordinal) (slice_get ps p) 0
+
+abbrev pub problem_id_at : List Problem → ℕ → List ℕ
+problem_id_at ps p = option_map_or (λ q. q.id) (slice_get ps p) []
+
+-- by ordinal, then id
+abbrev pub problem_cmp : List Problem → ℕ → ℕ → Ordering
+problem_cmp ps p q = ordering_then (nat_cmp (ordinal_at ps p) (ordinal_at ps q)) (slice_cmp nat_cmp (problem_id_at ps p) (problem_id_at ps q))
+
+-- the problems in the order of the board
+abbrev pub problem_order : Setup → List ℕ
+problem_order s = in_order (problem_cmp s.problems) (range_with_len 0 (length s.problems))
+
+-- a team's cells in that order
+abbrev pub cells_of_team : Setup → (ℕ → ℕ → Cell) → ℕ → List Cell
+cells_of_team s cells u = map (cells u) (problem_order s)
+
+abbrev pub score_of_team : Setup → (ℕ → ℕ → Cell) → ℕ → Score
+score_of_team s cells u = score_of_cells s.head.penalty_time (cells_of_team s cells u)
+
+-- the last solved minute, 0 where nothing is solved
+abbrev pub last_minute : Score → ℕ
+last_minute a = option_map_or (λ m. m.0) a.last 0
+
+-- more solved; or as many and less total; or both equal and a smaller last
+abbrev pub beats : Score → Score → Bool
+beats a b = nat_lt b.solved a.solved || ((a.solved == b.solved) && (nat_lt a.total b.total || ((a.total == b.total) && nat_lt (last_minute a) (last_minute b))))
+
+-- the shown teams, in the settings' order
+abbrev pub shown_teams : Setup → (ℕ → Bool) → List ℕ
+shown_teams s is_shown = filter is_shown (range_with_len 0 (length s.teams))
+
+-- one more than the shown teams that are better
+abbrev pub rank_of : Setup → (ℕ → Bool) → (ℕ → ℕ → Cell) → ℕ → ℕ
+rank_of s is_shown cells u = 1 + count_by (λ w. beats (score_of_team s cells w) (score_of_team s cells u)) (shown_teams s is_shown)
+
+abbrev pub name_at : Setup → ℕ → List ℕ
+name_at s u = option_map_or (λ t. t.name) (slice_get s.teams u) []
+
+abbrev pub team_id_at : Setup → ℕ → List ℕ
+team_id_at s u = option_map_or (λ t. t.id) (slice_get s.teams u) []
+
+-- by rank, then name, then id
+abbrev pub row_cmp : Setup → (ℕ → Bool) → (ℕ → ℕ → Cell) → ℕ → ℕ → Ordering
+row_cmp s is_shown cells u w = ordering_then (nat_cmp (rank_of s is_shown cells u) (rank_of s is_shown cells w)) (ordering_then (slice_cmp nat_cmp (name_at s u) (name_at s w)) (slice_cmp nat_cmp (team_id_at s u) (team_id_at s w)))
+
+abbrev pub row_of : Setup → (ℕ → Bool) → (ℕ → ℕ → Cell) → ℕ → Row
+row_of s is_shown cells u = record { team = u; rank = rank_of s is_shown cells u; score = score_of_team s cells u; cells = cells_of_team s cells u }
+
+-- the rows of the board of the shown teams over these cells
+abbrev pub board_rows : Setup → (ℕ → Bool) → (ℕ → ℕ → Cell) → List Row
+board_rows s is_shown cells = map (row_of s is_shown cells) (in_order (row_cmp s is_shown cells) (shown_teams s is_shown))
+
+-- the team at a place isn't hidden
+abbrev pub is_public : Setup → ℕ → Bool
+is_public s u = option_map_or (λ t. not t.hidden) (slice_get s.teams u) false

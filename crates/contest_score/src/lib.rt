@@ -1,0 +1,29 @@
+//! Pass-fail scoring: what a team's attempts come to, who stands where, and whose verdicts a caller
+//! sees.
+#![tactic(auto)]
+
+mod attempt;
+mod cell;
+mod cells;
+mod mask;
+mod order;
+mod ranking;
+mod row;
+mod score;
+mod scoreboard;
+mod shown;
+mod standings;
+mod submission;
+mod table;
+
+pub use attempt::{Attempt, Verdict};
+pub use cell::{Cell, cell_of};
+pub use cells::Cells;
+pub use mask::{Mask, mask_for, verdict_under};
+pub use order::problem_order;
+pub use ranking::board;
+pub use row::{CellRow, Row};
+pub use score::Score;
+pub use scoreboard::Board;
+pub use submission::JudgedSubmission;
+pub use table::PlainCells;

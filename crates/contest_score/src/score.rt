@@ -1,0 +1,67 @@
+//! How a team stands: problems solved, total time, last accepted.
+ghost use Rattle.std.specs.Prelude.{◌≡◌, ◌+◌, ◌≤◌, ◌*◌, ◌^◌, length};
+ghost use Rattle.contest_types.specs.declared.limits.TheConstants.{PROBLEMS, PENALTY_MINUTES};
+ghost use Rattle.contest_score.specs.Scoring.{score_of_cells, later_of};
+
+use crate::cell::Cell;
+use contest_types::Minute;
+
+/// How a team stands (Contest API 2023-06, scoreboard).
+#[derive(Clone, Copy, Debug, PartialEq, Eq)]
+pub struct Score {
+    /// Problems solved.
+    pub solved: u32,
+    /// Minutes of the solved problems, with penalty time.
+    pub total: u64,
+    /// The greatest minute at which a problem was solved, if one was.
+    pub last: Option<Minute>,
+}
+
+/// The score that a team's cells come to, at so many minutes for each penalised attempt at a solved
+/// problem.
+pub fn score_of(penalty_time: u32, cells: &[Cell]) -> Score
+    requires few { length cells.now ≤ PROBLEMS }
+    requires penalty { penalty_time ≤ PENALTY_MINUTES }
+    ensures { result ≡ score_of_cells penalty_time cells.now }
+{
+    let mut solved: u32 = 0;
+    let mut total: u64 = 0;
+    let mut last: Option<Minute> = None;
+    for cell in cells {
+        if let Some(minute) = cell.solved {
+            solved += 1;
+            total += points_for(penalty_time, minute, cell.penalties);
+            last = later(last, minute);
+        }
+    }
+    Score {
+        solved,
+        total,
+        last,
+    }
+}
+
+/// What a solved problem adds to the total.
+fn points_for(penalty_time: u32, minute: Minute, penalties: u32) -> u64
+    requires { penalty_time ≤ PENALTY_MINUTES }
+    ensures value { result ≡ minute.0 + penalty_time * penalties }
+    ensures bound { result ≤ 1001 * 2 ^ 32 }
+{
+    u64::from(minute.0) + u64::from(penalty_time) * u64::from(penalties)
+}
+
+/// The later of two minutes.
+fn later(last: Option<Minute>, minute: Minute) -> Option<Minute>
+    ensures { result ≡ later_of last minute }
+{
+    match last {
+        None => Some(minute),
+        Some(before) => {
+            if before.0 < minute.0 {
+                Some(minute)
+            } else {
+                Some(before)
+            }
+        }
+    }
+}

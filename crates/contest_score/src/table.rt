@@ -1,0 +1,53 @@
+//! Cells in plain lists, one for each team.
+ghost use Rattle.std.specs.Prelude.{◌≡◌, slice_get};
+ghost use Rattle.contest_score.specs.Table.{cell_in, cell_or_none};
+
+use crate::cell::Cell;
+use crate::cells::Cells;
+use crate::row::CellRow;
+use std::marker::Model;
+
+/// The cells of each team, in plain lists. Contracts see the lists.
+#[derive(Debug, Drop)]
+pub struct PlainCells {
+    rows: Vec<CellRow>,
+}
+
+impl Model for PlainCells {
+    ghost use Rattle.std.specs.Prelude.{List};
+    ghost use Rattle.contest_score.specs.declared.cell.Cell.{Cell};
+
+    ghost Value = { List (List Cell) };
+
+    ghost view = { λ t. t.rows.items };
+}
+
+impl PlainCells {
+    /// The cells of these rows, one row for each team.
+    pub fn from_vec(rows: Vec<CellRow>) -> PlainCells
+        ensures { result ≡ rows.items }
+    {
+        PlainCells { rows }
+    }
+}
+
+impl Cells for PlainCells {
+    ghost cells = { cell_in };
+
+    fn cell(&self, team: usize, problem: usize) -> Cell {
+        match self.rows.get(team) {
+            Some(row) => cell_at(row, problem),
+            None => Cell::new(),
+        }
+    }
+}
+
+/// The cell of a row at a place, that of no attempts past its end.
+fn cell_at(row: &CellRow, problem: usize) -> Cell
+    ensures { result ≡ cell_or_none (slice_get row.now problem) }
+{
+    match row.as_slice().get(problem) {
+        Some(cell) => *cell,
+        None => Cell::new(),
+    }
+}
