@@ -3,3 +3,4 @@
 
 mod fields;
 mod records;
+mod replay_rows;

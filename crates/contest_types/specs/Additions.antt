@@ -30,6 +30,6 @@ abbrev pub grown : {T : Type 0} → (added : Bool) → List T → T → List T
 grown added rows row = if added then rows ++ row ∷ [] else rows
 
 -- memory was refused, or this is the cause
-abbrev pub IsFaultOf : RowFault → Result Bool Cause → Type 0
+abbrev pub IsFaultOf : {A : Type 0} → RowFault → Result A Cause → Type 0
 IsFaultOf Memory answer = Unit {0}
 IsFaultOf (Fault cause) answer = answer ≡ Err cause
