@@ -1,3 +1,5 @@
 pub mod Records
 pub mod FieldTexts
 pub mod ReplayRows
+pub mod Replayed
+pub mod TeamsSoFar

@@ -2,5 +2,8 @@
 #![tactic(auto)]
 
 mod fields;
+mod named_places;
 mod records;
 mod replay_rows;
+mod replayed;
+mod team_so_far;

@@ -96,7 +96,8 @@ fn all_id_bytes(text: &[u8]) -> bool
     text.iter().all(|byte| is_id_byte(*byte))
 }
 
-fn is_id(text: &[u8]) -> bool
+/// Whether bytes spell an id. It takes no memory.
+pub fn is_id(text: &[u8]) -> bool
     ensures { result ≡ is_id text.now }
 {
     if text.is_empty() || text.len() > ID_LENGTH || text[0] == b'-' {

@@ -26,7 +26,7 @@ pub use audience::{Audience, Phase};
 pub use clock::{end_of, freeze_of, is_finalized, is_freezing, is_frozen, is_thawed};
 pub use contest::{Contest, ContestHead, Medals};
 pub use decimal::decimal_number;
-pub use id::Id;
+pub use id::{Id, is_id};
 pub use marks::Marks;
 pub use minute::Minute;
 pub use moment::{Moment, one_text, print_time};

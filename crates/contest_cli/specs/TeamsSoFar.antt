@@ -1,0 +1,32 @@
+-- What a replay's state keeps of its submissions.
+use Rattle.std.specs.Prelude.{ℕ, ◌≡◌, ◌<◌, List, length, All, Some, None, IfSome, get_or}
+use Rattle.contest_types.specs.Setup.{Setup}
+use Rattle.contest_types.specs.declared.marks.Marks.{Marks}
+use Rattle.contest_score.specs.Masks.{IsAdmitted}
+use Rattle.contest_score.specs.declared.submission.JudgedSubmission.{JudgedSubmission}
+use Rattle.contest_cli.specs.declared.team_so_far.TeamSoFar.{TeamSoFar}
+use Rattle.contest_cli.specs.declared.named_places.NamedPlaces.{NamedPlaces}
+use Rattle.contest_cli.specs.Replayed.{submissions_of, last_time}
+
+-- the marks of a replay while it is read: it starts at moment 0
+abbrev pub reading_marks : Marks
+reading_marks = record { start = Some 0; thaw = None; finalized = None }
+
+-- a team's last time and how many submissions it has
+pub record TellsTeam (us : List JudgedSubmission) (team : ℕ) (t : TeamSoFar) : Type 0 where
+  pub last : t.last ≡ last_time team us
+  pub count : t.count ≡ length (submissions_of team us)
+
+-- each team of the settings is told of, and each submission names what is there
+pub record IsReplayed (s : Setup) (us : List JudgedSubmission) (teams : List TeamSoFar) : Type 0 where
+  pub all : length teams ≡ length s.teams
+  pub told : (i : ℕ) (d : TeamSoFar) → i < length teams → TellsTeam us i (get_or teams i d)
+  pub early : (i : ℕ) (d : TeamSoFar) → i < length teams → (get_or teams i d).last < s.head.duration
+  pub lasting : 0 < s.head.duration
+  pub admitted : All (IsAdmitted s reading_marks) us
+
+-- the places are there
+pub record AreThere (s : Setup) (p : NamedPlaces) : Type 0 where
+  pub team : p.team < length s.teams
+  pub problem : p.problem < length s.problems
+  pub verdict : IfSome p.verdict (λ place. place < length s.types)

@@ -1,0 +1,191 @@
+//! A contest as the records of a replay build it up.
+ghost use Rattle.std.specs.Prelude.{◌≡◌, ◌<◌, Ok, IfOk, IfErr, OnOk};
+ghost use Rattle.contest_types.specs.Additions.{IsFaultOf};
+ghost use Rattle.contest_cli.specs.Replayed.{any_language, started, with_type_row, with_problem_row, with_team_row, with_submission, submitted, within};
+ghost use Rattle.contest_cli.specs.TeamsSoFar.{AreThere};
+
+use crate::fields::Fields;
+use crate::named_places::{NamedPlaces, missing, places_in};
+use crate::team_so_far::TeamSoFar;
+use contest_score::JudgedSubmission;
+use contest_types::{
+    Cause, ContestHead, Id, JudgementType, Language, Moment, Name, Problem, Refusal, RelTime, RowFault,
+    Settings, Team, TimeSpan, limits,
+};
+use std::alloc::{AllocError, Global};
+use std::marker::Model;
+
+/// A replayed contest. Its start is moment 0, and each verdict is released at its submission's time.
+/// Contracts see the settings and the submissions.
+#[derive(Drop)]
+pub(crate) struct Replayed {
+    settings: Settings,
+    submissions: Vec<JudgedSubmission>,
+    teams: Vec<TeamSoFar>,
+}
+
+impl Model for Replayed {
+    ghost use Rattle.contest_cli.specs.Replayed.{ReplayedLists};
+    ghost use Rattle.contest_cli.specs.TeamsSoFar.{IsReplayed};
+
+    ghost Value = { ReplayedLists };
+
+    ghost view = { λ r. record { settings = r.settings; submissions = r.submissions.items } };
+
+    ghost invariant = { λ r. IsReplayed r.settings r.submissions.items r.teams.items };
+}
+
+/// The one language of a replay.
+fn any_language(alloc: Global) -> Result<Language, RowFault>
+    ensures ok { IfOk result (λ language. language ≡ any_language) }
+    ensures err { IfErr result (λ e. e ≡ RowFault.Memory) }
+{
+    let id = match Id::parse(alloc, "any") {
+        Ok(Some(id)) => id,
+        Ok(None) => unreachable!(),
+        Err(refusal) => return Err(memory_of(refusal)),
+    };
+    let name = match Name::parse(alloc, "any") {
+        Ok(Some(name)) => name,
+        Ok(None) => unreachable!(),
+        Err(refusal) => return Err(memory_of(refusal)),
+    };
+    Ok(Language {
+        id,
+        name,
+        entry_point_required: false,
+    })
+}
+
+/// Want of memory, as a row's fault.
+fn memory_of(refusal: Refusal) -> RowFault
+    requires { refusal ≡ Refusal.Memory }
+    ensures { result ≡ RowFault.Memory }
+{
+    match refusal {
+        Refusal::Memory => RowFault::Memory,
+        _ => unreachable!(),
+    }
+}
+
+impl Replayed {
+    /// The contest with its head alone.
+    ///
+    /// # Errors
+    ///
+    /// `Malformed` where a number of the head is off its range, or want of memory.
+    pub(crate) fn start(alloc: Global, head: ContestHead) -> Result<Replayed, RowFault>
+        ensures ok { IfOk result (λ r. started head ≡ Ok r) }
+        ensures err { IfErr result (λ e. IsFaultOf e (started head)) }
+    {
+        let mut settings = match Settings::new(alloc, head) {
+            Ok(settings) => settings,
+            Err(cause) => return Err(RowFault::Fault(cause)),
+        };
+        settings.add_language(alloc, any_language(alloc)?)?;
+        Ok(Replayed {
+            settings,
+            submissions: Vec::new(alloc),
+            teams: Vec::new(alloc),
+        })
+    }
+
+    /// Adds a judgement type.
+    ///
+    /// # Errors
+    ///
+    /// As `Settings::add_judgement_type` says.
+    pub(crate) fn add_type(&mut self, alloc: Global, row: JudgementType) -> Result<(), RowFault>
+        ensures ok { OnOk result (with_type_row self.old row ≡ Ok self.new) }
+        ensures err { IfErr result (λ e. IsFaultOf e (with_type_row self.old row)) }
+    {
+        self.settings.add_judgement_type(alloc, row)?;
+        Ok(())
+    }
+
+    /// Adds a problem.
+    ///
+    /// # Errors
+    ///
+    /// As `Settings::add_problem` says.
+    pub(crate) fn add_problem(&mut self, alloc: Global, row: Problem) -> Result<(), RowFault>
+        ensures ok { OnOk result (with_problem_row self.old row ≡ Ok self.new) }
+        ensures err { IfErr result (λ e. IsFaultOf e (with_problem_row self.old row)) }
+    {
+        self.settings.add_problem(alloc, row)?;
+        Ok(())
+    }
+
+    /// Adds a team.
+    ///
+    /// # Errors
+    ///
+    /// As `Settings::add_team` says.
+    pub(crate) fn add_team(&mut self, alloc: Global, row: Team) -> Result<(), RowFault>
+        ensures ok { OnOk result (with_team_row self.old row ≡ Ok self.new) }
+        ensures err { IfErr result (λ e. IsFaultOf e (with_team_row self.old row)) }
+    {
+        self.teams.reserve(1)?;
+        if self.settings.add_team(alloc, row)? {
+            match self.teams.push(TeamSoFar { last: 0, count: 0 }) {
+                Ok(()) => (),
+                Err(_) => unreachable!(),
+            }
+        }
+        Ok(())
+    }
+
+    /// Adds the submission of a record.
+    ///
+    /// # Errors
+    ///
+    /// A field off its form (`Malformed`), a team, problem or judgement type that isn't there
+    /// (`UnknownReference`), 500 submissions of the team standing (`TableFull`), a time outside the
+    /// contest (`NotOpen`), or want of memory.
+    pub(crate) fn add_submission(&mut self, fields: &Fields<'_>) -> Result<(), RowFault>
+        ensures ok { OnOk result (with_submission self.old fields.now ≡ Ok self.new) }
+        ensures err { IfErr result (λ e. IsFaultOf e (with_submission self.old fields.now)) }
+    {
+        let Some(time) = RelTime::from_bytes(fields.second) else {
+            return Err(RowFault::Fault(Cause::Malformed));
+        };
+        match places_in(&self.settings, fields) {
+            Some(places) => self.submit(places, time),
+            None => Err(RowFault::Fault(missing(fields))),
+        }
+    }
+
+    /// Adds a submission to what is there.
+    fn submit(&mut self, places: NamedPlaces, time: RelTime) -> Result<(), RowFault>
+        requires { AreThere self.old.settings places }
+        ensures ok { OnOk result (submitted self.old places time ≡ Ok self.new) }
+        ensures err { IfErr result (λ e. IsFaultOf e (submitted self.old places time)) }
+    {
+        let so_far = self.teams[places.team];
+        if so_far.count >= limits::TEAM_SUBMISSIONS {
+            return Err(RowFault::Fault(Cause::TableFull));
+        }
+        let Some(time) = time_within(time, self.settings.head().duration) else {
+            return Err(RowFault::Fault(Cause::NotOpen));
+        };
+        let time = time.max(so_far.last);
+        self.submissions.push(places.submission(time))?;
+        self.teams[places.team] = TeamSoFar {
+            last: time,
+            count: so_far.count + 1,
+        };
+        Ok(())
+    }
+}
+
+/// A contest time from the start to before the end, in milliseconds.
+fn time_within(time: RelTime, duration: TimeSpan) -> Option<u64>
+    ensures { result ≡ within duration time }
+{
+    let time = TimeSpan::from_reltime(time)?;
+    if time < duration {
+        Some(time.milliseconds())
+    } else {
+        None
+    }
+}
