@@ -1,5 +1,6 @@
 pub mod Counted
 pub mod CellSteps
+pub mod Tables
 pub mod Sums
 pub mod Different
 pub mod InOrder

@@ -5,6 +5,7 @@
 mod attempt;
 mod cell;
 mod cells;
+mod counting;
 mod mask;
 mod order;
 mod ranking;
@@ -19,6 +20,7 @@ mod table;
 pub use attempt::{Attempt, Verdict};
 pub use cell::{Cell, cell_of};
 pub use cells::Cells;
+pub use counting::plain_cells;
 pub use mask::{Mask, mask_for, verdict_under};
 pub use order::problem_order;
 pub use ranking::board;

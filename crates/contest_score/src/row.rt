@@ -1,8 +1,12 @@
 //! A team's row on the board.
-ghost use Rattle.std.specs.Prelude.{◌≡◌, ◌<◌, ◌≤◌, OnOk, OnErr, ◌∷◌, ◌++◌, [], length, set, get_or, slice_index_or, slice_set};
+ghost use Rattle.std.specs.Prelude.{◌≡◌, ◌<◌, ◌≤◌, length, slice_get, slice_set};
+ghost use Rattle.contest_score.specs.Counting.{HasRoom, cell_with};
+ghost use Rattle.contest_score.specs.Table.{cell_or_none};
 
-use crate::cell::Cell;
+use crate::attempt::Attempt;
+use crate::cell::{Cell, with_attempt};
 use crate::score::Score;
+use contest_types::Moment;
 use std::marker::Model;
 
 /// A team's cells, one for each problem. Contracts see the list of them.
@@ -35,12 +39,14 @@ impl CellRow {
         self.cells.as_slice()
     }
 
-    /// Puts a cell in the place of the one that stands there.
-    pub fn set(&mut self, place: usize, cell: Cell)
-        requires { place < length self.old }
-        ensures { self.new ≡ slice_set self.old place cell }
+    /// Counts one more attempt at the problem at a place.
+    pub fn count(&mut self, problem: usize, start: Moment, attempt: Attempt)
+        requires there { problem < length self.old }
+        requires room { HasRoom (cell_or_none (slice_get self.old problem)) }
+        requires started { start ≤ attempt.time }
+        ensures { self.new ≡ slice_set self.old problem (cell_with start (cell_or_none (slice_get self.old problem)) attempt) }
     {
-        self.cells[place] = cell;
+        self.cells[problem] = with_attempt(self.cells[problem], start, attempt);
     }
 }
 

@@ -1,10 +1,13 @@
 //! Cells in plain lists, one for each team.
-ghost use Rattle.std.specs.Prelude.{◌≡◌, slice_get};
-ghost use Rattle.contest_score.specs.Table.{cell_in, cell_or_none};
+ghost use Rattle.std.specs.Prelude.{◌≡◌, ◌<◌, ◌≤◌, length, slice_get};
+ghost use Rattle.contest_score.specs.Table.{cell_in, cell_or_none, row_at, with_cell};
+ghost use Rattle.contest_score.specs.Counting.{HasRoom, cell_with};
 
+use crate::attempt::Attempt;
 use crate::cell::Cell;
 use crate::cells::Cells;
 use crate::row::CellRow;
+use contest_types::Moment;
 use std::marker::Model;
 
 /// The cells of each team, in plain lists. Contracts see the lists.
@@ -28,6 +31,17 @@ impl PlainCells {
         ensures { result ≡ rows.items }
     {
         PlainCells { rows }
+    }
+
+    /// Counts one more attempt of a team at a problem.
+    pub fn count(&mut self, team: usize, problem: usize, start: Moment, attempt: Attempt)
+        requires team { team < length self.old }
+        requires problem { problem < length (row_at self.old team) }
+        requires room { HasRoom (cell_in self.old team problem) }
+        requires started { start ≤ attempt.time }
+        ensures { self.new ≡ with_cell self.old team problem (cell_with start (cell_in self.old team problem) attempt) }
+    {
+        self.rows[team].count(problem, start, attempt);
     }
 }
 
