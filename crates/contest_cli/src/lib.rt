@@ -1,0 +1,6 @@
+//! The commands of the program `desk`, over any reader and writers.
+#![tactic(auto)]
+
+mod input;
+mod output;
+mod words;
