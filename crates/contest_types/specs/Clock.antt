@@ -1,0 +1,44 @@
+-- The contest's clock: its end, its freeze, its thaw (Contest API 2023-06, contest and state
+-- objects; DOMjudge manual: the freeze goes by submission time). Moments are milliseconds since 1970.
+use Rattle.std.specs.Prelude.{ℕ, ◌+◌, ◌-◌, Bool, false, not, ◌&&◌, nat_le, Option, Some, None}
+use Rattle.contest_types.specs.declared.marks.Marks.{Marks}
+use Rattle.contest_types.specs.Setup.{Setup}
+
+-- at or after a moment that is there
+abbrev pub reached : Option ℕ → ℕ → Bool
+reached None time = false
+reached (Some moment) time = nat_le moment time
+
+-- a length of time after a moment, where both are there
+abbrev pub after : Option ℕ → ℕ → Option ℕ
+after None span = None
+after (Some moment) span = Some (moment + span)
+
+abbrev pub before : Option ℕ → Option ℕ → Option ℕ
+before None span = None
+before (Some moment) None = None
+before (Some moment) (Some span) = Some (moment - span)
+
+-- the end: the start and the duration
+abbrev pub end_of : Setup → Marks → Option ℕ
+end_of s marks = after marks.start s.head.duration
+
+-- the freeze moment: so long before the end
+abbrev pub freeze_of : Setup → Marks → Option ℕ
+freeze_of s marks = before (end_of s marks) s.head.freeze
+
+-- a submission of this time is frozen: at the freeze moment or after it
+abbrev pub is_frozen : Setup → Marks → ℕ → Bool
+is_frozen s marks time = reached (freeze_of s marks) time
+
+-- frozen verdicts are public now
+abbrev pub is_thawed : Marks → ℕ → Bool
+is_thawed marks now = reached marks.thaw now
+
+-- the freeze lasts now
+abbrev pub is_freezing : Setup → Marks → ℕ → Bool
+is_freezing s marks now = is_frozen s marks now && not (is_thawed marks now)
+
+-- the results are final now
+abbrev pub is_finalized : Marks → ℕ → Bool
+is_finalized marks now = reached marks.finalized now

@@ -1,0 +1,11 @@
+pub mod IdText
+pub mod NameText
+pub mod RelTimeText
+pub mod MomentText
+pub mod Refusals
+pub mod Places
+pub mod Additions
+pub mod Setup
+pub mod Rows
+pub mod SetupAdditions
+pub mod Clock

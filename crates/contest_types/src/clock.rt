@@ -1,0 +1,62 @@
+//! The contest's clock: its end, its freeze and its thaw.
+ghost use Rattle.std.specs.Prelude.{◌≡◌};
+ghost use Rattle.contest_types.specs.Clock.{end_of, freeze_of, is_frozen, is_thawed, is_freezing, is_finalized};
+
+use crate::{Marks, Moment, Settings};
+
+/// When the contest ends, in milliseconds since 1970: its start and its duration; none where no
+/// start is set.
+pub fn end_of(settings: &Settings, marks: &Marks) -> Option<u64>
+    ensures { result ≡ end_of settings.now marks.now }
+{
+    let start = marks.start?;
+    Some(start.milliseconds() + settings.head().duration.milliseconds())
+}
+
+/// When the scoreboard freezes, in milliseconds since 1970; none where no start is set or the
+/// contest has no freeze.
+pub fn freeze_of(settings: &Settings, marks: &Marks) -> Option<u64>
+    ensures { result ≡ freeze_of settings.now marks.now }
+{
+    let end = end_of(settings, marks)?;
+    let freeze = settings.head().freeze?;
+    Some(end.saturating_sub(freeze.milliseconds()))
+}
+
+/// Whether a submission of this time is frozen: there is a freeze moment, and the time isn't before
+/// it (DOMjudge manual, "Scoreboard": the freeze goes by submission time). It takes no memory.
+pub fn is_frozen(settings: &Settings, marks: &Marks, time: Moment) -> bool
+    ensures { result ≡ is_frozen settings.now marks.now time }
+{
+    match freeze_of(settings, marks) {
+        Some(freeze) => freeze <= time.milliseconds(),
+        None => false,
+    }
+}
+
+/// Whether the frozen verdicts are public at this moment: the thaw is set and not after it.
+pub fn is_thawed(marks: &Marks, now: Moment) -> bool
+    ensures { result ≡ is_thawed marks.now now }
+{
+    match marks.thaw {
+        Some(thaw) => thaw.milliseconds() <= now.milliseconds(),
+        None => false,
+    }
+}
+
+/// Whether the freeze lasts at this moment: it has come, and the contest isn't thawed.
+pub fn is_freezing(settings: &Settings, marks: &Marks, now: Moment) -> bool
+    ensures { result ≡ is_freezing settings.now marks.now now }
+{
+    is_frozen(settings, marks, now) && !is_thawed(marks, now)
+}
+
+/// Whether the results are final at this moment.
+pub fn is_finalized(marks: &Marks, now: Moment) -> bool
+    ensures { result ≡ is_finalized marks.now now }
+{
+    match marks.finalized {
+        Some(finalized) => finalized.milliseconds() <= now.milliseconds(),
+        None => false,
+    }
+}

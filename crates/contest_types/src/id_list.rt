@@ -1,0 +1,161 @@
+//! Lists whose rows are found by their ids.
+ghost use Rattle.std.specs.Prelude.{◌≡◌, ℕ, ◌<◌, List, [], ◌∷◌, ◌++◌, true, None, Some, IfErr, OnOk, OnErr, IfOk, IfSome, length, map, ◌≤◌, nat_le};
+ghost use Rattle.contest_types.specs.Places.{place_of, are_different};
+ghost use Rattle.contest_types.specs.Additions.{standing_of, addition, addition_by, IsFaultOf, grown};
+
+use crate::{Cause, Id, RowFault};
+use std::alloc::{AllocError, Global};
+use std::collections::HashMap;
+use std::marker::Model;
+
+/// A row with an id of its own.
+pub trait Identified {
+    /// The bytes of its id.
+    ghost use Rattle.std.specs.Prelude.{List, ℕ};
+
+    ghost id: { Self → List ℕ };
+
+    /// Its id.
+    fn id(&self) -> &Id
+        ensures { result.now ≡ id self.now };
+}
+
+/// What stands of a row's id in a list.
+#[derive(Clone, Copy, Debug, PartialEq, Eq)]
+pub enum Standing {
+    /// No row has the id.
+    New,
+    /// An equal row has it.
+    Same,
+    /// A row with other content has it.
+    Other,
+}
+
+/// Rows in the order in which they were added, no two with one id. Contracts see the list of them.
+#[derive(Drop)]
+pub struct IdList<T: Identified> {
+    rows: Vec<T>,
+    places: HashMap<Vec<u8>, usize>,
+}
+
+impl<T: Identified> Model for IdList<T> {
+    ghost use Rattle.std.specs.Prelude.{List};
+    ghost use Rattle.contest_types.specs.Places.{IsIndexed};
+
+    ghost Value = { List T };
+
+    ghost view = { λ l. l.rows.items };
+
+    ghost invariant = { λ l. IsIndexed T.id l.rows.items l.places };
+}
+
+impl<T: Identified + Drop> IdList<T> {
+    /// No rows.
+    pub fn new(alloc: Global) -> Self
+        ensures { result ≡ [] }
+    {
+        IdList {
+            rows: Vec::new(alloc),
+            places: HashMap::new(alloc),
+        }
+    }
+
+    /// The rows.
+    pub fn as_slice(&self) -> &[T]
+        ensures rows { result.now ≡ self.now }
+        ensures different { are_different (map T.id self.now) ≡ true }
+    {
+        self.rows.as_slice()
+    }
+
+    /// The place of the row with this id, from 0.
+    pub fn place(&self, id: &[u8]) -> Option<usize>
+        ensures place { result ≡ place_of id.now (map T.id self.now) }
+        ensures within { IfSome result (λ place. place < length self.now) }
+    {
+        self.places.get(id).copied()
+    }
+
+    /// Adds a row whose id is new. Where memory is refused the rows are as before.
+    ///
+    /// # Errors
+    ///
+    /// Want of memory alone.
+    pub fn push(&mut self, alloc: Global, row: T) -> Result<(), AllocError>
+        requires { place_of (T.id row) (map T.id self.old) ≡ None }
+        ensures ok { OnOk result (self.new ≡ self.old ++ row ∷ []) }
+        ensures err { OnErr result (self.new ≡ self.old) }
+        ensures different { OnOk result (are_different (map T.id self.new) ≡ true) }
+    {
+        let key = Vec::from_slice(alloc, row.id().as_bytes())?;
+        self.rows.reserve(1)?;
+        self.places.insert(key, self.rows.len())?;
+        match self.rows.push(row) {
+            Ok(()) => Ok(()),
+            Err(_) => unreachable!(),
+        }
+    }
+}
+
+impl<T: Identified + PartialEq + Drop> IdList<T> {
+    /// What stands of this row's id.
+    pub fn standing(&self, row: &T) -> Standing
+        ensures { result ≡ standing_of T.id T.eq self.now row.now }
+    {
+        match self.place(row.id().as_bytes()) {
+            None => Standing::New,
+            Some(place) => {
+                if self.rows[place] == *row {
+                    Standing::Same
+                } else {
+                    Standing::Other
+                }
+            }
+        }
+    }
+
+    /// Adds a row whose id is new to a list of at most `most` rows.
+    ///
+    /// # Errors
+    ///
+    /// A full list, or want of memory. The rows are then as before.
+    pub fn push_within(&mut self, alloc: Global, row: T, most: usize) -> Result<(), RowFault>
+        requires { place_of (T.id row) (map T.id self.old) ≡ None }
+        ensures ok { OnOk result (self.new ≡ self.old ++ row ∷ []) }
+        ensures room { OnOk result (addition_by Standing.New (nat_le most (length self.old)) ≡ Ok true) }
+        ensures unchanged { OnErr result (self.new ≡ self.old) }
+        ensures err { IfErr result (λ e. IsFaultOf e (addition_by Standing.New (nat_le most (length self.old)))) }
+        ensures different { OnOk result (are_different (map T.id self.new) ≡ true) }
+    {
+        if self.rows.len() >= most {
+            return Err(RowFault::Fault(Cause::TableFull));
+        }
+        self.push(alloc, row)?;
+        Ok(())
+    }
+
+    /// Adds a row to a list of at most `most` rows, and answers whether it did: where an equal row
+    /// stands it adds nothing.
+    ///
+    /// # Errors
+    ///
+    /// Other content under the row's id (`KeyReused`), else a full list (`TableFull`), or want of
+    /// memory. The rows are then as before.
+    pub fn add(&mut self, alloc: Global, row: T, most: usize) -> Result<bool, RowFault>
+        ensures ok { IfOk result (λ added. (addition T.id T.eq most self.old row ≡ Ok added) × (self.new ≡ grown added self.old row)) }
+        ensures err { IfErr result (λ e. IsFaultOf e (addition T.id T.eq most self.old row)) }
+        ensures unchanged { OnErr result (self.new ≡ self.old) }
+        ensures within { length self.old ≤ most → length self.new ≤ most }
+        ensures grows { length self.old ≤ length self.new }
+        ensures different { are_different (map T.id self.old) ≡ true → are_different (map T.id self.new) ≡ true }
+    {
+        match self.standing(&row) {
+            Standing::Same => Ok(false),
+            Standing::Other => Err(RowFault::Fault(Cause::KeyReused)),
+            Standing::New => {
+                self.push_within(alloc, row, most)?;
+                Ok(true)
+            }
+        }
+    }
+}

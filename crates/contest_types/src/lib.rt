@@ -1,0 +1,41 @@
+//! The values of a contest: its texts and times, its settings, its rows, and how each refusal is
+//! named.
+#![tactic(auto)]
+
+mod audience;
+mod backwards;
+mod clock;
+mod contest;
+mod id;
+mod id_list;
+pub mod limits;
+mod marks;
+mod minute;
+mod moment;
+mod name;
+mod objects;
+mod refusal;
+mod rel_time;
+mod rows;
+mod settings;
+mod submission;
+mod time_span;
+
+pub use audience::{Audience, Phase};
+pub use clock::{end_of, freeze_of, is_finalized, is_freezing, is_frozen, is_thawed};
+pub use contest::{Contest, ContestHead, Medals};
+pub use id::Id;
+pub use marks::Marks;
+pub use minute::Minute;
+pub use moment::{Moment, one_text, print_time};
+pub use name::Name;
+pub use objects::{Group, JudgementType, Language, Problem, Team};
+pub use refusal::{Cause, Refusal, RowFault};
+pub use rel_time::{RelTime, one_time, print_reltime, printed_reads};
+pub use rows::Rows;
+pub use settings::Settings;
+pub use submission::{Release, Submission};
+pub use time_span::TimeSpan;
+
+#[cfg(test)]
+mod tests;

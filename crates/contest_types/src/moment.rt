@@ -1,0 +1,101 @@
+//! Moments, and their texts.
+ghost use Rattle.std.specs.Prelude.{◌≡◌, ◌*◌, ◌≤◌, ◌≤ℤ◌, ◌∷◌, ◌++◌, ℕ, List, [], Ok, IfOk, IfSome, IfNone, IsOk, pos, length, SomeIff};
+ghost use Rattle.jiff.specs.Words.{civil_nanos};
+ghost use Rattle.contest_types.specs.MomentText.{latest, IsMomentText, ShowsMoment, time_text};
+
+use crate::Refusal;
+use crate::limits::LAST_MOMENT;
+use jiff::Timestamp;
+use jiff::fmt::temporal;
+use jiff::tz::Offset;
+use std::marker::Model;
+
+/// Milliseconds since 1970-01-01T00:00:00Z.
+#[derive(Clone, Copy, Debug, PartialEq, Eq, PartialOrd, Ord)]
+pub struct Moment {
+    milliseconds: u64,
+}
+
+impl Model for Moment {
+    ghost use Rattle.std.specs.Prelude.{ℕ, ◌≤◌};
+    ghost use Rattle.contest_types.specs.MomentText.{latest};
+
+    ghost Value = { ℕ };
+
+    ghost view = { λ t. t.milliseconds };
+
+    ghost invariant = { λ t. t.milliseconds ≤ latest };
+
+    ghost inverse = { λ n. record { milliseconds = n } };
+}
+
+impl Moment {
+    /// So many milliseconds after 1970; none past the end of the year 9998.
+    pub fn from_milliseconds(milliseconds: u64) -> Option<Moment>
+        ensures { SomeIff result (milliseconds ≤ latest) milliseconds }
+    {
+        if milliseconds <= LAST_MOMENT {
+            Some(Moment { milliseconds })
+        } else {
+            None
+        }
+    }
+
+    /// The milliseconds since 1970.
+    pub fn milliseconds(self) -> u64
+        ensures value { result ≡ self }
+        ensures bound { result ≤ latest }
+    {
+        self.milliseconds
+    }
+
+    /// The moment that a text shows, if it shows one.
+    pub fn parse(text: &str) -> Result<Option<Moment>, Refusal>
+        ensures ok { IsOk result }
+        ensures found { IfOk result (λ o. IfSome o (λ m. IsMomentText text.now m)) }
+        ensures none { IfOk result (λ o. IfNone o ((m : ℕ) → IsMomentText text.now m → ⊥)) }
+    {
+        let Ok(instant) = text.parse::<Timestamp>() else {
+            return Ok(None);
+        };
+        let nanoseconds = instant.as_nanosecond();
+        if nanoseconds < 0 || nanoseconds % 1_000_000 != 0 {
+            return Ok(None);
+        }
+        let milliseconds = nanoseconds / 1_000_000;
+        if milliseconds > LAST_MOMENT as i128 {
+            return Ok(None);
+        }
+        Ok(Some(Moment {
+            milliseconds: milliseconds as u64,
+        }))
+    }
+}
+
+/// What a clock in UTC shows at a moment, to the millisecond.
+pub fn print_time(moment: Moment) -> [u8; 29]
+    ensures { ShowsMoment result moment }
+{
+    let instant = instant_of(moment.milliseconds);
+    let text = temporal::DateTimePrinter::new()
+        .precision(Some(3))
+        .timestamp_with_offset_text(instant.to_plain(), Offset::UTC.to_plain());
+    let mut out = [0; 29];
+    out.copy_from_slice(text.as_bytes());
+    out
+}
+
+fn instant_of(milliseconds: u64) -> Timestamp
+    requires { milliseconds ≤ latest }
+    ensures { result.nanosecond ≡ pos (milliseconds * 1_000_000) }
+{
+    match Timestamp::from_millisecond(milliseconds as i64) {
+        Ok(instant) => instant,
+        Err(_) => unreachable!(),
+    }
+}
+
+/// A moment has one text.
+pub fn one_text()
+    ensures { (a b : List ℕ) (m : ℕ) → ShowsMoment a m → ShowsMoment b m → a ≡ b }
+{}

@@ -1,0 +1,102 @@
+//! The objects that settings list.
+use crate::id_list::Identified;
+use crate::{Id, Name, Rows};
+
+/// A judgement type (Contest API 2023-06, judgement-types).
+#[derive(Debug, PartialEq, Eq, Drop)]
+pub struct JudgementType {
+    /// Its id, such as `AC`.
+    pub id: Id,
+    /// Its name.
+    pub name: Name,
+    /// Whether it solves the problem.
+    pub solved: bool,
+    /// Whether it costs penalty time.
+    pub penalty: bool,
+}
+
+/// A language (Contest API 2023-06, languages).
+#[derive(Debug, PartialEq, Eq, Drop)]
+pub struct Language {
+    /// Its id.
+    pub id: Id,
+    /// Its name.
+    pub name: Name,
+    /// Whether a submission in it needs an entry point.
+    pub entry_point_required: bool,
+}
+
+/// A problem (Contest API 2023-06, problems).
+#[derive(Debug, PartialEq, Eq, Drop)]
+pub struct Problem {
+    /// Its id.
+    pub id: Id,
+    /// What heads its column on the board. No two problems share a label.
+    pub label: Name,
+    /// Its name.
+    pub name: Name,
+    /// Problems are shown by ordinal, then by id.
+    pub ordinal: u16,
+}
+
+/// A group of teams (Contest API 2023-06, groups).
+#[derive(Debug, PartialEq, Eq, Drop)]
+pub struct Group {
+    /// Its id.
+    pub id: Id,
+    /// Its name.
+    pub name: Name,
+}
+
+/// A team (Contest API 2023-06, teams).
+#[derive(Debug, PartialEq, Eq, Drop)]
+pub struct Team {
+    /// Its id.
+    pub id: Id,
+    /// Its name.
+    pub name: Name,
+    /// The places of its groups in the settings, from 0 and in the order in which they were given.
+    pub groups: Rows<usize>,
+    /// A hidden team is on no board, and others don't see its submissions.
+    pub hidden: bool,
+}
+
+impl Identified for JudgementType {
+    ghost id = { λ row. row.id };
+
+    fn id(&self) -> &Id {
+        &self.id
+    }
+}
+
+impl Identified for Language {
+    ghost id = { λ row. row.id };
+
+    fn id(&self) -> &Id {
+        &self.id
+    }
+}
+
+impl Identified for Problem {
+    ghost id = { λ row. row.id };
+
+    fn id(&self) -> &Id {
+        &self.id
+    }
+}
+
+impl Identified for Group {
+    ghost id = { λ row. row.id };
+
+    fn id(&self) -> &Id {
+        &self.id
+    }
+}
+
+impl Identified for Team {
+    ghost id = { λ row. row.id };
+
+    fn id(&self) -> &Id {
+        &self.id
+    }
+}
