@@ -1,2 +1,8 @@
 pub mod Words
 pub mod Input
+pub mod Output
+pub mod Lines
+pub mod Asked
+pub mod Text
+pub mod Replay
+pub mod Commands

@@ -1,6 +1,14 @@
 //! The commands of the program `desk`, over any reader and writers.
 #![tactic(auto)]
 
+mod commands;
 mod input;
+mod lines;
 mod output;
+mod replaying;
+mod stop;
+mod text;
 mod words;
+
+pub use commands::{run, start};
+pub use replaying::replay;

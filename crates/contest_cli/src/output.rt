@@ -1,6 +1,7 @@
 //! Writing to a stream whose bytes are all known before the first one goes out.
-ghost use Rattle.std.specs.Prelude.{◌≤◌, ℕ, OnOk, OnErr, take, length};
+ghost use Rattle.std.specs.Prelude.{OnOk, OnErr};
 ghost use Rattle.std.specs.Io.KnownBytes.{Appends};
+ghost use Rattle.contest_cli.specs.Output.{AppendsFront};
 
 use std::io::Write;
 
@@ -12,7 +13,7 @@ pub(crate) struct OutputFault;
 /// interrupted call, and a write that takes nothing are a fault; a front of the bytes is out then.
 pub(crate) fn write_whole<W: Write>(out: &mut W, bytes: &[u8]) -> Result<(), OutputFault>
     ensures ok { OnOk result (Appends (W.contents out.old) (W.contents out.new) bytes.now) }
-    ensures err { OnErr result ((k : ℕ) × (k ≤ length bytes.now) × Appends (W.contents out.old) (W.contents out.new) (take k bytes.now)) }
+    ensures err { OnErr result (AppendsFront (W.contents out.old) (W.contents out.new) bytes.now) }
 {
     let mut sent = 0;
     while sent < bytes.len() {
