@@ -62,7 +62,7 @@ large_file jury thawed at (Some left) (Some rest) t =
 -- what a fault of the input stops by
 pub fault_stops : (words : List Text) (jury thawed : Bool) (at : Option ℤ) (a b : Option (List ℕ)) (f : InputFault)
     → Asks words jury thawed at → (f ≡ fault.TooLarge → TakesFront a b (IMPORTED_FILE + 1)) → StopsBy words a (stop_of f)
-fault_stops words jury thawed at a b fault.File asks large = tt
+fault_stops words jury thawed at a b fault.File asks large = (jury, thawed, at, asks)
 fault_stops words jury thawed at a b fault.TooLarge asks large =
     inr (jury, thawed, at, asks, large_file jury thawed at a b (large refl))
 fault_stops words jury thawed at a b fault.Memory asks large = inl refl

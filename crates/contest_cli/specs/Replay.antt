@@ -25,11 +25,15 @@ Gives words input given =
     (jury : Bool) × (thawed : Bool) × (at : Option ℤ)
     × Asks words jury thawed at × IfSome input (λ bytes. replay_of jury thawed at bytes ≡ given)
 
+-- the words ask for something
+abbrev pub Faultless : List Text → Type 0
+Faultless words = (jury : Bool) × (thawed : Bool) × (at : Option ℤ) × Asks words jury thawed at
+
 -- why there is no text
 abbrev pub StopsBy : List Text → Option (List ℕ) → Stop → Type 0
 StopsBy words input (Words text) = HasFault words
 StopsBy words input (Refused r) = (r ≡ Memory) ⊎ Gives words input (Err r)
-StopsBy words input File = Unit {0}
+StopsBy words input File = Faultless words
 
 -- the line that tells of it
 abbrev pub line_of : Stop → List ℕ

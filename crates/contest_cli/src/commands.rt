@@ -1,5 +1,5 @@
 //! The program's commands: which one the words name, and the help that tells of them.
-ghost use Rattle.std.specs.Prelude.{◌≡◌, map};
+ghost use Rattle.std.specs.Prelude.{◌≡◌, ◌≤◌, map};
 ghost use Rattle.std.specs.List.{list_any};
 ghost use Rattle.contest_cli.specs.Commands.{IsReplay, is_help};
 ghost use Rattle.contest_cli.specs.Replay.{Replays};
@@ -35,7 +35,9 @@ pub fn start<R: Read, O: Write, E: Write>(
     reader: &mut R,
     out: &mut O,
     err: &mut E,
-) -> u8 {
+) -> u8
+    ensures { result ≤ 2 }
+{
     match args {
         Ok(args) => match args.skip(1).collect::<Vec<String>>(alloc) {
             Ok(words) => run_owned(alloc, &words, reader, out, err),
@@ -52,7 +54,9 @@ fn run_owned<R: Read, O: Write, E: Write>(
     reader: &mut R,
     out: &mut O,
     err: &mut E,
-) -> u8 {
+) -> u8
+    ensures { result ≤ 2 }
+{
     match words
         .iter()
         .map(|word| word.as_str())
@@ -64,7 +68,9 @@ fn run_owned<R: Read, O: Write, E: Write>(
 }
 
 // What is said of arguments that can't be read.
-fn refuse_arguments<E: Write>(error: &io::Error, err: &mut E) -> u8 {
+fn refuse_arguments<E: Write>(error: &io::Error, err: &mut E) -> u8
+    ensures { result ≤ 2 }
+{
     if error.kind() == ErrorKind::OutOfMemory {
         return Stop::Refused(Refusal::Memory).refuse(err);
     }
@@ -82,6 +88,7 @@ pub fn run<R: Read, O: Write, E: Write>(
     out: &mut O,
     err: &mut E,
 ) -> u8
+    ensures statuses { result ≤ 2 }
     ensures replay { IsReplay (map (λ s. s.now) words.now)
         → Replays (map (λ s. s.now) words.now) (R.remaining reader.old) (O.contents out.old) (O.contents out.new) (E.contents err.old) (E.contents err.new) result }
 {
@@ -116,7 +123,9 @@ fn is_help(option: &str) -> bool
 }
 
 // Writes a text that was asked for.
-fn show<O: Write, E: Write>(text: &str, out: &mut O, err: &mut E) -> u8 {
+fn show<O: Write, E: Write>(text: &str, out: &mut O, err: &mut E) -> u8
+    ensures { result ≤ 2 }
+{
     match write_whole(out, text.as_bytes()) {
         Ok(()) => 0,
         Err(_) => Stop::File.refuse(err),
@@ -124,7 +133,9 @@ fn show<O: Write, E: Write>(text: &str, out: &mut O, err: &mut E) -> u8 {
 }
 
 // Writes the help of `replay`.
-fn show_replay_help<O: Write, E: Write>(alloc: Global, out: &mut O, err: &mut E) -> u8 {
+fn show_replay_help<O: Write, E: Write>(alloc: Global, out: &mut O, err: &mut E) -> u8
+    ensures { result ≤ 2 }
+{
     match replay_help(alloc) {
         Ok(text) => show(text.as_str(), out, err),
         Err(AllocError) => Stop::Refused(Refusal::Memory).refuse(err),
@@ -138,7 +149,9 @@ fn replay_help(alloc: Global) -> Result<String, AllocError> {
 }
 
 // What is said of a command that there isn't.
-fn refuse_command<E: Write>(alloc: Global, name: &str, err: &mut E) -> u8 {
+fn refuse_command<E: Write>(alloc: Global, name: &str, err: &mut E) -> u8
+    ensures { result ≤ 2 }
+{
     let text = format!(in alloc;
         "error: unknown command '{name}'; the commands are replay and help\n"
     );

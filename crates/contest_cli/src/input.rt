@@ -54,7 +54,7 @@ pub(crate) fn read_limited<R: Read>(
 }
 
 // So many zeros.
-fn zeros(alloc: Global, count: usize) -> Result<Vec<u8>, AllocError>
+pub(crate) fn zeros(alloc: Global, count: usize) -> Result<Vec<u8>, AllocError>
     ensures { IfOk result (λ v. length v.items ≡ count) }
 {
     vec![in alloc; 0u8; count]

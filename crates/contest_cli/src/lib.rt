@@ -12,3 +12,6 @@ mod words;
 
 pub use commands::{run, start};
 pub use replaying::replay;
+
+#[cfg(test)]
+mod tests;

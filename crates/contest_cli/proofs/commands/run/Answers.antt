@@ -16,10 +16,8 @@ no_help (name ∷ options) asks h =
     let none = h.1 in
     cc
 
-pub returns-then-asks_help : goal.returns-then-asks_help
-returns-then-asks_help g c = record {
-  replay = λ h.
-      let P : List (Bor (List ℕ)) → Type 0 = λ ws. list_any (λ s. is_help s.now) ws ≡ true in
-      let asks = subst P (behind c.args.words.now) (sym c.asks_help.ensures ∙ c.if-asks_help.true) in
-      absurd (no_help c.args.words.now asks h);
-}
+pub returns-then-asks_help-clause-replay : goal.returns-then-asks_help-clause-replay
+returns-then-asks_help-clause-replay g c = λ h.
+    let P : List (Bor (List ℕ)) → Type 0 = λ ws. list_any (λ s. is_help s.now) ws ≡ true in
+    let asks = subst P (behind c.args.words.now) (sym c.asks_help.ensures ∙ c.if-asks_help.true) in
+    absurd (no_help c.args.words.now asks h)
