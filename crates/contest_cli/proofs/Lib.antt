@@ -2,3 +2,4 @@ pub mod Rest
 pub mod Steps
 pub mod FieldLemmas
 pub mod ReplayedLemmas
+mod ReplayLemmas

@@ -3,3 +3,11 @@ pub mod FieldTexts
 pub mod ReplayRows
 pub mod Replayed
 pub mod TeamsSoFar
+pub mod Words
+pub mod Input
+pub mod Output
+pub mod Lines
+pub mod Asked
+pub mod Text
+pub mod Replay
+pub mod Commands

@@ -1,9 +1,23 @@
 //! The commands of the program `desk`, over any reader and writers.
 #![tactic(auto)]
 
+mod commands;
 mod fields;
+mod input;
+mod lines;
 mod named_places;
+mod output;
 mod records;
 mod replay_rows;
 mod replayed;
+mod replaying;
+mod stop;
 mod team_so_far;
+mod text;
+mod words;
+
+pub use commands::{run, start};
+pub use replaying::replay;
+
+#[cfg(test)]
+mod tests;

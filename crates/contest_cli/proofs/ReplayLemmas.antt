@@ -1,0 +1,95 @@
+-- What an input that is read to its end, or not, says of the text.
+use Rattle.std.proofs.Common.{◌≡◌, ◌≤◌, ◌<◌, ◌+◌, ◌++◌, ◌⊎◌, inl, inr, refl, ap, subst, ℕ, ℤ, List, Bool, true, false, Option, Some, None, IfSome, Result, Err, length, length-append, arith, nat_lt}
+use Rattle.std.proofs.lemmas.Bool.Decides.{nat_tests}
+use Rattle.std.specs.Io.KnownBytes.{Keeps}
+use Rattle.clap.specs.Walk.{Text}
+use Rattle.contest_types.specs.declared.refusal.Refusal.{Refusal}
+use Rattle.contest_types.specs.declared.refusal.Refusal.TheVariants.{BodyTooLarge, Memory}
+use Rattle.contest_types.specs.declared.limits.TheConstants.{IMPORTED_FILE}
+use Rattle.contest_cli.specs.Asked.{Asks}
+use Rattle.contest_cli.specs.Input.{ReadsAll, TakesFront}
+use Rattle.contest_cli.specs.Replay.{replay_of, Gives, StopsBy, Replays, stop_of, status_of, line_of}
+use Rattle.contest_cli.specs.Output.{AppendsFront}
+use Rattle.contest_cli.specs.Text.{board_of}
+use Rattle.contest_cli.specs.declared.input.InputFault.{InputFault}
+use Rattle.contest_cli.specs.declared.input.InputFault.TheVariants as fault
+use Rattle.contest_cli.specs.declared.stop.Stop.{Stop}
+use Rattle.contest_cli.specs.declared.stop.Stop.TheVariants.{Words, Refused, File}
+
+not_over : (m n : ℕ) → n ≤ m → nat_lt m n ≡ false
+not_over m n h = grind (arith, nat_tests)
+
+over : (m n : ℕ) → m < n → nat_lt m n ≡ true
+over m n h = grind (arith, nat_tests)
+
+is_longer : (left taken rest : List ℕ) (m : ℕ) → left ≡ taken ++ rest → length taken ≡ m + 1 → m < length left
+is_longer left taken rest m e n = omega (arith, ap length e, length-append taken rest)
+
+-- the whole input is a file within the limit
+whole_file : (jury thawed : Bool) (at : Option ℤ) (a b : Option (List ℕ)) (bytes : List ℕ) (given : Result (List ℕ) Refusal)
+    → ReadsAll a b IMPORTED_FILE bytes → board_of jury thawed at bytes ≡ given
+    → IfSome a (λ left. replay_of jury thawed at left ≡ given)
+whole_file jury thawed at None b bytes given r e = tt
+whole_file jury thawed at (Some left) b bytes given r e =
+    let P : List ℕ → Type 0 = λ xs. replay_of jury thawed at xs ≡ given in
+    let here : P bytes = rw (not_over IMPORTED_FILE (length bytes) r.within) e in
+    subst P r.whole here
+
+-- what the whole input gives
+pub whole_gives : (words : List Text) (jury thawed : Bool) (at : Option ℤ) (a b : Option (List ℕ)) (bytes file : List ℕ) (given : Result (List ℕ) Refusal)
+    → Asks words jury thawed at → ReadsAll a b IMPORTED_FILE bytes → file ≡ bytes
+    → board_of jury thawed at file ≡ given → Gives words a given
+whole_gives words jury thawed at a b bytes file given asks all same e =
+    let P : List ℕ → Type 0 = λ xs. board_of jury thawed at xs ≡ given in
+    (jury, thawed, at, asks, whole_file jury thawed at a b bytes given all (subst P same e))
+
+-- what a refusal of the whole input stops by
+pub refusal_stops : (words : List Text) (jury thawed : Bool) (at : Option ℤ) (a b : Option (List ℕ)) (bytes file : List ℕ) (r : Refusal)
+    → Asks words jury thawed at → ReadsAll a b IMPORTED_FILE bytes → file ≡ bytes
+    → (r ≡ Memory) ⊎ (board_of jury thawed at file ≡ Err r) → (r ≡ Memory) ⊎ Gives words a (Err r)
+refusal_stops words jury thawed at a b bytes file r asks all same (inl e) = inl e
+refusal_stops words jury thawed at a b bytes file r asks all same (inr e) =
+    inr (whole_gives words jury thawed at a b bytes file (Err r) asks all same e)
+
+-- the input is longer than a file may be
+large_file : (jury thawed : Bool) (at : Option ℤ) (a b : Option (List ℕ))
+    → TakesFront a b (IMPORTED_FILE + 1) → IfSome a (λ left. replay_of jury thawed at left ≡ Err BodyTooLarge)
+large_file jury thawed at None b t = tt
+large_file jury thawed at (Some left) None t = absurd t.2
+large_file jury thawed at (Some left) (Some rest) t =
+    rw (over IMPORTED_FILE (length left) (is_longer left t.0 rest IMPORTED_FILE t.2 t.1)) refl
+
+-- what a fault of the input stops by
+pub fault_stops : (words : List Text) (jury thawed : Bool) (at : Option ℤ) (a b : Option (List ℕ)) (f : InputFault)
+    → Asks words jury thawed at → (f ≡ fault.TooLarge → TakesFront a b (IMPORTED_FILE + 1)) → StopsBy words a (stop_of f)
+fault_stops words jury thawed at a b fault.File asks large = (jury, thawed, at, asks)
+fault_stops words jury thawed at a b fault.TooLarge asks large =
+    inr (jury, thawed, at, asks, large_file jury thawed at a b (large refl))
+fault_stops words jury thawed at a b fault.Memory asks large = inl refl
+
+keeps_same : (a : Option (List ℕ)) → Keeps a a
+keeps_same None = tt
+keeps_same (Some bytes) = refl
+
+-- where there is no text
+pub stopped : (words : List Text) (input out err_old err_new : Option (List ℕ)) (stop : Stop) (status : ℕ)
+    → StopsBy words input stop → status ≡ status_of stop → AppendsFront err_old err_new (line_of stop)
+    → Replays words input out out err_old err_new status
+stopped words input out err_old err_new (Words text) status stops is told = record {
+  statuses = omega (arith, is);
+  done = λ e. absurd (omega (arith, is, e));
+  refused = λ e. absurd (omega (arith, is, e));
+  faulty = λ e. (stops, keeps_same out);
+}
+stopped words input out err_old err_new (Refused r) status stops is told = record {
+  statuses = omega (arith, is);
+  done = λ e. absurd (omega (arith, is, e));
+  refused = λ e. (Refused r, refl, stops, told, inl (keeps_same out));
+  faulty = λ e. absurd (omega (arith, is, e));
+}
+stopped words input out err_old err_new File status stops is told = record {
+  statuses = omega (arith, is);
+  done = λ e. absurd (omega (arith, is, e));
+  refused = λ e. (File, refl, stops, told, inl (keeps_same out));
+  faulty = λ e. absurd (omega (arith, is, e));
+}

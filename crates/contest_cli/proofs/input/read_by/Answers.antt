@@ -1,0 +1,29 @@
+use Rattle.std.proofs.Common.{◌++◌, ◌≤◌, ◌+◌, length, ◌∙◌, sym, ap, ℕ, List, Option, Some, None, Result, Ok, Err, OnErr, append_assoc, arith, take}
+use Rattle.std.proofs.lemmas.Grind.{common_steps}
+use Rattle.std.specs.Io.KnownBytes.{Consumes}
+use Rattle.contest_cli.specs.Input.{TakesUpTo}
+use Rattle.contest_cli.proofs.input.read_by.Goals as goal
+
+-- first `xs` is taken, and then `ys`
+consumes_both : (a b c : Option (List ℕ)) (xs ys : List ℕ)
+    → Consumes a b xs → Consumes b c ys → Consumes a c (xs ++ ys)
+consumes_both None b c xs ys p q = tt
+consumes_both (Some x) None c xs ys p q = absurd p
+consumes_both (Some x) (Some y) None xs ys p q = absurd q
+consumes_both (Some x) (Some y) (Some z) xs ys p q =
+    p ∙ ap (λ t. xs ++ t) q ∙ sym (append_assoc xs ys z)
+
+on_err_always : {T E P : Type 0} (r : Result T E) → P → OnErr r P
+on_err_always (Ok v) p = tt
+on_err_always (Err e) p = p
+
+-- the last piece is taken too, though memory for it was refused
+pub returns-in_err-extend_from_slice-clause-err : goal.returns-in_err-extend_from_slice-clause-err
+returns-in_err-extend_from_slice-clause-err g c =
+    let bytes = c.loop-bytes.bytes.items in
+    let last = take c.in_ok-count.count c.read_piece.new.piece in
+    let taken = consumes_both _ _ _ bytes last c.loop-bytes.invariant.taken c.in_ok-count.ensures.bytes.0 in
+    let short : length (bytes ++ last) ≤ c.args.limit + 1 = grind (arith, common_steps, c.in_ok-count.ensures.bound) in
+    let front : TakesUpTo (g.R.Read.remaining c.args.reader.now) (g.R.Read.remaining c.read_piece.new.reader) (c.args.limit + 1) =
+    (bytes ++ last, short, taken) in
+    on_err_always _ front

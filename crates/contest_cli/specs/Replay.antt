@@ -1,0 +1,79 @@
+-- What `replay` answers.
+use Rattle.std.specs.Prelude.{◌≡◌, ◌≤◌, ◌⊎◌, ℕ, ℤ, List, Bool, Option, IfSome, Result, Ok, Err, length, codes, nat_lt, if◌then◌else◌, string_bytes}
+use Rattle.std.specs.Io.KnownBytes.{Appends, Keeps}
+use Rattle.clap.specs.Walk.{Text}
+use Rattle.contest_types.specs.declared.refusal.Refusal.{Refusal}
+use Rattle.contest_types.specs.declared.refusal.Refusal.TheVariants.{BodyTooLarge, Memory}
+use Rattle.contest_cli.specs.Asked.{Asks, HasFault}
+use Rattle.contest_cli.specs.Output.{AppendsFront}
+use Rattle.contest_cli.specs.Lines.{refusal_line}
+use Rattle.contest_cli.specs.Text.{board_of}
+use Rattle.contest_types.specs.declared.limits.TheConstants.{IMPORTED_FILE}
+use Rattle.contest_cli.specs.declared.input.InputFault.{InputFault}
+use Rattle.contest_cli.specs.declared.input.InputFault.TheVariants as fault
+use Rattle.contest_cli.specs.declared.stop.Stop.{Stop}
+use Rattle.contest_cli.specs.declared.stop.Stop.TheVariants.{Words, Refused, File}
+
+-- the board's text of a whole input, or the first fault
+abbrev pub replay_of : Bool → Bool → Option ℤ → List ℕ → Result (List ℕ) Refusal
+replay_of jury thawed at input =
+    if nat_lt IMPORTED_FILE (length input) then Err BodyTooLarge else board_of jury thawed at input
+
+-- the words ask for something of which the input, where it is known, gives this
+abbrev pub Gives : List Text → Option (List ℕ) → Result (List ℕ) Refusal → Type 0
+Gives words input given =
+    (jury : Bool) × (thawed : Bool) × (at : Option ℤ)
+    × Asks words jury thawed at × IfSome input (λ bytes. replay_of jury thawed at bytes ≡ given)
+
+-- the words ask for something
+abbrev pub Faultless : List Text → Type 0
+Faultless words = (jury : Bool) × (thawed : Bool) × (at : Option ℤ) × Asks words jury thawed at
+
+-- why there is no text
+abbrev pub StopsBy : List Text → Option (List ℕ) → Stop → Type 0
+StopsBy words input (Words text) = HasFault words
+StopsBy words input (Refused r) = (r ≡ Memory) ⊎ Gives words input (Err r)
+StopsBy words input File = Faultless words
+
+-- the line that tells of it
+abbrev pub line_of : Stop → List ℕ
+line_of (Words text) = string_bytes text
+line_of (Refused r) = refusal_line r
+line_of File = codes "refused: File\n"
+
+-- the program's exit status
+abbrev pub status_of : Stop → ℕ
+status_of (Words text) = 2
+status_of (Refused r) = 1
+status_of File = 1
+
+-- memory was refused
+abbrev pub IsMemory : Stop → Type 0
+IsMemory stop = stop ≡ Refused Memory
+
+-- the words are refused
+abbrev pub IsWords : Stop → Type 0
+IsWords (Words text) = Unit {0}
+IsWords (Refused r) = ⊥
+IsWords File = ⊥
+
+-- the words are refused, or memory was while that was told
+abbrev pub IsWordsOrMemory : Stop → Type 0
+IsWordsOrMemory stop = IsMemory stop ⊎ IsWords stop
+
+-- how `replay` ends by its status: 0 with the whole text on `out`; 1 with the line of the first fault,
+-- of want of memory or of a stream that failed on `err`, and nothing on `out`, or a front of the text
+-- where `out` failed; 2 where the words have a fault. The line on `err` is cut where `err` fails.
+pub record Replays (words : List Text) (input out_old out_new err_old err_new : Option (List ℕ)) (status : ℕ) : Type 0 where
+  pub statuses : status ≤ 2
+  pub done : status ≡ 0 → (text : List ℕ) × Gives words input (Ok text) × Appends out_old out_new text × Keeps err_old err_new
+  pub refused : status ≡ 1 → (stop : Stop) × (status_of stop ≡ 1) × StopsBy words input stop
+      × AppendsFront err_old err_new (line_of stop)
+      × (Keeps out_old out_new ⊎ ((stop ≡ File) × (text : List ℕ) × Gives words input (Ok text) × AppendsFront out_old out_new text))
+  pub faulty : status ≡ 2 → HasFault words × Keeps out_old out_new
+
+-- what a fault of the input stops by
+abbrev pub stop_of : InputFault → Stop
+stop_of fault.File = File
+stop_of fault.TooLarge = Refused BodyTooLarge
+stop_of fault.Memory = Refused Memory

@@ -1,0 +1,162 @@
+//! The program's commands: which one the words name, and the help that tells of them.
+ghost use Rattle.std.specs.Prelude.{◌≡◌, ◌≤◌, map};
+ghost use Rattle.std.specs.List.{list_any};
+ghost use Rattle.contest_cli.specs.Commands.{IsReplay, is_help};
+ghost use Rattle.contest_cli.specs.Replay.{Replays};
+
+use crate::output::write_whole;
+use crate::replaying::replay;
+use crate::stop::Stop;
+use crate::words::replay_command;
+use contest_types::Refusal;
+use std::alloc::{AllocError, Global};
+use std::env::Args;
+use std::io::{self, ErrorKind, Read, Write};
+
+/// What `desk help` shows.
+const HELP: &str = "\
+Jury and scoreboard desk of a programming contest
+
+Usage: desk <COMMAND>
+
+Commands:
+  replay  Reads a contest as CSV on standard input and prints its board
+  help    Prints this text
+
+Example: desk replay --at 1:30:00 < contest.csv
+
+'desk <COMMAND> --help' tells more of a command.
+";
+
+/// Runs the program by its arguments, of which the first is its own name. Answers the exit status.
+pub fn start<R: Read, O: Write, E: Write>(
+    alloc: Global,
+    args: io::Result<Args>,
+    reader: &mut R,
+    out: &mut O,
+    err: &mut E,
+) -> u8
+    ensures { result ≤ 2 }
+{
+    match args {
+        Ok(args) => match args.skip(1).collect::<Vec<String>>(alloc) {
+            Ok(words) => run_owned(alloc, &words, reader, out, err),
+            Err(AllocError) => Stop::Refused(Refusal::Memory).refuse(err),
+        },
+        Err(error) => refuse_arguments(&error, err),
+    }
+}
+
+// The same, of words that are owned.
+fn run_owned<R: Read, O: Write, E: Write>(
+    alloc: Global,
+    words: &[String],
+    reader: &mut R,
+    out: &mut O,
+    err: &mut E,
+) -> u8
+    ensures { result ≤ 2 }
+{
+    match words
+        .iter()
+        .map(|word| word.as_str())
+        .collect::<Vec<&str>>(alloc)
+    {
+        Ok(words) => run(alloc, &words, reader, out, err),
+        Err(AllocError) => Stop::Refused(Refusal::Memory).refuse(err),
+    }
+}
+
+// What is said of arguments that can't be read.
+fn refuse_arguments<E: Write>(error: &io::Error, err: &mut E) -> u8
+    ensures { result ≤ 2 }
+{
+    if error.kind() == ErrorKind::OutOfMemory {
+        return Stop::Refused(Refusal::Memory).refuse(err);
+    }
+    let _ = write_whole(err, b"error: an argument isn't UTF-8\n");
+    2
+}
+
+/// Runs the command that the words name; the program's own name isn't among them. Answers the exit
+/// status: 0 where it did what was asked, 1 where that was refused or a stream failed, 2 where the
+/// words have a fault. Help that is asked for goes to `out`.
+pub fn run<R: Read, O: Write, E: Write>(
+    alloc: Global,
+    words: &[&str],
+    reader: &mut R,
+    out: &mut O,
+    err: &mut E,
+) -> u8
+    ensures statuses { result ≤ 2 }
+    ensures replay { IsReplay (map (λ s. s.now) words.now)
+        → Replays (map (λ s. s.now) words.now) (R.remaining reader.old) (O.contents out.old) (O.contents out.new) (E.contents err.old) (E.contents err.new) result }
+{
+    if words.is_empty() {
+        let _ = write_whole(err, HELP.as_bytes());
+        return 2;
+    }
+    match words[0] {
+        "help" | "--help" | "-h" => show(HELP, out, err),
+        "replay" => {
+            if asks_help(&words[1..]) {
+                return show_replay_help(alloc, out, err);
+            }
+            replay(alloc, words, reader, out, err)
+        }
+        name => refuse_command(alloc, name, err),
+    }
+}
+
+// Whether a command's options ask for its help.
+fn asks_help(options: &[&str]) -> bool
+    ensures { result ≡ list_any (λ s. is_help s.now) options.now }
+{
+    options.iter().any(|option| is_help(option))
+}
+
+// Whether an option asks for its command's help.
+fn is_help(option: &str) -> bool
+    ensures { result ≡ is_help option.now }
+{
+    option == "--help" || option == "-h"
+}
+
+// Writes a text that was asked for.
+fn show<O: Write, E: Write>(text: &str, out: &mut O, err: &mut E) -> u8
+    ensures { result ≤ 2 }
+{
+    match write_whole(out, text.as_bytes()) {
+        Ok(()) => 0,
+        Err(_) => Stop::File.refuse(err),
+    }
+}
+
+// Writes the help of `replay`.
+fn show_replay_help<O: Write, E: Write>(alloc: Global, out: &mut O, err: &mut E) -> u8
+    ensures { result ≤ 2 }
+{
+    match replay_help(alloc) {
+        Ok(text) => show(text.as_str(), out, err),
+        Err(AllocError) => Stop::Refused(Refusal::Memory).refuse(err),
+    }
+}
+
+// The help of `replay`.
+fn replay_help(alloc: Global) -> Result<String, AllocError> {
+    let mut command = replay_command(alloc)?;
+    command.render_help()
+}
+
+// What is said of a command that there isn't.
+fn refuse_command<E: Write>(alloc: Global, name: &str, err: &mut E) -> u8
+    ensures { result ≤ 2 }
+{
+    let text = format!(in alloc;
+        "error: unknown command '{name}'; the commands are replay and help\n"
+    );
+    match text {
+        Ok(text) => Stop::Words(text).refuse(err),
+        Err(AllocError) => Stop::Refused(Refusal::Memory).refuse(err),
+    }
+}

@@ -1,0 +1,158 @@
+//! Streams that fail, and words that have a fault.
+use crate::commands::run;
+use crate::input::{InputFault, read_limited, zeros};
+use crate::output::write_whole;
+use std::cmp::min;
+use std::io::{self, ErrorKind, Read, Write};
+use std::test::Fail;
+
+// A reader that is interrupted so often, then gives its bytes, and then ends or fails.
+#[derive(Drop)]
+struct Source<'a> {
+    interrupts: u32,
+    bytes: &'a [u8],
+    fails: bool,
+}
+
+impl Read for Source<'_> {
+    fn read(&mut self, buf: &mut [u8]) -> io::Result<usize> {
+        if self.interrupts > 0 {
+            self.interrupts -= 1;
+            return Err(io::Error::from(ErrorKind::Interrupted));
+        }
+        if self.bytes.is_empty() && self.fails {
+            return Err(io::Error::from(ErrorKind::Other));
+        }
+        self.bytes.read(buf)
+    }
+}
+
+// A writer that takes so many bytes, a few at a time, and then fails or takes nothing more.
+#[derive(Drop)]
+struct Sink {
+    taken: Vec<u8>,
+    room: usize,
+    fails: bool,
+}
+
+impl Write for Sink {
+    fn write(&mut self, buf: &[u8]) -> io::Result<usize> {
+        let count = min(min(self.room, buf.len()), 3);
+        if count == 0 && self.fails {
+            return Err(io::Error::from(ErrorKind::Other));
+        }
+        self.taken.extend_from_slice(&buf[..count])?;
+        self.room -= count;
+        Ok(count)
+    }
+
+    fn flush(&mut self) -> io::Result<()> {
+        Ok(())
+    }
+}
+
+#[test]
+fn tries_interrupted_reads_again(rt: HostRuntime) -> Result<(), Fail> {
+    for (interrupts, wanted) in [(1_000, None), (1_001, Some(InputFault::File))] {
+        let mut source = Source {
+            interrupts,
+            bytes: b"abc",
+            fails: false,
+        };
+        let fault = read_limited(rt.alloc(), &mut source, 10).err();
+        assert_eq!(rt; fault, wanted, "{interrupts} interrupts");
+    }
+    Ok(())
+}
+
+#[test]
+fn fails_where_a_read_fails(rt: HostRuntime) -> Result<(), Fail> {
+    let mut source = Source {
+        interrupts: 0,
+        bytes: b"abc",
+        fails: true,
+    };
+    let fault = read_limited(rt.alloc(), &mut source, 10).err();
+    assert_eq!(rt; fault, Some(InputFault::File));
+    Ok(())
+}
+
+#[test]
+fn keeps_to_the_limit(rt: HostRuntime) -> Result<(), Fail> {
+    let bytes = zeros(rt.alloc(), 70_000)?;
+    for (limit, wanted) in [(70_000u32, None), (69_999, Some(InputFault::TooLarge))] {
+        let mut left = bytes.as_slice();
+        let fault = read_limited(rt.alloc(), &mut left, limit as usize).err();
+        assert_eq!(rt; fault, wanted, "limit {limit}");
+        assert!(rt; left.is_empty());
+    }
+    Ok(())
+}
+
+#[test]
+fn writes_a_front_where_a_write_fails(rt: HostRuntime) -> Result<(), Fail> {
+    let text = b"refused: File\n";
+    for room in 0..=text.len() {
+        for fails in [true, false] {
+            let mut sink = Sink {
+                taken: Vec::new(rt.alloc()),
+                room,
+                fails,
+            };
+            let written = write_whole(&mut sink, text);
+            assert_eq!(rt; written.is_ok(), room == text.len(), "room {room}");
+            assert_eq!(rt; sink.taken.as_slice(), &text[..room]);
+        }
+    }
+    Ok(())
+}
+
+#[test]
+fn tells_faults_of_words(rt: HostRuntime) -> Result<(), Fail> {
+    let rows: [(&[&str], u8, &str); 10] = [
+        (&[], 2, "Jury and scoreboard desk"),
+        (&["play"], 2, "error: unknown command 'play'"),
+        (
+            &["replay", "--jury", "--jury"],
+            2,
+            "error: the argument '--jury' cannot",
+        ),
+        (
+            &["replay", "--at", "0:60:00"],
+            2,
+            "error: '0:60:00' of '--at'",
+        ),
+        (
+            &["replay", "--at=-0:00:01"],
+            2,
+            "error: '-0:00:01' of '--at'",
+        ),
+        (
+            &["replay", "--at", "-0:00:01"],
+            2,
+            "error: unexpected argument '-0'",
+        ),
+        (
+            &["replay", "--at"],
+            2,
+            "error: a value is required for '--at",
+        ),
+        (
+            &["replay", "contest.csv"],
+            2,
+            "error: unexpected argument 'contest.csv'",
+        ),
+        (&["replay", "--at=-0:00:00"], 1, "refused: E1 Malformed\n"),
+        (&["replay", "--at", "0:07:00"], 1, "refused: E1 Malformed\n"),
+    ];
+    for (words, status, text) in rows {
+        let (mut out, mut err) = (Vec::new(rt.alloc()), Vec::new(rt.alloc()));
+        let answer = run(rt.alloc(), words, &mut b"".as_slice(), &mut out, &mut err);
+        assert_eq!(rt; answer, status, "at {text}");
+        assert!(rt;
+            out.is_empty() && err.starts_with(text.as_bytes()),
+            "at {text}"
+        );
+    }
+    Ok(())
+}
