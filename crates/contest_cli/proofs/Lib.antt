@@ -3,3 +3,4 @@ pub mod Steps
 pub mod FieldLemmas
 pub mod ReplayedLemmas
 mod ReplayLemmas
+pub mod ReplayFileLemmas

@@ -3,6 +3,7 @@ pub mod FieldTexts
 pub mod ReplayRows
 pub mod Replayed
 pub mod TeamsSoFar
+pub mod ReplayFile
 pub mod Words
 pub mod Input
 pub mod Output

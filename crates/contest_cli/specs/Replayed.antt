@@ -125,7 +125,3 @@ begun_by f = if bytes_eq f.kind (codes "contest") then or_malformed started (hea
 abbrev pub judged_fields : Option ReplayedLists → FiveFields → Judged
 judged_fields None f = begun_by f
 judged_fields (Some r) f = grown_by r f
-
-abbrev pub judged : Option ReplayedLists → Option FiveFields → Judged
-judged so_far None = Err cause.Malformed
-judged so_far (Some f) = judged_fields so_far f

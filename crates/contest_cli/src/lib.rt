@@ -8,6 +8,8 @@ mod lines;
 mod named_places;
 mod output;
 mod records;
+mod replay_csv;
+mod replay_records;
 mod replay_rows;
 mod replayed;
 mod replaying;

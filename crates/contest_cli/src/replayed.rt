@@ -58,7 +58,7 @@ fn any_language(alloc: Global) -> Result<Language, RowFault>
 }
 
 /// Want of memory, as a row's fault.
-fn memory_of(refusal: Refusal) -> RowFault
+pub(crate) fn memory_of(refusal: Refusal) -> RowFault
     requires { refusal ≡ Refusal.Memory }
     ensures { result ≡ RowFault.Memory }
 {
