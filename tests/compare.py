@@ -3,7 +3,8 @@
 
     compare.py [--program PATH] [--seed N] [--cases N] [--keep FOLDER] [--no-large]
 
-Status, standard output and standard error must be equal byte for byte; where the words are refused
+The boards in examples/ come first: both sides must print them. Then come the files of the seed, and at
+last a few large ones. Status, standard output and standard error must be equal byte for byte; where the words are refused
 (status 2) standard error is the program's own, and must only say something. Prints the first cases
 that differ, keeps their files in FOLDER (one of its own for each case: `file.csv`, `words`, and what
 each side gave), and ends with the line `N passed, M failed`. The exit status is 0 where M is 0.
@@ -75,7 +76,20 @@ class Tally:
             keep(self.folder, title, words, data, wanted, given)
 
 
-def compare(options, tally):
+def compare_examples(options, tally):
+    """Each examples/NAME.BOARD.txt is the board of examples/NAME.csv."""
+    for board in sorted((ROOT / "examples").glob("*.txt")):
+        name, audience, _ = board.name.split(".")
+        words = ["replay"] + {"public": [], "jury": ["--jury"], "thawed": ["--thawed"]}[audience]
+        data, wanted = (ROOT / "examples" / f"{name}.csv").read_bytes(), (0, board.read_bytes(), b"")
+        if second_opinion.replay(words, data) != wanted:
+            sys.exit(f"{board} isn't what second_opinion.py gives")
+        tally.note(f"example {board.stem}", words, data, wanted, run_program(options.program, words, data))
+
+
+def compare_made(options, tally):
+    """The files of the seed; the program runs beside the second opinion."""
+
     def one(index):
         words, data = replay_files.case(options.seed, index)
         return index, words, data, run_program(options.program, words, data)
@@ -84,10 +98,12 @@ def compare(options, tally):
         for index, words, data, given in pool.map(one, range(options.cases)):
             wanted = second_opinion.replay(words, data)
             tally.note(f"case {options.seed} {index}", words, data, wanted, given)
-    if not options.no_large:
-        for title, words, data in replay_files.large_cases():
-            given = run_program(options.program, words, data)
-            tally.note(title, words, data, second_opinion.replay(words, data), given)
+
+
+def compare_large(options, tally):
+    for title, words, data in replay_files.large_cases():
+        given = run_program(options.program, words, data)
+        tally.note(title, words, data, second_opinion.replay(words, data), given)
 
 
 def main():
@@ -102,7 +118,10 @@ def main():
     if not pathlib.Path(options.program).is_file():
         parser.error(f"there is no program {options.program}: build it, or name one by --program")
     tally, start = Tally(options.keep), time.monotonic()
-    compare(options, tally)
+    compare_examples(options, tally)
+    compare_made(options, tally)
+    if not options.no_large:
+        compare_large(options, tally)
     for told, count in sorted(tally.statuses.items(), key=lambda item: -item[1]):
         print(f"{count:7}  {told}")
     print(f"{time.monotonic() - start:.1f} s, seed {options.seed}")

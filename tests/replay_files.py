@@ -90,7 +90,19 @@ class Plan:
         if self.rng.random() < 0.3:  # attempts that differ in nothing but the team: ties
             team = self.rng.choice(self.teams)
             rows += [[row[0], team] + row[2:] for row in rows]
-        return rows
+        return rows + (self.rivals() if self.rng.random() < 0.3 else [])
+
+    def rivals(self):
+        """Two teams' attempts whose totals are equal if nothing else counts: 20 minutes for 20 minutes."""
+        if len(self.teams) < 2 or self.duration < 3_600_000:
+            return []
+        self.types = [key for key in self.types if key not in ("ok", "no")] + ["ok", "no"]
+        self.definitions += [["type", "ok", "OK", "true", "false"], ["type", "no", "No", "false", "true"]]
+        early, late = self.rng.sample(self.teams, 2)
+        problem = self.rng.choice(self.problems)
+        minute = self.rng.randrange(1, 30) * 60_000
+        attempts = [(early, minute - 1, "no"), (early, minute, "ok"), (late, minute + 1_200_000, "ok")]
+        return [["submission", team, problem, reltime(self.rng, time), verdict] for team, time, verdict in attempts]
 
     def rows(self):
         """All records: definitions in any order, some of them twice, then submissions."""
@@ -105,7 +117,7 @@ class Plan:
 # --- Faults in a record ----------------------------------------------------------------------------
 
 BAD_IDS = [b"", b"-a", b"a b", b"Z" * 37, b"a/b", "é".encode(), b"a\x00", b" a", b"a\n"]
-BAD_NAMES = [b"", b"x" * 201, b"a\tb", b"a\nb", b"a\rb", b"\x00", b"a\x7f", "a\u0085".encode(), b"a\xff", b"\xc3", b"\xed\xa0\x80"]
+BAD_NAMES = [b"", b"x" * 201, b"a\tb", b"a\nb", b"a\rb", b"\x00", b"a\x7f", "a\u0085".encode(), b"a\xff", b"\xc3", b"\xed\xa0\x80", "é".encode() * 101]
 BAD_TRUTHS = [b"", b"True", b"1", b"yes", b" true", b"false "]
 BAD_ORDINALS = [b"", b"65536", b"-1", b"+1", b"1.0", b" 1", b"0x1", b"99999999999999999999999", "٣".encode()]
 BAD_TIMES = [
@@ -128,19 +140,36 @@ BAD_FIELDS = {
 BAD_KINDS = [b"", b"Contest", b"TYPE", b"submissions", b" team", b"contest\x00", b"\xff", b"kind", b"language"]
 
 
+def rows_of(rows, kind):
+    return [row for row in rows if len(row) == 5 and row[0] == kind]
+
+
 def spoil_field(rng, rows):
-    row = rng.choice(rows)
-    bad = BAD_FIELDS.get(row[0])
-    if bad and len(row) == 5:
-        place = rng.choice(list(bad))
-        row[place] = rng.choice(bad[place])
+    """A bad value in a field of some kind's record, at times in two fields."""
+    kind = rng.choice(list(BAD_FIELDS))
+    of_kind = rows_of(rows, kind)
+    if of_kind:
+        row = rng.choice(of_kind)
+        for place in rng.sample(list(BAD_FIELDS[kind]), rng.choice([1, 1, 1, 2])):
+            row[place] = rng.choice(BAD_FIELDS[kind][place])
 
 
 def spoil_time(rng, rows):
-    """A contest time outside the contest, where there is a submission."""
-    submissions = [row for row in rows if len(row) == 5 and row[0] == b"submission"]
-    if submissions:
-        rng.choice(submissions)[3] = rng.choice(LATE_TIMES)
+    """A contest time outside the contest, at times beside a team, a problem or a type that isn't there."""
+    submissions, contests = rows_of(rows, b"submission"), rows_of(rows, b"contest")
+    if submissions and contests:
+        row = rng.choice(submissions)
+        row[3] = rng.choice(LATE_TIMES + [contests[0][3]] * 5)
+        if rng.random() < 0.3:
+            row[rng.choice([1, 2, 4])] = b"nobody"
+
+
+def take_label(rng, rows):
+    """A problem with the label of another one."""
+    problems = rows_of(rows, b"problem")
+    if len(problems) > 1:
+        one, other = rng.sample(problems, 2)
+        one[2] = other[2]
 
 
 def spoil_kind(rng, rows):
@@ -190,17 +219,19 @@ def overfill(rng, rows):
         rows += [[b"team", b"full", b"Full", b"", b""], [b"problem", b"many", b"Many", b"Many", b"1"]]
         rows += [[kind, b"full", b"many", b"0:00:00", b""] for _ in range(500 + over)]
         return
-    standing = len({row[1] for row in rows if len(row) == 5 and row[0] == kind})
+    standing = len({row[1] for row in rows_of(rows, kind)})
     limit = 500 if kind == b"team" else 40
     for n in range(limit - standing + over):
         key = b"extra%d" % n
         tail = {b"type": [b"true", b"true"], b"problem": [b"Extra", b"7"], b"team": [b"", b""]}[kind]
         rows.append([kind, key, b"Extra %d" % n] + tail)
+    if kind == b"problem" and rng.random() < 0.5:
+        rows[-1][2] = rows_of(rows, kind)[0][2]
 
 
 ROW_FAULTS = [
     (spoil_field, 12), (spoil_kind, 2), (spoil_count, 2), (move_row, 2), (drop_row, 2), (repeat_row, 5),
-    (spoil_time, 2), (change_field, 4), (overfill, 1),
+    (spoil_time, 3), (take_label, 1), (change_field, 4), (overfill, 1),
 ]  # fmt: skip
 
 
