@@ -3,11 +3,12 @@
 
     compare.py [--program PATH] [--seed N] [--cases N] [--keep FOLDER] [--no-large]
 
-The boards in examples/ come first: both sides must print them. Then come the files of the seed, and at
-last a few large ones. Status, standard output and standard error must be equal byte for byte; where the words are refused
-(status 2) standard error is the program's own, and must only say something. Prints the first cases
-that differ, keeps their files in FOLDER (one of its own for each case: `file.csv`, `words`, and what
-each side gave), and ends with the line `N passed, M failed`. The exit status is 0 where M is 0.
+The boards in examples/ come first: both sides must print them. Then come the files of the seed, and
+at last a few large ones. Status, standard output and standard error must be equal byte for byte;
+where the words are refused (status 2) standard error is the program's own, and must only say
+something. Prints the first cases that differ, keeps their files in FOLDER (one of its own for each
+case: `file.csv`, `words`, and what each side gave), and ends with the line `N passed, M failed`. The
+exit status is 0 where M is 0.
 """
 
 import argparse

@@ -15,7 +15,7 @@ NAMES = [
     "Alpha", "Beta", "Gamma", "A", "Bits, Bytes & Co", 'The "Quoted"', "  spaced  ", "Zoë", "Ångström",
     "e\u0301tude", "東京大学", "清华大学", "서울대학교", "ﾃｽﾄ", "ＦＵＬＬ", "Привет", "🎉 party", "ñandú",
     "a rather long team name that takes more room than most of the others do", "x" * 200, "é" * 100,
-]  # fmt: skip
+]
 LABELS = ["A", "B", "C", "D", "Ä", "題", "題目題目題目", "long label", "exactly 9", '"', ",", "Z" * 30]
 IDS = ["a", "b", "c", "A", "B", "x1", "x-1", "x.1", "x_1", ".", "_", "0", "00", "t1", "t10", "t2", "Z" * 36]
 DURATIONS = [1, 999, 60_000, 600_000, 3_600_500, 18_000_000, 3_600_000_000]
@@ -102,7 +102,10 @@ class Plan:
         problem = self.rng.choice(self.problems)
         minute = self.rng.randrange(1, 30) * 60_000
         attempts = [(early, minute - 1, "no"), (early, minute, "ok"), (late, minute + 1_200_000, "ok")]
-        return [["submission", team, problem, reltime(self.rng, time), verdict] for team, time, verdict in attempts]
+        return [
+            ["submission", team, problem, reltime(self.rng, time), verdict]
+            for team, time, verdict in attempts
+        ]
 
     def rows(self):
         """All records: definitions in any order, some of them twice, then submissions."""
@@ -117,14 +120,17 @@ class Plan:
 # --- Faults in a record ----------------------------------------------------------------------------
 
 BAD_IDS = [b"", b"-a", b"a b", b"Z" * 37, b"a/b", "é".encode(), b"a\x00", b" a", b"a\n"]
-BAD_NAMES = [b"", b"x" * 201, b"a\tb", b"a\nb", b"a\rb", b"\x00", b"a\x7f", "a\u0085".encode(), b"a\xff", b"\xc3", b"\xed\xa0\x80", "é".encode() * 101]
+BAD_NAMES = [
+    b"", b"x" * 201, "é".encode() * 101, b"a\tb", b"a\nb", b"a\rb", b"\x00", b"a\x7f", "a\u0085".encode(),
+    b"a\xff", b"\xc3", b"\xed\xa0\x80",
+]
 BAD_TRUTHS = [b"", b"True", b"1", b"yes", b" true", b"false "]
 BAD_ORDINALS = [b"", b"65536", b"-1", b"+1", b"1.0", b" 1", b"0x1", b"99999999999999999999999", "٣".encode()]
 BAD_TIMES = [
     b"", b"5:00", b"0:60:00", b"0:00:60", b"0:05:00.5", b"0:05:00.0000", b"0:5:00", b"0:05:0", b":05:00",
     b"--0:05:00", b"+0:05:00", b" 0:05:00", b"0:05:00 ", b"0:05:00.", b"0-05-00", b"0:05:00,000",
     b"70380768:00:00", b"99999999999999999999:00:00", "٣:00:00".encode(),
-]  # fmt: skip
+]
 LATE_TIMES = [b"-0:00:00.001", b"-1:00:00", b"1000:00:00", b"70380767:59:59.999", b"-70380767:59:59.999"]
 BAD_DURATIONS = BAD_TIMES + [b"0:00:00", b"-0:00:00", b"-0:00:01", b"1000:00:00.001", b"1001:00:00"]
 BAD_FREEZES = BAD_TIMES[1:] + [b"-0:00:00.001", b"1000:00:00.001", b"5000:00:00"]
@@ -232,7 +238,7 @@ def overfill(rng, rows):
 ROW_FAULTS = [
     (spoil_field, 12), (spoil_kind, 2), (spoil_count, 2), (move_row, 2), (drop_row, 2), (repeat_row, 5),
     (spoil_time, 3), (take_label, 1), (change_field, 4), (overfill, 1),
-]  # fmt: skip
+]
 
 
 # --- The bytes of a file ---------------------------------------------------------------------------
@@ -261,7 +267,9 @@ def spell(rng, rows):
     return b"".join(parts)
 
 
-ODD_BYTES = [b'"', b'""', b",", b"\n", b"\r", b"\r\n", b"\x00", b" ", b"-", b":", b"0", b"a", b"\x7f", b"\xff", b"\x80"]
+ODD_BYTES = [
+    b'"', b'""', b",", b"\n", b"\r", b"\r\n", b"\x00", b" ", b"-", b":", b"0", b"a", b"\x7f", b"\xff", b"\x80",
+]
 
 
 def change_bytes(rng, data):
@@ -299,7 +307,7 @@ def spoil_start(rng, data):
         data[: len(data) // 2],
         data + b'"',
         data + b",",
-    ])  # fmt: skip
+    ])
 
 
 # --- Command lines ---------------------------------------------------------------------------------
@@ -313,8 +321,8 @@ def words_for(rng, plan):
     if rng.random() < 0.3:
         options.append(["--thawed"])
     if rng.random() < 0.5:
-        time = max(0, rng.choice(plan.marks + [plan.duration * 2, rng.randrange(plan.duration + 1)]) + rng.choice([-1, 0, 0, 1]))
-        text = reltime(rng, time)
+        mark = rng.choice(plan.marks + [plan.duration * 2, rng.randrange(plan.duration + 1)])
+        text = reltime(rng, max(0, mark + rng.choice([-1, 0, 0, 1])))
         options.append(rng.choice([["--at", text], [f"--at={text}"]]))
     rng.shuffle(options)
     return ["replay"] + [word for option in options for word in option]
@@ -322,9 +330,10 @@ def words_for(rng, plan):
 
 WRONG_WORDS = [
     ["--at"], ["--at", "5:00"], ["--at", ""], ["--at=-0:00:00.001"], ["--at=-1:00:00"], ["--at=0:60:00"],
-    ["--at=70380768:00:00"], ["--jury", "--jury"], ["--thawed", "--thawed"], ["--at", "0:01:00", "--at", "0:01:00"],
-    ["--jury=true"], ["--thawed="], ["--public"], ["jury"], ["file.csv"], ["--at", "--jury"], ["--JURY"], ["--thaw"],
-]  # fmt: skip
+    ["--at=70380768:00:00"], ["--jury", "--jury"], ["--thawed", "--thawed"],
+    ["--at", "0:01:00", "--at", "0:01:00"], ["--jury=true"], ["--thawed="], ["--public"], ["jury"],
+    ["file.csv"], ["--at", "--jury"], ["--JURY"], ["--thaw"],
+]
 ODD_WORDS = [["--at=-0:00:00"], ["--at=000:00:00"], ["--at=70380767:59:59.999"]]
 
 
@@ -359,12 +368,18 @@ def large_cases():
     """Files at the limit of a file's bytes, one byte over it, and others of unusual size."""
     head = b"kind,id,f1,f2,f3\ncontest,big,Big Cup,5:00:00,1:00:00\nteam,t1,Alpha,,\n"
     bad = b"kind,id,f1,f2,f3\nnonsense\ncontest,big,Big Cup,5:00:00,1:00:00\n"
+    mark = b"\xef\xbb\xbf"
+
+    def padded(text, size):
+        return ["replay"], text + b"\n" * (size - len(text))
+
     limit = 16_777_216
-    yield "exactly at the limit", ["replay"], head + b"\n" * (limit - len(head))
-    yield "a byte over the limit", ["replay"], head + b"\n" * (limit - len(head) + 1)
-    yield "at the limit with its byte order mark", ["replay"], b"\xef\xbb\xbf" + head + b"\n" * (limit - len(head) - 3)
-    yield "over the limit by its byte order mark", ["replay"], b"\xef\xbb\xbf" + head + b"\n" * (limit - len(head))
-    yield "over the limit and with a fault", ["replay"], bad + b"\n" * (limit - len(bad) + 1)
-    yield "zeros as hours", ["replay", "--at", "0" * 5000 + ":30:00"], head + b"problem,a,A,A," + b"0" * 100_000 + b"\n"
-    yield "one long field", ["replay"], head + b"team,t2,\"" + b"x" * 3_000_000 + b"\",,\n"
+    yield "exactly at the limit", *padded(head, limit)
+    yield "a byte over the limit", *padded(head, limit + 1)
+    yield "at the limit with its byte order mark", *padded(mark + head, limit)
+    yield "over the limit by its byte order mark", *padded(mark + head, limit + 3)
+    yield "over the limit and with a fault", *padded(bad, limit + 1)
+    zeros = b"problem,a,A,A," + b"0" * 100_000 + b"\n"
+    yield "zeros as hours", ["replay", "--at", "0" * 5000 + ":30:00"], head + zeros
+    yield "one long field", ["replay"], head + b'team,t2,"' + b"x" * 3_000_000 + b'",,\n'
     yield "one long record", ["replay"], head + b"," * 3_000_000 + b"\n"
