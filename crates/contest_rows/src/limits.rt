@@ -163,7 +163,7 @@ const SIZES: [(&str, usize, bool, &str, &str); 6] = [
         "refused: E6 BodyTooLarge\n",
     ),
     (
-        "kind,id,f1,f2,f3\nnonsense\ncontest,c,Cup,1:00:00,\n",
+        "kind,id,f1,f2,f3\ncontest,c,Cup,1:00:00,\nnonsense\n",
         FILE_LIMIT + 1,
         false,
         "",

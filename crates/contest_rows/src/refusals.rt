@@ -115,7 +115,7 @@ fn names_the_cause(rt: HostRuntime) -> Result<(), Fail> {
 }
 
 /// What is shown, the file, and the line that refuses it.
-const FILES: [(&str, &str, &str); 25] = [
+const FILES: [(&str, &str, &str); 26] = [
     ("nothing at all", "", "refused: E1 Malformed\n"),
     ("line ends alone", "\n\r\n", "refused: E1 Malformed\n"),
     (
@@ -164,8 +164,8 @@ const FILES: [(&str, &str, &str); 25] = [
         "refused: E1 Malformed\n",
     ),
     (
-        "no contest record, and a fault",
-        "kind,id,f1,f2,f3\nteam,t1\n",
+        "no contest record, and a bad second record",
+        "kind,id,f1,f2,f3\nteam,t1,Alpha,,\nteam,t2\n",
         "refused: E1 Malformed\n",
     ),
     (
@@ -227,6 +227,11 @@ const FILES: [(&str, &str, &str); 25] = [
         "a contest's name of nothing",
         "kind,id,f1,f2,f3\ncontest,c,,1:00:00,\n",
         "refused: E22 ImportRow 1 Malformed\n",
+    ),
+    (
+        "the first fault counts, and not a later record with too few fields",
+        "kind,id,f1,f2,f3\ncontest,c,Cup,1:00:00,\nproblem,a,A,Apples,0\nteam,t,T,,\nsubmission,t,a,9:00:00,\nteam,t\n",
+        "refused: E22 ImportRow 4 NotOpen\n",
     ),
     (
         "blank lines have no number, equal repeats have one, and the first fault counts",
