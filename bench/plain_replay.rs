@@ -4,6 +4,7 @@
 //! It takes files without a fault and without quotation marks, in ASCII, and prints the public board.
 //! It checks nothing, so it does less work than `desk`.
 
+use std::cmp::Reverse;
 use std::collections::HashMap;
 use std::fmt::Write as _;
 use std::io::{Read, Write};
@@ -184,7 +185,7 @@ fn cells_of(contest: &Contest) -> Vec<Cell> {
 /// A team's row, its fields in the order that rows are compared by.
 #[derive(PartialEq, Eq, PartialOrd, Ord)]
 struct Row<'a> {
-    score: (std::cmp::Reverse<u64>, u64, u64),
+    score: (Reverse<u64>, u64, u64),
     name: &'a str,
     id: &'a str,
     team: usize,
@@ -208,7 +209,7 @@ fn rows_of<'a>(contest: &Contest<'a>, cells: &[Cell]) -> Vec<Row<'a>> {
                 }
             }
             Row {
-                score: (std::cmp::Reverse(solved), total, last),
+                score: (Reverse(solved), total, last),
                 name: team.name,
                 id: team.id,
                 team: place,
@@ -219,39 +220,30 @@ fn rows_of<'a>(contest: &Contest<'a>, cells: &[Cell]) -> Vec<Row<'a>> {
     rows
 }
 
-/// The board at the contest's end.
-fn board(contest: &Contest) -> String {
-    let cells = cells_of(contest);
-    let rows = rows_of(contest, &cells);
-    let mut order: Vec<usize> = (0..contest.problems.len()).collect();
-    order.sort_by_key(|&place| (contest.problems[place].ordinal, contest.problems[place].id));
-    let names = rows
-        .iter()
-        .map(|row| row.name.len())
-        .max()
-        .unwrap_or(0)
-        .max(4);
-    let (name, end) = (contest.name, contest.duration);
-    let (hours, minutes, seconds, millis) = (
-        end / 3_600_000,
-        end / 60_000 % 60,
-        end / 1000 % 60,
-        end % 1000,
-    );
+/// The name, and the line that tells the moment.
+fn write_top(contest: &Contest, out: &mut String) {
+    let end = contest.duration;
+    let (hours, minutes) = (end / 3_600_000, end / 60_000 % 60);
+    let (seconds, millis) = (end / 1000 % 60, end % 1000);
     let word = if contest.freeze.is_some() {
         "frozen"
     } else {
         "ended"
     };
-    let mut out = format!("{name}\nPublic board, contest time {hours}:{minutes:02}:{seconds:02}.{millis:03}, {word}\n");
-    write!(
-        out,
-        "{:>4}  {:<names$}  {:>6}  {:>6}",
-        "Rank", "Team", "Solved", "Time"
-    )
-    .unwrap();
-    for &place in &order {
-        write!(out, "  {:>9}", contest.problems[place].label).unwrap();
+    writeln!(out, "{}", contest.name).unwrap();
+    write!(out, "Public board, contest time ").unwrap();
+    writeln!(out, "{hours}:{minutes:02}:{seconds:02}.{millis:03}, {word}").unwrap();
+}
+
+/// The heading and the rows, for problems in this order.
+fn write_table(contest: &Contest, order: &[usize], out: &mut String) {
+    let cells = cells_of(contest);
+    let rows = rows_of(contest, &cells);
+    let widest = rows.iter().map(|row| row.name.len()).max();
+    let names = widest.unwrap_or(0).max(4);
+    write!(out, "Rank  {:<names$}  Solved    Time", "Team").unwrap();
+    for &problem in order {
+        write!(out, "  {:>9}", contest.problems[problem].label).unwrap();
     }
     out.push('\n');
     let (mut rank, mut text) = (0, String::new());
@@ -259,19 +251,29 @@ fn board(contest: &Contest) -> String {
         if place == 0 || row.score != rows[place - 1].score {
             rank = place + 1;
         }
-        let (std::cmp::Reverse(solved), total, _) = row.score;
+        let (Reverse(solved), total, _) = row.score;
         write!(
             out,
             "{rank:>4}  {:<names$}  {solved:>6}  {total:>6}",
             row.name
         )
         .unwrap();
-        for &problem in &order {
+        for &problem in order {
             cells[row.team * contest.problems.len() + problem].write(&mut text);
             write!(out, "  {text:>9}").unwrap();
         }
         out.push('\n');
     }
+}
+
+/// The board at the contest's end.
+fn board(contest: &Contest) -> String {
+    let problems = &contest.problems;
+    let mut order: Vec<usize> = (0..problems.len()).collect();
+    order.sort_by_key(|&place| (problems[place].ordinal, problems[place].id));
+    let mut out = String::new();
+    write_top(contest, &mut out);
+    write_table(contest, &order, &mut out);
     out
 }
 
