@@ -4,6 +4,8 @@ pub mod ReplayRows
 pub mod Replayed
 pub mod TeamsSoFar
 pub mod ReplayFile
+pub mod Columns
+pub mod CellText
 pub mod Words
 pub mod Input
 pub mod Output

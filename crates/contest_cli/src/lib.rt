@@ -1,6 +1,8 @@
 //! The commands of the program `desk`, over any reader and writers.
 #![tactic(auto)]
 
+mod cell_text;
+mod columns;
 mod commands;
 mod fields;
 mod input;
@@ -16,6 +18,7 @@ mod replaying;
 mod stop;
 mod team_so_far;
 mod text;
+mod visibility;
 mod words;
 
 pub use commands::{run, start};

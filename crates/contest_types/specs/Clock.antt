@@ -1,7 +1,9 @@
 -- The contest's clock: its end, its freeze, its thaw (Contest API 2023-06, contest and state
 -- objects; DOMjudge manual: the freeze goes by submission time). Moments are milliseconds since 1970.
-use Rattle.std.specs.Prelude.{ℕ, ◌+◌, ◌-◌, Bool, false, not, ◌&&◌, nat_le, Option, Some, None}
+use Rattle.std.specs.Prelude.{ℕ, ◌+◌, ◌-◌, Bool, false, not, ◌&&◌, nat_le, Option, Some, None, if◌then◌else◌}
 use Rattle.contest_types.specs.declared.marks.Marks.{Marks}
+use Rattle.contest_types.specs.declared.audience.Phase.{Phase}
+use Rattle.contest_types.specs.declared.audience.Phase.TheVariants.{Before, Running, Ended}
 use Rattle.contest_types.specs.Setup.{Setup}
 
 -- at or after a moment that is there
@@ -42,3 +44,10 @@ is_freezing s marks now = is_frozen s marks now && not (is_thawed marks now)
 -- the results are final now
 abbrev pub is_finalized : Marks → ℕ → Bool
 is_finalized marks now = reached marks.finalized now
+
+-- where the contest stands now, by its start and its end
+abbrev pub phase_of : (start end : Option ℕ) → ℕ → Phase
+phase_of start end now = if reached end now then Ended else (if reached start now then Running else Before)
+
+abbrev pub phase_at : Setup → Marks → ℕ → Phase
+phase_at s marks now = phase_of marks.start (end_of s marks) now
