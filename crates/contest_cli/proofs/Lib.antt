@@ -4,3 +4,4 @@ pub mod FieldLemmas
 pub mod ReplayedLemmas
 mod ReplayLemmas
 pub mod ReplayFileLemmas
+pub mod TextLemmas

@@ -6,6 +6,7 @@ pub mod TeamsSoFar
 pub mod ReplayFile
 pub mod Columns
 pub mod CellText
+pub mod BoardText
 pub mod Words
 pub mod Input
 pub mod Output

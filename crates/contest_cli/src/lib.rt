@@ -1,6 +1,7 @@
 //! The commands of the program `desk`, over any reader and writers.
 #![tactic(auto)]
 
+mod board_text;
 mod cell_text;
 mod columns;
 mod commands;
