@@ -1,15 +1,17 @@
 -- What a replay's state keeps of its submissions, as it grows.
-use Rattle.std.proofs.Common.{ℕ, zero, suc, ◌≡◌, ◌≢◌, ◌+◌, ◌<◌, ◌≤◌, ◌⊎◌, inl, inr, Bool, true, false, cond, List, [], ◌∷◌, ◌++◌, length, map, get_or, Option, Some, None, refl, sym, ap, subst, ◌∙◌, arith, All, append-nil}
-use Rattle.std.specs.Prelude.{◌==◌, nat_eq, nat_le, filter, fold, max, IfSome, slice_set}
+use Rattle.std.proofs.Common.{ℕ, zero, suc, ◌≡◌, ◌≢◌, ◌+◌, ◌<◌, ◌≤◌, ◌⊎◌, inl, inr, Bool, true, false, cond, List, [], ◌∷◌, ◌++◌, length, map, get_or, Option, Some, None, refl, sym, ap, subst, ◌∙◌, arith, All, append-nil, add-zero, ◌*◌}
+use Rattle.std.specs.Prelude.{◌==◌, nat_eq, nat_le, filter, fold, max, IfSome, slice_set, sum_by}
 use Rattle.std.proofs.lemmas.Bool.{cases_Bool, false≢true, eqb-true, eq-eqb}
 use Rattle.std.proofs.lemmas.Bool.Decides.{nat_tests}
 use Rattle.std.proofs.Math.Seq.{get_or-append_seam}
 use Rattle.std.proofs.lemmas.List.{length-append, map-append, get_or_append_left, get_or-set_same, get_or-set_other, length-set}
-use Rattle.std.proofs.lemmas.List.Sums.{fold-append}
-use Rattle.std.proofs.lemmas.List.Elements.{filter-append, All-push, All-tail}
+use Rattle.std.proofs.lemmas.List.Sums.{fold-append, sum_by_push, sum_by-set, sum_by-le, length-filter, count_by-le-length}
+use Rattle.std.proofs.lemmas.List.Elements.{filter-append, All-push, All-tail, All-filter}
 use Rattle.std.specs.Str.{chars}
 use Rattle.contest_types.specs.Setup.{Setup}
 use Rattle.contest_types.specs.NameText.{name_of}
+use Rattle.contest_types.specs.declared.limits.TheConstants.{TEAMS, TEAM_SUBMISSIONS}
+use Rattle.contest_types.specs.declared.marks.Marks.{Marks}
 use Rattle.contest_score.specs.Masks.{IsAdmitted}
 use Rattle.contest_score.specs.declared.submission.JudgedSubmission.{JudgedSubmission}
 use Rattle.contest_cli.specs.declared.team_so_far.TeamSoFar.{TeamSoFar}
@@ -69,12 +71,17 @@ IsReplayed-wider s t us teams head same problems types r =
       all = r.all ∙ sym same;
       told = r.told;
       early = λ i d l. rw duration (r.early i d l);
+      few = r.few;
+      total = r.total;
       lasting = rw duration r.lasting;
       admitted = admitted_wider s t us (omega arith) problems types r.admitted;
     }
 
 at_end : (i n : ℕ) → i < n + 1 → (i < n) ⊎ (i ≡ n)
 at_end i n h = grind arith
+
+abbrev pub count_in : TeamSoFar → ℕ
+count_in t = t.count
 
 abbrev pub no_submissions : TeamSoFar
 no_submissions = record { last = 0; count = 0 }
@@ -97,6 +104,11 @@ IsReplayed-team s t us teams head more problems types r =
         | inl low ↦ rw (get_or_append_left teams (no_submissions ∷ []) d i low, duration) (r.early i d low)
         | inr e ↦ rw (e, get_or-append_seam teams no_submissions [] d, duration) r.lasting
       ];
+      few = λ i d l. elim (at_end i (length teams) (omega arith)) [
+        | inl low ↦ rw (get_or_append_left teams (no_submissions ∷ []) d i low) (r.few i d low)
+        | inr e ↦ rw (e, get_or-append_seam teams no_submissions [] d) (omega arith)
+      ];
+      total = r.total ∙ sym (sum_by_push count_in teams no_submissions ∙ add-zero _);
       lasting = rw duration r.lasting;
       admitted = admitted_wider s t us (omega arith) problems types r.admitted;
     }
@@ -108,9 +120,9 @@ latest : (last time : ℕ) → max last (max time last) ≡ max time last
 latest last time = omega arith
 
 -- one more submission
-pub IsReplayed-submission : (s : Setup) (us : List JudgedSubmission) (teams : List TeamSoFar) (p : NamedPlaces) (old : TeamSoFar) (time : ℕ) → IsReplayed s us teams → AreThere s p → old ≡ get_or teams p.team old → time < s.head.duration
+pub IsReplayed-submission : (s : Setup) (us : List JudgedSubmission) (teams : List TeamSoFar) (p : NamedPlaces) (old : TeamSoFar) (time : ℕ) → IsReplayed s us teams → AreThere s p → old ≡ get_or teams p.team old → old.count < TEAM_SUBMISSIONS → time < s.head.duration
     → IsReplayed s (us ++ record { team = p.team; problem = p.problem; time = max time old.last; verdict = p.verdict } ∷ []) (slice_set teams p.team (record { last = max time old.last; count = old.count + 1 }))
-IsReplayed-submission s us teams p old time r there at short =
+IsReplayed-submission s us teams p old time r there at room short =
     let u : JudgedSubmission = record { team = p.team; problem = p.problem; time = max time old.last; verdict = p.verdict } in
     let new : TeamSoFar = record { last = max time old.last; count = old.count + 1 } in
     let all = r.all in
@@ -126,6 +138,7 @@ IsReplayed-submission s us teams p old time r there at short =
     } in
     let other_told = λ (i : ℕ) (t : TeamSoFar) (e : i ≢ p.team) (o : TellsTeam us i t). (let same = pushed_other i u us (differ p.team i (λ f. e (sym f))) in let r : TellsTeam (us ++ u ∷ []) i t = record { last = o.last ∙ sym (ap (λ vs. fold max 0 (map (λ (v : JudgedSubmission). v.time) vs)) same); count = o.count ∙ sym (ap length same) } in r) in
     let long = length-set teams p.team new in
+    let swapped : sum_by count_in (slice_set teams p.team new) + old.count ≡ sum_by count_in teams + (old.count + 1) = rw (← at) at (sum_by-set count_in teams p.team new old low) in
     record {
       all = long ∙ all;
       told = λ i d l. elim (cases_Bool (nat_eq i p.team)) [
@@ -136,6 +149,27 @@ IsReplayed-submission s us teams p old time r there at short =
         | inl t ↦ rw (same_team i p.team t, get_or-set_same teams p.team new d low) (omega arith)
         | inr f ↦ (let e : i ≢ p.team = λ h. false≢true (sym f ∙ eq-eqb i p.team h) in rw (get_or-set_other teams p.team i new d e) (r.early i d (omega arith)))
       ];
+      few = λ i d l. elim (cases_Bool (nat_eq i p.team)) [
+        | inl t ↦ rw (same_team i p.team t, get_or-set_same teams p.team new d low) (omega arith)
+        | inr f ↦ (let e : i ≢ p.team = λ h. false≢true (sym f ∙ eq-eqb i p.team h) in rw (get_or-set_other teams p.team i new d e) (r.few i d (omega arith)))
+      ];
+      total = omega (arith, length-append us (u ∷ []), r.total, swapped);
       lasting = r.lasting;
       admitted = All-push (IsAdmitted s reading_marks) us u r.admitted (record { team = there.team; problem = there.problem; verdict = there.verdict; started = from_zero (max time old.last) });
     }
+
+-- a replay has few submissions
+pub few_submissions : (s : Setup) (us : List JudgedSubmission) (teams : List TeamSoFar) → IsReplayed s us teams → length s.teams ≤ TEAMS → length us ≤ 250_000
+few_submissions s us teams r few =
+    let most = sum_by-le count_in TEAM_SUBMISSIONS teams r.few in
+    omega (arith, most, r.total, r.all)
+
+-- what is left of the submissions is there too, whatever the thaw
+pub admitted_kept : (s : Setup) (marks : Marks) (p : JudgedSubmission → Bool) (us vs : List JudgedSubmission) → marks.start ≡ Some 0 → vs ≡ filter p us → All (IsAdmitted s reading_marks) us → All (IsAdmitted s marks) vs
+admitted_kept s marks p us vs start kept h i d l =
+    let all = All-filter p (IsAdmitted s reading_marks) us h in
+    let a : IsAdmitted s reading_marks (get_or vs i d) = rw kept (all i d (rw kept at l)) in
+    record { team = a.team; problem = a.problem; verdict = a.verdict; started = rw start a.started }
+
+pub fewer : (p : JudgedSubmission → Bool) (us : List JudgedSubmission) → length (filter p us) ≤ length us
+fewer p us = omega (arith, length-filter p us, count_by-le-length p us)

@@ -1,6 +1,7 @@
 -- What a replay's state keeps of its submissions.
-use Rattle.std.specs.Prelude.{ℕ, ◌≡◌, ◌<◌, List, length, All, Some, None, IfSome, get_or}
+use Rattle.std.specs.Prelude.{ℕ, ◌≡◌, ◌<◌, ◌≤◌, List, length, sum_by, All, Some, None, IfSome, get_or}
 use Rattle.contest_types.specs.Setup.{Setup}
+use Rattle.contest_types.specs.declared.limits.TheConstants.{TEAM_SUBMISSIONS}
 use Rattle.contest_types.specs.declared.marks.Marks.{Marks}
 use Rattle.contest_score.specs.Masks.{IsAdmitted}
 use Rattle.contest_score.specs.declared.submission.JudgedSubmission.{JudgedSubmission}
@@ -22,6 +23,8 @@ pub record IsReplayed (s : Setup) (us : List JudgedSubmission) (teams : List Tea
   pub all : length teams ≡ length s.teams
   pub told : (i : ℕ) (d : TeamSoFar) → i < length teams → TellsTeam us i (get_or teams i d)
   pub early : (i : ℕ) (d : TeamSoFar) → i < length teams → (get_or teams i d).last < s.head.duration
+  pub few : (i : ℕ) (d : TeamSoFar) → i < length teams → (get_or teams i d).count ≤ TEAM_SUBMISSIONS
+  pub total : length us ≡ sum_by (λ t. t.count) teams
   pub lasting : 0 < s.head.duration
   pub admitted : All (IsAdmitted s reading_marks) us
 

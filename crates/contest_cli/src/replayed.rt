@@ -1,15 +1,18 @@
 //! A contest as the records of a replay build it up.
-ghost use Rattle.std.specs.Prelude.{◌≡◌, ◌<◌, Ok, IfOk, IfErr, OnOk};
+ghost use Rattle.std.specs.Prelude.{◌≡◌, ◌<◌, Ok, Some, IfOk, IfErr, OnOk, All, ◌^◌, length, nat_le, string_bytes};
 ghost use Rattle.contest_types.specs.Additions.{IsFaultOf};
 ghost use Rattle.contest_cli.specs.Replayed.{any_language, started, with_type_row, with_problem_row, with_team_row, with_submission, submitted, within};
 ghost use Rattle.contest_cli.specs.TeamsSoFar.{AreThere};
+ghost use Rattle.contest_cli.specs.Text.{shown_text, text_of, up_to};
+ghost use Rattle.contest_score.specs.Masks.{IsAdmitted};
 
+use crate::board_text::board_text;
 use crate::fields::Fields;
 use crate::named_places::{NamedPlaces, missing, places_in};
 use crate::team_so_far::TeamSoFar;
-use contest_score::JudgedSubmission;
+use contest_score::{JudgedSubmission, board, plain_cells};
 use contest_types::{
-    Cause, ContestHead, Id, JudgementType, Language, Moment, Name, Problem, Refusal, RelTime, RowFault,
+    Audience, Cause, ContestHead, Id, JudgementType, Language, Marks, Moment, Name, Problem, Refusal, RelTime, RowFault,
     Settings, Team, TimeSpan, limits,
 };
 use std::alloc::{AllocError, Global};
@@ -69,6 +72,35 @@ pub(crate) fn memory_of(refusal: Refusal) -> RowFault
 }
 
 impl Replayed {
+    /// What the contest is set up with.
+    pub(crate) fn settings(&self) -> &Settings
+        ensures { result.now ≡ self.now.settings }
+    {
+        &self.settings
+    }
+
+    /// The text of its board for a caller at a moment, of the submissions up to that moment.
+    ///
+    /// # Errors
+    ///
+    /// Want of memory alone.
+    pub(crate) fn into_text(
+        self,
+        alloc: Global,
+        marks: &Marks,
+        now: Moment,
+        audience: Audience,
+    ) -> Result<String, Refusal>
+        requires { marks.now.start ≡ Some 0 }
+        ensures text { IfOk result (λ text. string_bytes text ≡ shown_text audience marks.now now self) }
+        ensures err { IfErr result (λ e. e ≡ Refusal.Memory) }
+    {
+        let teams = self.settings.teams().len();
+        prove!(teams <= limits::TEAMS);
+        let submissions = up_to(now, self.submissions);
+        text_of(alloc, &self.settings, marks, now, audience, &submissions)
+    }
+
     /// The contest with its head alone.
     ///
     /// # Errors
@@ -188,4 +220,38 @@ fn time_within(time: RelTime, duration: TimeSpan) -> Option<u64>
     } else {
         None
     }
+}
+
+/// The submissions up to a moment.
+fn up_to(now: Moment, submissions: Vec<JudgedSubmission>) -> Vec<JudgedSubmission>
+    ensures { result.items ≡ up_to now submissions.items }
+{
+    let mut submissions = submissions;
+    submissions.retain(|submission| is_up_to(now, submission));
+    submissions
+}
+
+fn is_up_to(now: Moment, submission: &JudgedSubmission) -> bool
+    ensures { result ≡ nat_le submission.now.time now }
+{
+    submission.time.milliseconds() <= now.milliseconds()
+}
+
+/// The text of the board of these submissions, for a caller at a moment.
+fn text_of(
+    alloc: Global,
+    settings: &Settings,
+    marks: &Marks,
+    now: Moment,
+    audience: Audience,
+    submissions: &[JudgedSubmission],
+) -> Result<String, Refusal>
+    requires few { length submissions.now < 2 ^ 32 }
+    requires admitted { All (IsAdmitted settings.now marks.now) submissions.now }
+    ensures text { IfOk result (λ text. string_bytes text ≡ text_of audience settings.now marks.now now submissions.now) }
+    ensures err { IfErr result (λ e. e ≡ Refusal.Memory) }
+{
+    let cells = plain_cells(alloc, settings, marks, audience, now, submissions)?;
+    let board = board(alloc, settings, &cells)?;
+    board_text(alloc, settings, marks, now, audience, &board)
 }

@@ -26,6 +26,9 @@ impl Model for TimeSpan {
 }
 
 impl TimeSpan {
+    /// No time.
+    pub const ZERO: TimeSpan = TimeSpan { milliseconds: 0 };
+
     /// So many milliseconds; none past the greatest relative time.
     pub fn new(milliseconds: u64) -> Option<TimeSpan>
         ensures { SomeIff result (milliseconds ≤ farthest) milliseconds }
