@@ -13,8 +13,8 @@ use crate::columns::{push_left, push_right};
 use crate::visibility::phase;
 use contest_score::{Board, Cell, Row, problem_order};
 use contest_types::{
-    Audience, Marks, Moment, Phase, Refusal, RelTime, Settings, freeze_of, is_finalized, is_freezing,
-    is_thawed, print_reltime,
+    Audience, Marks, Moment, Phase, Refusal, RelTime, Settings, freeze_of, is_finalized,
+    is_freezing, is_thawed, print_reltime,
 };
 use std::alloc::{AllocError, Global};
 use unicode_width::UnicodeWidthStr;
@@ -107,11 +107,7 @@ fn numbered_id(settings: &Settings, number: usize) -> &str
 }
 
 /// Pushes the contest time, or a dash where no start is set.
-fn push_contest_time(
-    out: &mut String,
-    start: Option<Moment>,
-    now: Moment,
-) -> Result<(), AllocError>
+fn push_contest_time(out: &mut String, start: Option<Moment>, now: Moment) -> Result<(), AllocError>
     ensures { OnOk result (string_bytes out.new ≡ string_bytes out.old ++ contest_time start now) }
 {
     match start {
@@ -283,7 +279,14 @@ fn push_row(
     let solved = number_text(alloc, u64::from(row.score.solved))?;
     let time = number_text(alloc, row.score.total)?;
     let name = team_name(settings, row.team);
-    push_front(out, width, rank.as_str(), name, solved.as_str(), time.as_str())?;
+    push_front(
+        out,
+        width,
+        rank.as_str(),
+        name,
+        solved.as_str(),
+        time.as_str(),
+    )?;
     push_cells(out, scratch, row.cells.as_slice())?;
     out.push_str("\n")
 }

@@ -2,9 +2,7 @@
 ghost use Rattle.std.specs.Prelude.{◌≡◌, IfOk, IfErr};
 ghost use Rattle.contest_cli.specs.ReplayRows.{head_of, type_of, problem_of, team_of};
 
-use crate::fields::{
-    Fields, flag, flag_or_empty, ordinal, time_span, time_span_or_empty,
-};
+use crate::fields::{Fields, flag, flag_or_empty, ordinal, time_span, time_span_or_empty};
 use contest_types::{ContestHead, Id, JudgementType, Medals, Name, Problem, Refusal, Rows, Team};
 use std::alloc::Global;
 
@@ -15,10 +13,7 @@ const PENALTY_TIME: u32 = 20;
 const MEDALS: u32 = 4;
 
 /// The contest of a record `contest`: id, name, duration, and the freeze's duration or nothing.
-pub(crate) fn head_in(
-    alloc: Global,
-    fields: &Fields<'_>,
-) -> Result<Option<ContestHead>, Refusal>
+pub(crate) fn head_in(alloc: Global, fields: &Fields<'_>) -> Result<Option<ContestHead>, Refusal>
     ensures value { IfOk result (λ found. found ≡ head_of fields.now) }
     ensures err { IfErr result (λ e. e ≡ Refusal.Memory) }
 {
@@ -51,10 +46,7 @@ pub(crate) fn head_in(
 
 /// The judgement type of a record `type`: id, name, whether it solves, and whether it costs penalty
 /// time.
-pub(crate) fn type_in(
-    alloc: Global,
-    fields: &Fields<'_>,
-) -> Result<Option<JudgementType>, Refusal>
+pub(crate) fn type_in(alloc: Global, fields: &Fields<'_>) -> Result<Option<JudgementType>, Refusal>
     ensures value { IfOk result (λ found. found ≡ type_of fields.now) }
     ensures err { IfErr result (λ e. e ≡ Refusal.Memory) }
 {

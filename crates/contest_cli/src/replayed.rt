@@ -12,8 +12,8 @@ use crate::named_places::{NamedPlaces, missing, places_in};
 use crate::team_so_far::TeamSoFar;
 use contest_score::{JudgedSubmission, board, plain_cells};
 use contest_types::{
-    Audience, Cause, ContestHead, Id, JudgementType, Language, Marks, Moment, Name, Problem, Refusal, RelTime, RowFault,
-    Settings, Team, TimeSpan, limits,
+    Audience, Cause, ContestHead, Id, JudgementType, Language, Marks, Moment, Name, Problem,
+    Refusal, RelTime, RowFault, Settings, Team, TimeSpan, limits,
 };
 use std::alloc::{AllocError, Global};
 use std::marker::Model;

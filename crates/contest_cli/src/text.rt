@@ -29,7 +29,11 @@ pub(crate) fn replay_text(
 fn audience_for(jury: bool) -> Audience
     ensures { result ≡ audience_for jury }
 {
-    if jury { Audience::Jury } else { Audience::Public }
+    if jury {
+        Audience::Jury
+    } else {
+        Audience::Public
+    }
 }
 
 /// The marks of a replay: it starts at moment 0 and, where it is thawed, it is from its end on.
