@@ -4,3 +4,5 @@ pub mod Keys
 pub mod Table
 pub mod Masks
 pub mod Counting
+pub mod Contest
+pub mod Awards

@@ -1,7 +1,9 @@
 -- The contest's clock: its end, its freeze, its thaw (Contest API 2023-06, contest and state
 -- objects; DOMjudge manual: the freeze goes by submission time). Moments are milliseconds since 1970.
-use Rattle.std.specs.Prelude.{ℕ, ◌+◌, ◌-◌, Bool, false, not, ◌&&◌, nat_le, Option, Some, None}
+use Rattle.std.specs.Prelude.{ℕ, ◌+◌, ◌-◌, Bool, false, not, ◌&&◌, nat_le, Option, Some, None, if◌then◌else◌}
 use Rattle.contest_types.specs.declared.marks.Marks.{Marks}
+use Rattle.contest_types.specs.declared.audience.Phase.{Phase}
+use Rattle.contest_types.specs.declared.audience.Phase.TheVariants as phase
 use Rattle.contest_types.specs.Setup.{Setup}
 
 -- at or after a moment that is there
@@ -22,6 +24,11 @@ before (Some moment) (Some span) = Some (moment - span)
 -- the end: the start and the duration
 abbrev pub end_of : Setup → Marks → Option ℕ
 end_of s marks = after marks.start s.head.duration
+
+-- where the contest stands: running from the start on, up to the end
+abbrev pub phase_at : Setup → Marks → ℕ → Phase
+phase_at s marks now =
+    if not (reached marks.start now) then phase.Before else (if reached (end_of s marks) now then phase.Ended else phase.Running)
 
 -- the freeze moment: so long before the end
 abbrev pub freeze_of : Setup → Marks → Option ℕ
