@@ -8,3 +8,5 @@ pub mod RelTimeLemmas
 pub mod Times
 pub mod Printed
 pub mod RelTimeReading
+pub mod OrderLemmas
+pub mod SightLemmas

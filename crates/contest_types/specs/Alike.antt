@@ -2,7 +2,7 @@
 -- compared: not proposals, rejudgings, files, entry points or keys of others, hidden teams'
 -- submissions, releases on others' frozen submissions, clarifications of other teams, who wrote for
 -- the jury, or the order of acceptance across teams.
-use Rattle.std.specs.Prelude.{◌≡◌, ◌≢◌, ℕ, Bool, true, false, List, [], map, Option, None, if◌then◌else◌}
+use Rattle.std.specs.Prelude.{◌≡◌, ◌≢◌, ℕ, Bool, false, List, [], map, Option, None, if◌then◌else◌}
 use Rattle.std.specs.Option.{option_and_then}
 use Rattle.contest_types.specs.Clock.{is_frozen, is_thawed}
 use Rattle.contest_types.specs.TeamPlaces.{is_public}
@@ -62,19 +62,28 @@ open_clarification a c = record {
   key = if c.from_jury then None else c.key;
 }
 
+-- what an audience may learn of one team's submissions before the thaw: its own whole, those of
+-- another team as far as they are open to all, of a hidden one nothing
+pub data TeamSight : Type 0 where
+  Whole : List OwnRecord → TeamSight
+  Open : List OpenRecord → TeamSight
+  Nothing : TeamSight
+
+abbrev pub sight_of : Audience → ContestState → ℕ → TeamSight
+sight_of a x team =
+    if owns a team then Whole (map (own_record x) (submissions_of team x.submissions))
+    else (if is_public x.fixed.settings team then Open (map (open_record x) (submissions_of team x.submissions)) else Nothing)
+
+-- what it may learn of one addressee's clarifications
+abbrev pub told_of : Audience → ContestState → Addressee → List OpenClarification
+told_of a x addressee = if hears a addressee then map (open_clarification a) (clarifications_to addressee x.clarifications) else []
+
 -- the two contests are alike for the audience. The public is an audience that owns no team
 pub record Alike (a : Audience) (x y : ContestState) : Type 0 where
   -- the settings, the accounts and the marks
   pub fixed : x.fixed ≡ y.fixed
-  -- its own submissions
-  pub own : (team : ℕ) → owns a team ≡ true
-      → map (own_record x) (submissions_of team x.submissions) ≡ map (own_record y) (submissions_of team y.submissions)
-  -- those of each other team that isn't hidden
-  pub others : (team : ℕ) → owns a team ≡ false → is_public x.fixed.settings team ≡ true
-      → map (open_record x) (submissions_of team x.submissions) ≡ map (open_record y) (submissions_of team y.submissions)
-  -- the clarifications that it hears
-  pub told : (addressee : Addressee) → hears a addressee ≡ true
-      → map (open_clarification a) (clarifications_to addressee x.clarifications) ≡ map (open_clarification a) (clarifications_to addressee y.clarifications)
+  pub teams : (team : ℕ) → sight_of a x team ≡ sight_of a y team
+  pub told : (addressee : Addressee) → told_of a x addressee ≡ told_of a y addressee
 
 -- the audience isn't the jury, and the contest isn't thawed: verdicts may be held back from it
 pub record MayBeHeld (a : Audience) (now : ℕ) (x : ContestState) : Type 0 where

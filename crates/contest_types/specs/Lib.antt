@@ -17,3 +17,4 @@ pub mod Masks
 pub mod State
 pub mod Sight
 pub mod Alike
+pub mod Laws

@@ -12,6 +12,7 @@ mod decimal;
 mod digest;
 mod id;
 mod id_list;
+pub mod laws;
 pub mod limits;
 mod marks;
 mod mask;
