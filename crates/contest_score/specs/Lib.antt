@@ -6,3 +6,4 @@ pub mod Masks
 pub mod Counting
 pub mod Contest
 pub mod Awards
+pub mod Laws

@@ -6,6 +6,7 @@ mod attempt;
 mod cell;
 mod cells;
 mod counting;
+pub mod laws;
 mod order;
 mod ranking;
 mod row;
