@@ -9,17 +9,16 @@ use contest_types::{Marks, Moment, Phase, Settings, end_of};
 pub(crate) fn phase(marks: &Marks, settings: &Settings, now: Moment) -> Phase
     ensures { result ≡ phase_at settings.now marks.now now }
 {
-    if has_come(end_of(settings, marks), now) {
-        return Phase::Ended;
-    }
     let start = match marks.start {
         Some(start) => Some(start.milliseconds()),
         None => None,
     };
-    if has_come(start, now) {
-        Phase::Running
-    } else {
+    if !has_come(start, now) {
         Phase::Before
+    } else if has_come(end_of(settings, marks), now) {
+        Phase::Ended
+    } else {
+        Phase::Running
     }
 }
 

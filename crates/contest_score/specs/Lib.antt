@@ -4,3 +4,6 @@ pub mod Keys
 pub mod Table
 pub mod Masks
 pub mod Counting
+pub mod Contest
+pub mod Awards
+pub mod Laws

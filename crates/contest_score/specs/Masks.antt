@@ -1,35 +1,19 @@
 -- What a caller sees of verdicts: all of them, or those on submissions from before the freeze
 -- (DOMjudge manual, "Scoreboard": the freeze goes by submission time).
-use Rattle.std.specs.Prelude.{◌≡◌, ℕ, ◌+◌, ◌<◌, Bool, true, false, ◌&&◌, ◌||◌, ◌==◌, List, length, map, filter, Option, Some, None, IfSome, if◌then◌else◌, slice_get}
+use Rattle.std.specs.Prelude.{◌≡◌, ℕ, ◌<◌, Bool, true, ◌&&◌, ◌==◌, List, length, map, filter, Option, Some, None, IfSome, slice_get}
 use Rattle.std.specs.Option.{option_map, option_map_or}
 use Rattle.contest_types.specs.Setup.{Setup}
-use Rattle.contest_types.specs.Clock.{is_frozen, is_thawed, reached}
+use Rattle.contest_types.specs.Clock.{reached}
+pub use Rattle.contest_types.specs.Masks.{knows_all_of, mask_for, verdict_under}
 use Rattle.contest_types.specs.declared.marks.Marks.{Marks}
 use Rattle.contest_types.specs.declared.audience.Audience.{Audience}
-use Rattle.contest_types.specs.declared.audience.Audience.TheVariants as audience
 use Rattle.contest_types.specs.declared.objects.JudgementType.{JudgementType}
 use Rattle.contest_score.specs.declared.attempt.Verdict.{Verdict}
 use Rattle.contest_score.specs.declared.attempt.Attempt.{Attempt}
 use Rattle.contest_score.specs.declared.cell.Cell.{Cell}
-use Rattle.contest_score.specs.declared.mask.Mask.{Mask}
-use Rattle.contest_score.specs.declared.mask.Mask.TheVariants.{Full, Held}
+use Rattle.contest_types.specs.declared.mask.Mask.{Mask}
 use Rattle.contest_score.specs.declared.submission.JudgedSubmission.{JudgedSubmission}
 use Rattle.contest_score.specs.Scoring.{cell_of_attempts}
-
--- the caller is the jury, or the team at this place, which has the number after it
-abbrev pub knows_all_of : Audience → ℕ → Bool
-knows_all_of audience.Public team = false
-knows_all_of (audience.Team number) team = number == team + 1
-knows_all_of audience.Jury team = true
-
--- all of a team's verdicts are seen by the jury, by the team itself and, once it is thawed, by anyone
-abbrev pub mask_for : Audience → Marks → ℕ → ℕ → Mask
-mask_for who marks now team = if knows_all_of who team || is_thawed marks now then Full else Held
-
--- the verdict that is seen on a submission of this time
-abbrev pub verdict_under : Mask → Setup → Marks → ℕ → Option ℕ → Option ℕ
-verdict_under Full s marks time verdict = verdict
-verdict_under Held s marks time verdict = if is_frozen s marks time then None else verdict
 
 -- the judgement type at a place, as scoring sees it
 abbrev pub verdict_of : List JudgementType → Option ℕ → Option Verdict

@@ -1,26 +1,20 @@
 -- Ranks and the board (Contest Control System Requirements, "Scoring": most solved, least time,
 -- earliest last accepted, shared ranks). Teams and problems go by their places in the settings'
 -- lists, from 0. The shown teams are any set of them: those that aren't hidden, or some of these.
-use Rattle.std.specs.Prelude.{ℕ, ◌+◌, Bool, false, not, ◌&&◌, ◌||◌, ◌==◌, nat_lt, List, [], length, map, filter, count_by, find, slice_get}
-use Rattle.std.specs.List.{filter_map, range_with_len}
+use Rattle.std.specs.Prelude.{ℕ, ◌+◌, Bool, ◌&&◌, ◌||◌, ◌==◌, nat_lt, List, [], length, map, filter, count_by, slice_get}
+use Rattle.std.specs.List.{range_with_len}
 use Rattle.std.specs.Option.{option_map_or}
-use Rattle.std.specs.Ordering.{nat_cmp, is_lt, ordering_then}
+use Rattle.std.specs.Ordering.{nat_cmp, ordering_then}
 use Rattle.std.specs.Cmp.Lexicographic.{slice_cmp}
 use Rattle.std.specs.declared.cmp.Ordering.{Ordering}
 use Rattle.contest_types.specs.declared.objects.Problem.{Problem}
 use Rattle.contest_types.specs.Setup.{Setup}
+pub use Rattle.contest_types.specs.Order.{place_in, in_order}
+pub use Rattle.contest_types.specs.TeamPlaces.{team_places, name_at, team_id_at, is_public}
 use Rattle.contest_score.specs.declared.cell.Cell.{Cell}
 use Rattle.contest_score.specs.declared.score.Score.{Score}
 use Rattle.contest_score.specs.declared.row.Row.{Row}
 use Rattle.contest_score.specs.Scoring.{score_of_cells}
-
--- how many of xs come before x
-abbrev pub place_in : {X : Type 0} → (X → X → Ordering) → List X → X → ℕ
-place_in R xs x = count_by (λ y. is_lt (R y x)) xs
-
--- xs in order: at each place the one that so many come before
-abbrev pub in_order : {X : Type 0} → (X → X → Ordering) → List X → List X
-in_order R xs = filter_map (λ k. find (λ x. place_in R xs x == k) xs) (range_with_len 0 (length xs))
 
 abbrev pub ordinal_at : List Problem → ℕ → ℕ
 ordinal_at ps p = option_map_or (λ q. q.ordinal) (slice_get ps p) 0
@@ -53,17 +47,11 @@ beats a b = nat_lt b.solved a.solved || ((a.solved == b.solved) && (nat_lt a.tot
 
 -- the shown teams, in the settings' order
 abbrev pub shown_teams : Setup → (ℕ → Bool) → List ℕ
-shown_teams s is_shown = filter is_shown (range_with_len 0 (length s.teams))
+shown_teams s is_shown = filter is_shown (team_places s)
 
 -- one more than the shown teams that are better
 abbrev pub rank_of : Setup → (ℕ → Bool) → (ℕ → ℕ → Cell) → ℕ → ℕ
 rank_of s is_shown cells u = 1 + count_by (λ w. beats (score_of_team s cells w) (score_of_team s cells u)) (shown_teams s is_shown)
-
-abbrev pub name_at : Setup → ℕ → List ℕ
-name_at s u = option_map_or (λ t. t.name) (slice_get s.teams u) []
-
-abbrev pub team_id_at : Setup → ℕ → List ℕ
-team_id_at s u = option_map_or (λ t. t.id) (slice_get s.teams u) []
 
 -- by rank, then name, then id
 abbrev pub row_cmp : Setup → (ℕ → Bool) → (ℕ → ℕ → Cell) → ℕ → ℕ → Ordering
@@ -75,7 +63,3 @@ row_of s is_shown cells u = record { team = u; rank = rank_of s is_shown cells u
 -- the rows of the board of the shown teams over these cells
 abbrev pub board_rows : Setup → (ℕ → Bool) → (ℕ → ℕ → Cell) → List Row
 board_rows s is_shown cells = map (row_of s is_shown cells) (in_order (row_cmp s is_shown cells) (shown_teams s is_shown))
-
--- the team at a place isn't hidden
-abbrev pub is_public : Setup → ℕ → Bool
-is_public s u = option_map_or (λ t. not t.hidden) (slice_get s.teams u) false

@@ -7,11 +7,12 @@ ghost use Rattle.contest_score.specs.Masks.{mask_for, verdict_of, attempt_under,
 
 use crate::attempt::{Attempt, Verdict};
 use crate::cell::Cell;
-use crate::mask::{Mask, mask_for, verdict_under};
 use crate::row::CellRow;
 use crate::submission::JudgedSubmission;
 use crate::table::PlainCells;
-use contest_types::{Audience, JudgementType, Marks, Moment, Refusal, Settings};
+use contest_types::{
+    Audience, JudgementType, Marks, Mask, Moment, Refusal, Settings, mask_for, verdict_under,
+};
 use std::alloc::{AllocError, Global};
 
 /// The cells of every team at every problem, as a caller sees them now: those of the team's

@@ -3,7 +3,10 @@ pub mod AdditionLemmas
 pub mod SetupLemmas
 pub mod IdLemmas
 pub mod NameLemmas
+pub mod TextLemmas
 pub mod RelTimeLemmas
 pub mod Times
 pub mod Printed
 pub mod RelTimeReading
+pub mod OrderLemmas
+pub mod SightLemmas

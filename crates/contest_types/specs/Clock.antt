@@ -3,7 +3,7 @@
 use Rattle.std.specs.Prelude.{ℕ, ◌+◌, ◌-◌, Bool, false, not, ◌&&◌, nat_le, Option, Some, None, if◌then◌else◌}
 use Rattle.contest_types.specs.declared.marks.Marks.{Marks}
 use Rattle.contest_types.specs.declared.audience.Phase.{Phase}
-use Rattle.contest_types.specs.declared.audience.Phase.TheVariants.{Before, Running, Ended}
+use Rattle.contest_types.specs.declared.audience.Phase.TheVariants as phase
 use Rattle.contest_types.specs.Setup.{Setup}
 
 -- at or after a moment that is there
@@ -25,6 +25,11 @@ before (Some moment) (Some span) = Some (moment - span)
 abbrev pub end_of : Setup → Marks → Option ℕ
 end_of s marks = after marks.start s.head.duration
 
+-- where the contest stands: running from the start on, up to the end
+abbrev pub phase_at : Setup → Marks → ℕ → Phase
+phase_at s marks now =
+    if not (reached marks.start now) then phase.Before else (if reached (end_of s marks) now then phase.Ended else phase.Running)
+
 -- the freeze moment: so long before the end
 abbrev pub freeze_of : Setup → Marks → Option ℕ
 freeze_of s marks = before (end_of s marks) s.head.freeze
@@ -44,10 +49,3 @@ is_freezing s marks now = is_frozen s marks now && not (is_thawed marks now)
 -- the results are final now
 abbrev pub is_finalized : Marks → ℕ → Bool
 is_finalized marks now = reached marks.finalized now
-
--- where the contest stands now, by its start and its end
-abbrev pub phase_of : (start end : Option ℕ) → ℕ → Phase
-phase_of start end now = if reached end now then Ended else (if reached start now then Running else Before)
-
-abbrev pub phase_at : Setup → Marks → ℕ → Phase
-phase_at s marks now = phase_of marks.start (end_of s marks) now

@@ -1,5 +1,6 @@
 pub mod IdText
 pub mod NameText
+pub mod ClarificationText
 pub mod RelTimeText
 pub mod RelTimeRead
 pub mod MomentText
@@ -9,4 +10,11 @@ pub mod Additions
 pub mod Setup
 pub mod Rows
 pub mod SetupAdditions
+pub mod TeamPlaces
+pub mod Order
 pub mod Clock
+pub mod Masks
+pub mod State
+pub mod Sight
+pub mod Alike
+pub mod Laws

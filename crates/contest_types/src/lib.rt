@@ -2,41 +2,56 @@
 //! named.
 #![tactic(auto)]
 
+mod account;
 mod audience;
 mod backwards;
+mod clarification;
 mod clock;
 mod contest;
 mod decimal;
+mod digest;
 mod id;
 mod id_list;
+pub mod laws;
 pub mod limits;
 mod marks;
+mod mask;
 mod minute;
 mod moment;
 mod name;
 mod objects;
+mod proposal;
 mod refusal;
+mod rejudging;
 mod rel_time;
 mod rows;
 mod settings;
 mod submission;
+mod text;
 mod time_span;
 
+pub use account::{Account, Role};
 pub use audience::{Audience, Phase};
+pub use clarification::{Addressee, Clarification, Reference};
 pub use clock::{end_of, freeze_of, is_finalized, is_freezing, is_frozen, is_thawed};
 pub use contest::{Contest, ContestHead, Medals};
 pub use decimal::decimal_number;
+pub use digest::Digest;
 pub use id::{Id, is_id};
 pub use marks::Marks;
+pub use mask::{Mask, mask_for, verdict_under};
 pub use minute::Minute;
 pub use moment::{Moment, one_text, print_time};
 pub use name::Name;
 pub use objects::{Group, JudgementType, Language, Problem, Team};
+pub use proposal::{Proposal, Proposer};
 pub use refusal::{Cause, Refusal, RowFault};
+pub use rejudging::{Member, MemberState, Rejudging, RejudgingState};
 pub use rel_time::{RelTime, one_time, print_reltime, printed_reads};
 pub use rows::Rows;
 pub use settings::Settings;
 pub use submission::{Release, Submission};
+pub use text::Text;
 pub use time_span::TimeSpan;
 
 #[cfg(test)]

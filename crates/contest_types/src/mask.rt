@@ -1,8 +1,8 @@
 //! Whose verdicts a caller sees.
 ghost use Rattle.std.specs.Prelude.{◌≡◌};
-ghost use Rattle.contest_score.specs.Masks.{knows_all_of, mask_for, verdict_under};
+ghost use Rattle.contest_types.specs.Masks.{knows_all_of, mask_for, verdict_under};
 
-use contest_types::{Audience, Marks, Moment, Settings, is_frozen, is_thawed};
+use crate::{Audience, Marks, Moment, Settings, is_frozen, is_thawed};
 
 /// Which of a team's verdicts are seen.
 #[derive(Clone, Copy, Debug, PartialEq, Eq)]

@@ -1,0 +1,98 @@
+-- Awards (Contest API 2023-06, awards): who won what, and when it is shown.
+use Rattle.std.specs.Prelude.{ℕ, ◌+◌, Bool, false, ◌&&◌, ◌||◌, ◌==◌, nat_lt, nat_le, List, [], ◌∷◌, ◌++◌, length, map, filter, Option, is_none, if◌then◌else◌, codes, slice_get}
+use Rattle.std.specs.List.{flat_map, list_any, list_all, range_with_len}
+use Rattle.std.specs.Option.{option_map_or}
+use Rattle.std.specs.Ordering.{nat_cmp}
+use Rattle.std.specs.Cmp.Lexicographic.{slice_cmp}
+use Rattle.contest_types.specs.Setup.{Setup}
+use Rattle.contest_types.specs.Clock.{freeze_of, is_thawed, is_finalized}
+use Rattle.contest_types.specs.Masks.{is_jury}
+use Rattle.contest_types.specs.State.{ContestState}
+use Rattle.contest_types.specs.declared.audience.Audience.{Audience}
+use Rattle.contest_types.specs.declared.audience.Audience.TheVariants.{Jury}
+use Rattle.contest_score.specs.declared.row.Row.{Row}
+use Rattle.contest_score.specs.declared.solve.Solve.{Solve}
+use Rattle.contest_score.specs.Ranking.{in_order, problem_order, problem_id_at}
+use Rattle.contest_score.specs.Contest.{board_for, solves_of}
+
+-- an award, and the places of the teams that have it, in the order of the board
+pub record Award : Type 0 where
+  pub id : List ℕ
+  pub citation : List ℕ
+  pub teams : List ℕ
+
+-- only a team that solved a problem wins anything
+abbrev pub winners : List Row → List Row
+winners rows = filter (λ r. nat_lt 0 r.score.solved) rows
+
+-- those of the rows that pass a test, as an award
+abbrev pub award_to : (id citation : List ℕ) → (Row → Bool) → List Row → Award
+award_to id citation test rows = record { id = id; citation = citation; teams = map (λ r. r.team) (filter test (winners rows)) }
+
+-- the rank is one of so many after the first ones
+abbrev pub ranks_after : (before count : ℕ) → Row → Bool
+ranks_after before count r = nat_lt before r.rank && nat_le r.rank (before + count)
+
+abbrev pub winner : List Row → Award
+winner rows = award_to (codes "winner") (codes "Contest winner") (λ r. r.rank == 1) rows
+
+-- gold for the first ranks, silver for the next, bronze for those after them
+abbrev pub medals : Setup → List Row → List Award
+medals s rows =
+    let m = s.head.medals in
+    award_to (codes "gold-medal") (codes "Gold medal") (ranks_after 0 m.gold) rows
+    ∷ award_to (codes "silver-medal") (codes "Silver medal") (ranks_after m.gold m.silver) rows
+    ∷ award_to (codes "bronze-medal") (codes "Bronze medal") (ranks_after (m.gold + m.silver) m.bronze) rows
+    ∷ []
+
+-- the earliest of the solves of a problem, to the millisecond
+abbrev pub first_solves : ℕ → List Solve → List Solve
+first_solves problem solves =
+    let of_problem = filter (λ (v : Solve). v.problem == problem) solves in
+    filter (λ (v : Solve). list_all (λ (w : Solve). nat_le v.time w.time) of_problem) of_problem
+
+abbrev pub label_at : Setup → ℕ → List ℕ
+label_at s problem = option_map_or (λ p. p.label) (slice_get s.problems problem) []
+
+abbrev pub first_to_solve : Setup → List Row → List Solve → ℕ → Award
+first_to_solve s rows solves problem =
+    award_to (codes "first-to-solve-" ++ problem_id_at s.problems problem) (codes "First to solve problem " ++ label_at s problem)
+    (λ r. list_any (λ (v : Solve). v.team == r.team) (first_solves problem solves)) rows
+
+-- the team of the row is in the group at a place
+abbrev pub is_in_group : Setup → ℕ → Row → Bool
+is_in_group s group r = option_map_or (λ t. list_any (λ g. g == group) t.groups) (slice_get s.teams r.team) false
+
+abbrev pub group_id_at : Setup → ℕ → List ℕ
+group_id_at s group = option_map_or (λ g. g.id) (slice_get s.groups group) []
+
+abbrev pub group_name_at : Setup → ℕ → List ℕ
+group_name_at s group = option_map_or (λ g. g.name) (slice_get s.groups group) []
+
+-- the group's teams of least rank
+abbrev pub group_winner : Setup → List Row → ℕ → Award
+group_winner s rows group =
+    let of_group = filter (is_in_group s group) (winners rows) in
+    award_to (codes "group-winner-" ++ group_id_at s group) (codes "Winner of group " ++ group_name_at s group)
+    (λ r. is_in_group s group r && list_all (λ (w : Row). nat_le r.rank w.rank) of_group) rows
+
+-- the groups by id
+abbrev pub group_order : Setup → List ℕ
+group_order s = in_order (λ g h. slice_cmp nat_cmp (group_id_at s g) (group_id_at s h)) (range_with_len 0 (length s.groups))
+
+-- the awards of a board and of the solves of its teams; one that no team has isn't listed
+abbrev pub awards_of : Setup → List Row → List Solve → List Award
+awards_of s rows solves =
+    filter (λ (w : Award). nat_lt 0 (length w.teams))
+    (winner rows ∷ medals s rows ++ map (first_to_solve s rows solves) (problem_order s) ++ map (group_winner s rows) (group_order s))
+
+-- the jury is shown the awards once the contest is finalized, all others once it is thawed too, or if
+-- it never froze
+abbrev pub shows_awards : Audience → ℕ → ContestState → Bool
+shows_awards a now x =
+    is_finalized x.fixed.marks now
+    && (is_jury a || is_none (freeze_of x.fixed.settings x.fixed.marks) || is_thawed x.fixed.marks now)
+
+-- the awards that an audience is shown: those of the jury's board
+abbrev pub shown_awards : Audience → ℕ → ContestState → List Award
+shown_awards a now x = if shows_awards a now x then awards_of x.fixed.settings (board_for Jury now x) (solves_of x) else []

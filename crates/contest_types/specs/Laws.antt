@@ -1,0 +1,35 @@
+-- What holds of every contest, in the subject's words. Each is the contract of a function of src/laws.rt.
+use Rattle.std.specs.Prelude.{◌≡◌, ℕ, Bool, List}
+use Rattle.contest_types.specs.Order.{Has, IsInOrder, IsStrict}
+use Rattle.contest_types.specs.State.{ContestState}
+use Rattle.contest_types.specs.Sight.{seen_submissions, seen_clarifications}
+use Rattle.contest_types.specs.Alike.{Alike, MayBeHeld}
+use Rattle.contest_types.specs.declared.audience.Audience.{Audience}
+
+-- a contest is alike to itself
+abbrev pub IsAlikeToItself : Type 0
+IsAlikeToItself = (a : Audience) (x : ContestState) → Alike a x x
+
+-- it doesn't matter which of two is named first
+abbrev pub IsAlikeBothWays : Type 0
+IsAlikeBothWays = (a : Audience) (x y : ContestState) → Alike a x y → Alike a y x
+
+-- what is alike to one that is alike to a third is alike to the third
+abbrev pub IsAlikeOnward : Type 0
+IsAlikeOnward = (a : Audience) (x y z : ContestState) → Alike a x y → Alike a y z → Alike a x z
+
+-- until the thaw, alike contests show an audience the same submissions and verdicts
+abbrev pub AlikeShowTheSame : Type 0
+AlikeShowTheSame =
+    (a : Audience) (now : ℕ) (x y : ContestState) → MayBeHeld a now x → Alike a x y → seen_submissions a now x ≡ seen_submissions a now y
+
+-- and let it hear the same clarifications
+abbrev pub AlikeTellTheSame : Type 0
+AlikeTellTheSame =
+    (a : Audience) (now : ℕ) (x y : ContestState) → MayBeHeld a now x → Alike a x y → seen_clarifications a x ≡ seen_clarifications a y
+
+-- two lists in strict order with the same elements are one
+abbrev pub OneOrder : Type 0 → Type 0
+OneOrder X =
+    (before : X → X → Bool) (xs ys : List X) → IsStrict before → IsInOrder before xs → IsInOrder before ys
+    → ((z : X) → Has xs z → Has ys z) → ((z : X) → Has ys z → Has xs z) → xs ≡ ys

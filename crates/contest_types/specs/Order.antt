@@ -1,0 +1,33 @@
+-- Lists in order.
+use Rattle.std.specs.Prelude.{ℕ, ◌≡◌, ◌⊎◌, ◌==◌, Bool, true, List, [], ◌∷◌, length, count_by, find}
+use Rattle.std.specs.List.{filter_map, range_with_len}
+use Rattle.std.specs.Ordering.{is_lt}
+use Rattle.std.specs.declared.cmp.Ordering.{Ordering}
+
+-- how many of xs come before x
+abbrev pub place_in : {X : Type 0} → (X → X → Ordering) → List X → X → ℕ
+place_in R xs x = count_by (λ y. is_lt (R y x)) xs
+
+-- xs in order: at each place the one that so many come before
+abbrev pub in_order : {X : Type 0} → (X → X → Ordering) → List X → List X
+in_order R xs = filter_map (λ k. find (λ x. place_in R xs x == k) xs) (range_with_len 0 (length xs))
+
+-- x is one of these
+abbrev pub Has : {X : Type 0} → List X → X → Type 0
+Has [] x = ⊥
+Has (y ∷ ys) x = (x ≡ y) ⊎ Has ys x
+
+-- x comes before each of these
+abbrev pub IsBefore : {X : Type 0} → (X → X → Bool) → X → List X → Type 0
+IsBefore before x [] = Unit {0}
+IsBefore before x (y ∷ ys) = (before x y ≡ true) × IsBefore before x ys
+
+-- each comes before all that follow
+abbrev pub IsInOrder : {X : Type 0} → (X → X → Bool) → List X → Type 0
+IsInOrder before [] = Unit {0}
+IsInOrder before (x ∷ xs) = IsBefore before x xs × IsInOrder before xs
+
+-- what comes before another comes before all that it precedes, and nothing comes before what precedes it
+pub record IsStrict {X : Type 0} (before : X → X → Bool) : Type 0 where
+  pub trans : (x y z : X) → before x y ≡ true → before y z ≡ true → before x z ≡ true
+  pub never : (x y : X) → before x y ≡ true → before y x ≡ true → ⊥

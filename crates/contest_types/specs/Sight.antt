@@ -1,0 +1,162 @@
+-- What an audience sees of a contest (Contest API 2023-06, submissions, judgements and
+-- clarifications; DOMjudge manual, "Scoreboard" and "Clarifications").
+use Rattle.std.specs.Prelude.{ℕ, ◌+◌, Bool, true, ◌||◌, List, [], ◌∷◌, ◌++◌, map, Option, Some, None, if◌then◌else◌, codes}
+use Rattle.std.specs.List.{flat_map, last_or}
+use Rattle.std.specs.Option.{option_map, option_and_then}
+use Rattle.std.specs.Fmt.{decimal}
+use Rattle.std.specs.Ordering.{nat_cmp, ordering_then}
+use Rattle.std.specs.Cmp.Lexicographic.{slice_cmp}
+use Rattle.std.specs.declared.cmp.Ordering.{Ordering}
+use Rattle.contest_types.specs.Setup.{Setup}
+use Rattle.contest_types.specs.TeamPlaces.{team_places, team_id_at, is_public}
+use Rattle.contest_types.specs.Order.{in_order}
+use Rattle.contest_types.specs.Masks.{is_jury, owns, knows_all_of, mask_for, verdict_under}
+use Rattle.contest_types.specs.State.{FixedPart, ContestState, submissions_of, releases_on, clarifications_to}
+use Rattle.contest_types.specs.declared.audience.Audience.{Audience}
+use Rattle.contest_types.specs.declared.mask.Mask.TheVariants.{Full, Held}
+use Rattle.contest_types.specs.declared.submission.Submission.{Submission}
+use Rattle.contest_types.specs.declared.submission.Release.{Release}
+use Rattle.contest_types.specs.declared.clarification.Clarification.{Clarification}
+use Rattle.contest_types.specs.declared.clarification.Addressee.{Addressee}
+use Rattle.contest_types.specs.declared.clarification.Addressee.TheVariants.{All as ToAll, Team as ToTeam}
+use Rattle.contest_types.specs.declared.clarification.Reference.{Reference}
+
+-- a release, without whose submission it is on
+pub record Judgement : Type 0 where
+  pub round : ℕ
+  pub verdict : ℕ
+  pub time : ℕ
+
+abbrev pub judgement_of : Release → Judgement
+judgement_of v = record { round = v.round; verdict = v.verdict; time = v.time }
+
+-- all that was released on a submission, in order
+abbrev pub judgements_on : ContestState → Submission → List Judgement
+judgements_on x s = map judgement_of (releases_on s.team s.number x.releases)
+
+-- the last that was released on it counts
+abbrev pub last_judgement : ContestState → Submission → Option Judgement
+last_judgement x s = last_or None (judgements_on x s)
+
+abbrev pub type_of : Option Judgement → Option ℕ
+type_of = option_map (λ j. j.verdict)
+
+-- the type that was released last, or none
+abbrev pub full_verdict : ContestState → Submission → Option ℕ
+full_verdict x s = type_of (verdict_under Full x.fixed.settings x.fixed.marks s.time (last_judgement x s))
+
+-- the same, but none where the submission is frozen
+abbrev pub held_verdict : ContestState → Submission → Option ℕ
+held_verdict x s = type_of (verdict_under Held x.fixed.settings x.fixed.marks s.time (last_judgement x s))
+
+-- the submissions of the team at this place are seen: by the jury and by the team itself, and by
+-- anyone unless it is hidden
+abbrev pub sees_team : Audience → Setup → ℕ → Bool
+sees_team a s team = knows_all_of a team || is_public s team
+
+abbrev pub sees_submission : Audience → ContestState → Submission → Bool
+sees_submission a x s = sees_team a x.fixed.settings s.team
+
+-- what the audience sees now of the verdicts on a submission
+abbrev pub seen_judgement : Audience → ℕ → ContestState → Submission → Option Judgement
+seen_judgement a now x s =
+    if sees_submission a x s then verdict_under (mask_for a x.fixed.marks now s.team) x.fixed.settings x.fixed.marks s.time (last_judgement x s) else None
+
+abbrev pub seen_verdict : Audience → ℕ → ContestState → Submission → Option ℕ
+seen_verdict a now x s = type_of (seen_judgement a now x s)
+
+-- a file, and where its program starts
+pub record Program : Type 0 where
+  pub file : List ℕ
+  pub entry_point : Option (List ℕ)
+
+-- a submission as an audience sees it: the program is for the team itself and the jury alone
+pub record SeenSubmission : Type 0 where
+  pub team : ℕ
+  pub number : ℕ
+  pub time : ℕ
+  pub problem : ℕ
+  pub language : ℕ
+  pub program : Option Program
+  pub judgement : Option Judgement
+
+abbrev pub program_for : Audience → Submission → Option Program
+program_for a s = if knows_all_of a s.team then Some (record { file = s.file; entry_point = s.entry_point }) else None
+
+abbrev pub seen_submission : Audience → ℕ → ContestState → Submission → SeenSubmission
+seen_submission a now x s = record {
+  team = s.team;
+  number = s.number;
+  time = s.time;
+  problem = s.problem;
+  language = s.language;
+  program = program_for a s;
+  judgement = seen_judgement a now x s;
+}
+
+-- what is seen of one team's submissions
+abbrev pub seen_of_team : Audience → ℕ → ContestState → ℕ → List SeenSubmission
+seen_of_team a now x team =
+    if sees_team a x.fixed.settings team then map (seen_submission a now x) (submissions_of team x.submissions) else []
+
+-- by time, then team id, then number
+abbrev pub submission_cmp : Setup → SeenSubmission → SeenSubmission → Ordering
+submission_cmp s a b = ordering_then (nat_cmp a.time b.time) (ordering_then (slice_cmp nat_cmp (team_id_at s a.team) (team_id_at s b.team)) (nat_cmp a.number b.number))
+
+-- all that an audience sees of submissions: gathered team by team, so that the order in which
+-- different teams' submissions were accepted never enters
+abbrev pub seen_submissions : Audience → ℕ → ContestState → List SeenSubmission
+seen_submissions a now x = in_order (submission_cmp x.fixed.settings) (flat_map (seen_of_team a now x) (team_places x.fixed.settings))
+
+-- what belongs to an addressee is heard: by the jury and by all to whom it goes
+abbrev pub hears : Audience → Addressee → Bool
+hears a ToAll = true
+hears a (ToTeam team) = knows_all_of a team
+
+abbrev pub sees_clarification : Audience → Clarification → Bool
+sees_clarification a c = hears a c.addressee
+
+-- which clarification is answered is told only where that one is heard too
+abbrev pub heard_reference : Audience → Reference → Option Reference
+heard_reference a r = if hears a r.addressee then Some r else None
+
+-- a clarification as an audience sees it: never who wrote it for the jury, and no key
+pub record SeenClarification : Type 0 where
+  pub addressee : Addressee
+  pub number : ℕ
+  pub from_jury : Bool
+  pub problem : Option ℕ
+  pub reply : Option Reference
+  pub text : List ℕ
+  pub time : ℕ
+
+abbrev pub seen_clarification : Audience → Clarification → SeenClarification
+seen_clarification a c = record {
+  addressee = c.addressee;
+  number = c.number;
+  from_jury = c.from_jury;
+  problem = c.problem;
+  reply = option_and_then (heard_reference a) c.reply;
+  text = c.text;
+  time = c.time;
+}
+
+-- what is heard of one addressee's clarifications
+abbrev pub heard_of : Audience → ContestState → Addressee → List SeenClarification
+heard_of a x addressee = if hears a addressee then map (seen_clarification a) (clarifications_to addressee x.clarifications) else []
+
+-- `g-<number>` for one to all, `c<team number>-<number>` for one of a team
+abbrev pub clarification_id : Addressee → ℕ → List ℕ
+clarification_id ToAll number = codes "g-" ++ decimal number
+clarification_id (ToTeam team) number = codes "c" ++ decimal (team + 1) ++ codes "-" ++ decimal number
+
+-- by time, then by the bytes of the id
+abbrev pub clarification_cmp : SeenClarification → SeenClarification → Ordering
+clarification_cmp c d = ordering_then (nat_cmp c.time d.time) (slice_cmp nat_cmp (clarification_id c.addressee c.number) (clarification_id d.addressee d.number))
+
+abbrev pub addressees : Setup → List Addressee
+addressees s = ToAll ∷ map ToTeam (team_places s)
+
+-- all that an audience hears
+abbrev pub seen_clarifications : Audience → ContestState → List SeenClarification
+seen_clarifications a x = in_order clarification_cmp (flat_map (heard_of a x) (addressees x.fixed.settings))

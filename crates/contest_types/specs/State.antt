@@ -1,0 +1,115 @@
+-- A contest as whole lists, and what each change makes of it (own; the rows are those of the Contest
+-- API 2023-06). Places count from 0, numbers and rounds from 1.
+use Rattle.std.specs.Prelude.{ℕ, ◌+◌, Bool, true, false, ◌&&◌, ◌==◌, List, [], ◌∷◌, ◌++◌, filter, map, Option, Some, if◌then◌else◌}
+use Rattle.std.specs.List.{enumerate_from}
+use Rattle.contest_types.specs.Setup.{Setup}
+use Rattle.contest_types.specs.declared.marks.Marks.{Marks}
+use Rattle.contest_types.specs.declared.account.Account.{Account}
+use Rattle.contest_types.specs.declared.objects.JudgementType.{JudgementType}
+use Rattle.contest_types.specs.declared.objects.Language.{Language}
+use Rattle.contest_types.specs.declared.objects.Problem.{Problem}
+use Rattle.contest_types.specs.declared.objects.Group.{Group}
+use Rattle.contest_types.specs.declared.objects.Team.{Team}
+use Rattle.contest_types.specs.declared.submission.Submission.{Submission}
+use Rattle.contest_types.specs.declared.submission.Release.{Release}
+use Rattle.contest_types.specs.declared.proposal.Proposal.{Proposal}
+use Rattle.contest_types.specs.declared.clarification.Clarification.{Clarification}
+use Rattle.contest_types.specs.declared.clarification.Addressee.{Addressee}
+use Rattle.contest_types.specs.declared.clarification.Addressee.TheVariants.{All as ToAll, Team as ToTeam}
+use Rattle.contest_types.specs.declared.rejudging.Rejudging.{Rejudging}
+use Rattle.contest_types.specs.declared.rejudging.RejudgingState.{RejudgingState}
+use Rattle.contest_types.specs.declared.rejudging.Member.{Member}
+use Rattle.contest_types.specs.declared.rejudging.MemberState.{MemberState}
+
+-- what every caller may know: the settings, the accounts and the marks of the clock
+pub record FixedPart : Type 0 where
+  pub settings : Setup
+  pub accounts : List Account
+  pub marks : Marks
+
+-- a contest: its fixed part, and each list in the order in which its rows were accepted
+pub record ContestState : Type 0 where
+  pub fixed : FixedPart
+  pub submissions : List Submission
+  pub proposals : List Proposal
+  pub releases : List Release
+  pub clarifications : List Clarification
+  pub rejudgings : List Rejudging
+
+-- the submissions of the team at a place
+abbrev pub submissions_of : ℕ → List Submission → List Submission
+submissions_of team = filter (λ s. s.team == team)
+
+-- the releases on a team's submission with this number
+abbrev pub releases_on : (team number : ℕ) → List Release → List Release
+releases_on team number = filter (λ v. (v.team == team) && (v.number == number))
+
+-- the proposals for a team's submission with this number
+abbrev pub proposals_for : (team number : ℕ) → List Proposal → List Proposal
+proposals_for team number = filter (λ p. (p.team == team) && (p.number == number))
+
+abbrev pub same_addressee : Addressee → Addressee → Bool
+same_addressee ToAll ToAll = true
+same_addressee (ToTeam t) (ToTeam u) = t == u
+same_addressee _ _ = false
+
+-- the clarifications of one addressee
+abbrev pub clarifications_to : Addressee → List Clarification → List Clarification
+clarifications_to addressee = filter (λ c. same_addressee c.addressee addressee)
+
+-- everything that a command or an import may add or change
+pub data Entry : Type 0 where
+  NewSubmission : Submission → Entry
+  NewProposal : Proposal → Entry
+  NewRelease : Release → Entry
+  NewClarification : Clarification → Entry
+  NewRejudging : Rejudging → Entry
+  -- the rejudging with this number, and its member at this place
+  SetMember : (rejudging place : ℕ) → MemberState → Entry
+  SetRejudging : (rejudging : ℕ) → RejudgingState → Entry
+  SetStart : Option ℕ → Entry
+  SetThaw : ℕ → Entry
+  SetFinalized : ℕ → Entry
+  NewType : JudgementType → Entry
+  NewLanguage : Language → Entry
+  NewProblem : Problem → Entry
+  NewGroup : Group → Entry
+  NewTeam : Team → Entry
+  NewAccount : Account → Entry
+
+-- the rows, counted from a first number, with the one that has this number changed
+abbrev pub changed_at : {X : Type 0} → (first at : ℕ) → (X → X) → List X → List X
+changed_at first at change xs = map (λ p. if p.0 == at then change p.1 else p.1) (enumerate_from first xs)
+
+abbrev pub with_member_state : ℕ → MemberState → Rejudging → Rejudging
+with_member_state place state r = record r { members = changed_at 0 place (λ (m : Member). record m { state = state }) r.members }
+
+abbrev pub with_settings : ContestState → Setup → ContestState
+with_settings x settings = record x { fixed = record x.fixed { settings = settings } }
+
+abbrev pub with_marks : ContestState → Marks → ContestState
+with_marks x marks = record x { fixed = record x.fixed { marks = marks } }
+
+-- the contest after one change
+abbrev pub add : ContestState → Entry → ContestState
+add x (NewSubmission s) = record x { submissions = x.submissions ++ s ∷ [] }
+add x (NewProposal p) = record x { proposals = x.proposals ++ p ∷ [] }
+add x (NewRelease v) = record x { releases = x.releases ++ v ∷ [] }
+add x (NewClarification c) = record x { clarifications = x.clarifications ++ c ∷ [] }
+add x (NewRejudging r) = record x { rejudgings = x.rejudgings ++ r ∷ [] }
+add x (SetMember n place state) = record x { rejudgings = changed_at 1 n (with_member_state place state) x.rejudgings }
+add x (SetRejudging n state) = record x { rejudgings = changed_at 1 n (λ r. record r { state = state }) x.rejudgings }
+add x (SetStart start) = with_marks x (record x.fixed.marks { start = start })
+add x (SetThaw thaw) = with_marks x (record x.fixed.marks { thaw = Some thaw })
+add x (SetFinalized finalized) = with_marks x (record x.fixed.marks { finalized = Some finalized })
+add x (NewType t) = with_settings x (record x.fixed.settings { types = x.fixed.settings.types ++ t ∷ [] })
+add x (NewLanguage l) = with_settings x (record x.fixed.settings { languages = x.fixed.settings.languages ++ l ∷ [] })
+add x (NewProblem p) = with_settings x (record x.fixed.settings { problems = x.fixed.settings.problems ++ p ∷ [] })
+add x (NewGroup g) = with_settings x (record x.fixed.settings { groups = x.fixed.settings.groups ++ g ∷ [] })
+add x (NewTeam t) = with_settings x (record x.fixed.settings { teams = x.fixed.settings.teams ++ t ∷ [] })
+add x (NewAccount a) = record x { fixed = record x.fixed { accounts = x.fixed.accounts ++ a ∷ [] } }
+
+-- the contest after one change after another
+abbrev pub add_all : ContestState → List Entry → ContestState
+add_all x [] = x
+add_all x (e ∷ es) = add_all (add x e) es

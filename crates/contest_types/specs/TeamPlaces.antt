@@ -1,0 +1,19 @@
+-- Teams by their places in the settings, from 0.
+use Rattle.std.specs.Prelude.{ℕ, Bool, false, not, List, [], length, slice_get}
+use Rattle.std.specs.List.{range_with_len}
+use Rattle.std.specs.Option.{option_map_or}
+use Rattle.contest_types.specs.Setup.{Setup}
+
+-- the places of all teams
+abbrev pub team_places : Setup → List ℕ
+team_places s = range_with_len 0 (length s.teams)
+
+abbrev pub name_at : Setup → ℕ → List ℕ
+name_at s u = option_map_or (λ t. t.name) (slice_get s.teams u) []
+
+abbrev pub team_id_at : Setup → ℕ → List ℕ
+team_id_at s u = option_map_or (λ t. t.id) (slice_get s.teams u) []
+
+-- the team at a place isn't hidden
+abbrev pub is_public : Setup → ℕ → Bool
+is_public s u = option_map_or (λ t. not t.hidden) (slice_get s.teams u) false

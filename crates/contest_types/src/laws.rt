@@ -1,0 +1,39 @@
+//! Laws of the model: functions that do nothing, and whose contracts say what holds of every contest.
+ghost use Rattle.contest_types.specs.Laws.{IsAlikeToItself, IsAlikeBothWays, IsAlikeOnward, AlikeShowTheSame, AlikeTellTheSame, OneOrder};
+ghost use Rattle.contest_types.specs.Sight.{SeenSubmission, SeenClarification};
+
+/// A contest is alike to itself.
+pub fn alike_itself()
+    ensures { IsAlikeToItself }
+{}
+
+/// It doesn't matter which of two alike contests is named first.
+pub fn alike_both_ways()
+    ensures { IsAlikeBothWays }
+{}
+
+/// What is alike to a contest that is alike to a third is alike to the third.
+pub fn alike_onward()
+    ensures { IsAlikeOnward }
+{}
+
+/// Until the thaw, contests that are alike for an audience show it the same submissions, with the
+/// same verdicts.
+pub fn seen_alike()
+    ensures { AlikeShowTheSame }
+{}
+
+/// And they let it hear the same clarifications.
+pub fn heard_alike()
+    ensures { AlikeTellTheSame }
+{}
+
+/// Two lists of submissions in strict order with the same elements are one list.
+pub fn one_order_of_submissions()
+    ensures { OneOrder SeenSubmission }
+{}
+
+/// Two lists of clarifications in strict order with the same elements are one list.
+pub fn one_order_of_clarifications()
+    ensures { OneOrder SeenClarification }
+{}
