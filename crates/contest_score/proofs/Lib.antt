@@ -9,3 +9,4 @@ pub mod ProblemOrder
 pub mod Ranks
 pub mod Placed
 pub mod BoardOrder
+mod Examples

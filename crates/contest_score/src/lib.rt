@@ -27,5 +27,8 @@ pub use ranking::board;
 pub use row::{CellRow, Row};
 pub use score::Score;
 pub use scoreboard::Board;
-pub use submission::JudgedSubmission;
+pub use submission::{JudgedSubmission, are_admitted};
 pub use table::PlainCells;
+
+#[cfg(test)]
+mod tests;
