@@ -10,3 +10,4 @@ pub mod Ranks
 pub mod Placed
 pub mod BoardOrder
 pub mod MaskLemmas
+mod Examples

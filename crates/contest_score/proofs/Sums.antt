@@ -20,23 +20,27 @@ pub record Sums (penalty_time : ℕ) (cs : List Cell) (n solved total : ℕ) (la
 last_of-append : (xs : List Cell) (x : Cell) → last_of (xs ++ x ∷ []) ≡ fold later_of (last_of xs) (filter_map (λ c. c.solved) (x ∷ []))
 last_of-append xs x = ap (fold later_of None) (filter_map-append (λ c. c.solved) xs (x ∷ [])) ∙ fold-append later_of None (filter_map (λ c. c.solved) xs) (filter_map (λ c. c.solved) (x ∷ []))
 
--- an unsolved problem adds nothing
-pub Sums-unsolved : (penalty_time : ℕ) (cs : List Cell) (n solved total : ℕ) (last : Option Minute) (d : Cell) → Sums penalty_time cs n solved total last → n < length cs → (get_or cs n d).solved ≡ None → Sums penalty_time cs (n + 1) solved total last
-Sums-unsolved penalty_time cs n solved total last d s l h = record {
+points_more : (penalty_time : ℕ) (cs : List Cell) (n solved total : ℕ) (last : Option Minute) (d : Cell) (p : ℕ) → Sums penalty_time cs n solved total last → n < length cs → p ≡ points penalty_time (get_or cs n d) → total + p ≡ sum_by (points penalty_time) (take (n + 1) cs)
+points_more penalty_time cs n solved total last d p s l is_p =
+    ap (λ k. k + p) s.sum ∙ (ap (λ k. sum_by (points penalty_time) (take n cs) + k) is_p ∙ sym (sum_by_more (points penalty_time) cs n d l))
+
+-- an unsolved problem
+pub Sums-unsolved : (penalty_time : ℕ) (cs : List Cell) (n solved total : ℕ) (last : Option Minute) (d : Cell) (p : ℕ) → Sums penalty_time cs n solved total last → n < length cs → (get_or cs n d).solved ≡ None → p ≡ points penalty_time (get_or cs n d) → p ≤ 1001 * 2 ^ 32 → Sums penalty_time cs (n + 1) solved (total + p) last
+Sums-unsolved penalty_time cs n solved total last d p s l h is_p b = record {
   count = s.count ∙ sym (sum_by_more (λ c. cond (is_solved c) 1 0) cs n d l ∙ (rw h (add-zero (count_by is_solved (take n cs)))));
   few = omega (arith, s.few);
-  sum = s.sum ∙ sym (sum_by_more (points penalty_time) cs n d l ∙ (rw h (add-zero (sum_by (points penalty_time) (take n cs)))));
-  bound = omega (arith, s.bound);
+  sum = points_more penalty_time cs n solved total last d p s l is_p;
+  bound = omega (arith, s.bound, b);
   latest = s.latest ∙ sym (rw (take_more cs n d l, last_of-append, h) refl);
 }
 
--- a solved one its points
-pub Sums-solved : (penalty_time : ℕ) (cs : List Cell) (n solved total : ℕ) (last : Option Minute) (d : Cell) (m : Minute) (p : ℕ) → Sums penalty_time cs n solved total last → n < length cs → (get_or cs n d).solved ≡ Some m → p ≡ m.0 + penalty_time * (get_or cs n d).penalties → p ≤ 1001 * 2 ^ 32 → Sums penalty_time cs (n + 1) (solved + 1) (total + p) (later_of last m)
+-- and a solved one
+pub Sums-solved : (penalty_time : ℕ) (cs : List Cell) (n solved total : ℕ) (last : Option Minute) (d : Cell) (m : Minute) (p : ℕ) → Sums penalty_time cs n solved total last → n < length cs → (get_or cs n d).solved ≡ Some m → p ≡ points penalty_time (get_or cs n d) → p ≤ 1001 * 2 ^ 32 → Sums penalty_time cs (n + 1) (solved + 1) (total + p) (later_of last m)
 Sums-solved penalty_time cs n solved total last d m p s l h is_p b = record {
   count = ap (λ k. k + 1) s.count ∙ sym (sum_by_more (λ c. cond (is_solved c) 1 0) cs n d l ∙ (rw h refl));
   few = omega (arith, s.few);
-  sum = ap (λ k. k + p) s.sum ∙ (ap (λ k. sum_by (points penalty_time) (take n cs) + k) is_p ∙ sym (sum_by_more (points penalty_time) cs n d l ∙ (rw h refl)));
-  bound = omega (arith, s.bound);
+  sum = points_more penalty_time cs n solved total last d p s l is_p;
+  bound = omega (arith, s.bound, b);
   latest = ap (λ o. later_of o m) s.latest ∙ sym (rw (take_more cs n d l, last_of-append, h) refl);
 }
 

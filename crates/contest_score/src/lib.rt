@@ -29,5 +29,8 @@ pub use row::{CellRow, Row};
 pub use score::Score;
 pub use scoreboard::Board;
 pub use solve::Solve;
-pub use submission::JudgedSubmission;
+pub use submission::{JudgedSubmission, are_admitted};
 pub use table::PlainCells;
+
+#[cfg(test)]
+mod tests;

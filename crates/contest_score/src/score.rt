@@ -1,7 +1,7 @@
 //! How a team stands: problems solved, total time, last accepted.
-ghost use Rattle.std.specs.Prelude.{◌≡◌, ◌+◌, ◌≤◌, ◌*◌, ◌^◌, length};
+ghost use Rattle.std.specs.Prelude.{◌≡◌, ◌≤◌, ◌*◌, ◌^◌, length};
 ghost use Rattle.contest_types.specs.declared.limits.TheConstants.{PROBLEMS, PENALTY_MINUTES};
-ghost use Rattle.contest_score.specs.Scoring.{score_of_cells, later_of};
+ghost use Rattle.contest_score.specs.Scoring.{score_of_cells, points, later_of};
 
 use crate::cell::Cell;
 use contest_types::Minute;
@@ -28,9 +28,9 @@ pub fn score_of(penalty_time: u32, cells: &[Cell]) -> Score
     let mut total: u64 = 0;
     let mut last: Option<Minute> = None;
     for cell in cells {
+        total += points(penalty_time, *cell);
         if let Some(minute) = cell.solved {
             solved += 1;
-            total += points_for(penalty_time, minute, cell.penalties);
             last = later(last, minute);
         }
     }
@@ -41,13 +41,18 @@ pub fn score_of(penalty_time: u32, cells: &[Cell]) -> Score
     }
 }
 
-/// What a solved problem adds to the total.
-fn points_for(penalty_time: u32, minute: Minute, penalties: u32) -> u64
+/// What a problem adds to the total; an unsolved one adds nothing.
+fn points(penalty_time: u32, cell: Cell) -> u64
     requires { penalty_time ≤ PENALTY_MINUTES }
-    ensures value { result ≡ minute.0 + penalty_time * penalties }
+    ensures value { result ≡ points penalty_time cell }
     ensures bound { result ≤ 1001 * 2 ^ 32 }
 {
-    u64::from(minute.0) + u64::from(penalty_time) * u64::from(penalties)
+    match cell.solved {
+        None => 0,
+        Some(minute) => {
+            u64::from(minute.0) + u64::from(penalty_time) * u64::from(cell.penalties)
+        }
+    }
 }
 
 /// The later of two minutes.

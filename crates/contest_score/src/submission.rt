@@ -1,5 +1,9 @@
 //! Submissions as scoring reads them.
-use contest_types::Moment;
+ghost use Rattle.std.specs.Prelude.{◌≡◌, ◌↔◌, ◌<◌, IsTrue, IfSome, All, length};
+ghost use Rattle.contest_types.specs.Clock.{reached};
+ghost use Rattle.contest_score.specs.Masks.{IsAdmitted};
+
+use contest_types::{Marks, Moment, Settings};
 
 /// A submission with the last verdict that was released on it. Team, problem and judgement type go
 /// by their places in the settings, from 0.
@@ -13,4 +17,43 @@ pub struct JudgedSubmission {
     pub time: Moment,
     /// The place of the judgement type that was released last; none where it is pending.
     pub verdict: Option<u32>,
+}
+
+/// Whether each submission names a team, a problem and a judgement type that are there, and isn't
+/// before the start, which is then set.
+pub fn are_admitted(settings: &Settings, marks: &Marks, submissions: &[JudgedSubmission]) -> bool
+    ensures { IsTrue result ↔ All (IsAdmitted settings.now marks.now) submissions.now }
+{
+    submissions
+        .iter()
+        .all(|submission| is_admitted(settings, marks, submission))
+}
+
+fn is_admitted(settings: &Settings, marks: &Marks, submission: &JudgedSubmission) -> bool
+    ensures { IsTrue result ↔ IsAdmitted settings.now marks.now submission.now }
+{
+    (submission.team as usize) < settings.teams().len()
+        && (submission.problem as usize) < settings.problems().len()
+        && is_place(submission.verdict, settings.judgement_types().len())
+        && has_started(marks, submission.time)
+}
+
+/// Whether a place, where there is one, is below a number.
+fn is_place(place: Option<u32>, number: usize) -> bool
+    ensures { IsTrue result ↔ IfSome place (λ p. p < number) }
+{
+    match place {
+        None => true,
+        Some(place) => (place as usize) < number,
+    }
+}
+
+/// Whether the contest has started at a moment.
+fn has_started(marks: &Marks, time: Moment) -> bool
+    ensures { result ≡ reached marks.now.start time }
+{
+    match marks.start {
+        None => false,
+        Some(start) => start.milliseconds() <= time.milliseconds(),
+    }
 }
