@@ -1,8 +1,14 @@
 //! What a caller sees: the contest's phase, submissions and their verdicts.
 ghost use Rattle.std.specs.Prelude.{◌≡◌};
 ghost use Rattle.contest_types.specs.Clock.{phase_at, reached};
+ghost use Rattle.contest_types.specs.Sight.{last_judgement, seen_verdict, sees_submission, type_of};
+ghost use Rattle.contest_types.specs.State.{ContestState};
+ghost use Rattle.contest_types.specs.TeamPlaces.{is_public};
 
-use contest_types::{Marks, Moment, Phase, Settings, end_of};
+use contest_types::{
+    Audience, Marks, Moment, Phase, Settings, Submission, end_of, knows_all_of, mask_for,
+    verdict_under,
+};
 
 /// Where the contest stands at a moment: before its start, running, or ended from its end on. It
 /// takes no memory.
@@ -30,4 +36,48 @@ fn has_come(moment: Option<u64>, now: Moment) -> bool
         Some(moment) => moment <= now.milliseconds(),
         None => false,
     }
+}
+
+/// Whether a caller sees a team's submissions: the jury sees all, a team its own, and anyone those
+/// of a team that isn't hidden (DOMjudge manual, "Scoreboard"). It takes no memory.
+pub(crate) fn sees_submission(
+    audience: Audience,
+    settings: &Settings,
+    submission: &Submission,
+) -> bool
+    ensures { (x : ContestState) → x.fixed.settings ≡ settings.now → result ≡ sees_submission audience x submission.now }
+{
+    knows_all_of(audience, submission.team) || is_public(settings, submission.team)
+}
+
+/// Whether the team at a place, from 0, isn't hidden.
+fn is_public(settings: &Settings, team: usize) -> bool
+    ensures { result ≡ is_public settings.now team }
+{
+    match settings.teams().get(team) {
+        Some(team) => !team.hidden,
+        None => false,
+    }
+}
+
+/// The verdict that a caller sees now on a submission, of the one that was released last: the place
+/// of its judgement type, from 0. None where nothing was released, where the submission isn't seen,
+/// or where it is frozen and its verdicts are held back from the caller. It takes no memory.
+pub(crate) fn seen_verdict(
+    audience: Audience,
+    settings: &Settings,
+    marks: &Marks,
+    now: Moment,
+    submission: &Submission,
+    released: Option<usize>,
+) -> Option<usize>
+    ensures { (x : ContestState) → x.fixed.settings ≡ settings.now → x.fixed.marks ≡ marks.now
+        → type_of (last_judgement x submission.now) ≡ released
+        → result ≡ seen_verdict audience now x submission.now }
+{
+    if !sees_submission(audience, settings, submission) {
+        return None;
+    }
+    let mask = mask_for(audience, marks, now, submission.team);
+    verdict_under(mask, settings, marks, submission.time, released)
 }

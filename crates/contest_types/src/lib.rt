@@ -39,7 +39,7 @@ pub use decimal::decimal_number;
 pub use digest::Digest;
 pub use id::{Id, is_id};
 pub use marks::Marks;
-pub use mask::{Mask, mask_for, verdict_under};
+pub use mask::{Mask, knows_all_of, mask_for, verdict_under};
 pub use minute::Minute;
 pub use moment::{Moment, one_text, print_time};
 pub use name::Name;

@@ -26,8 +26,9 @@ pub fn mask_for(audience: Audience, marks: &Marks, now: Moment, team: usize) -> 
     }
 }
 
-/// Whether a caller always sees all of a team's verdicts.
-fn knows_all_of(audience: Audience, team: usize) -> bool
+/// Whether a caller always sees all of what belongs to the team at a place, from 0: the jury and the
+/// team itself do. It takes no memory.
+pub fn knows_all_of(audience: Audience, team: usize) -> bool
     ensures { result ≡ knows_all_of audience team }
 {
     match audience {
