@@ -1,12 +1,11 @@
 -- The standings of the shown teams follow the order of the board.
-use Rattle.std.proofs.Common.{◌≡◌, ℕ, zero, suc, ◌+◌, ◌<◌, ◌≤◌, Bool, true, false, cond, ◌&&◌, ◌||◌, List, [], ◌∷◌, ◌++◌, length, take, get_or, refl, sym, ap, ◌∙◌, arith, Ordering, map, inl, inr, All, eqb, ltb}
+use Rattle.std.proofs.Common.{◌≡◌, ℕ, zero, suc, ◌+◌, ◌<◌, ◌≤◌, Bool, true, false, cond, ◌&&◌, ◌||◌, List, [], ◌∷◌, ◌++◌, length, take, get_or, refl, sym, ap, ◌∙◌, arith, Ordering, map, All, eqb, ltb}
 use Rattle.std.specs.List.{count_by, range_with_len, Contains}
 use Rattle.std.specs.List.Sorted.{IsPermutation, IsSorted}
 use Rattle.std.specs.Cmp.{IsTotalOrder}
 use Rattle.std.specs.Ordering.{nat_cmp, is_lt, ordering_reverse, ordering_then}
 use Rattle.std.specs.Cmp.Lexicographic.{slice_cmp}
 use Rattle.std.specs.declared.cmp.Ordering.TheVariants.{Less, Equal, Greater}
-use Rattle.std.proofs.lemmas.Option.{slice_get-get_or}
 use Rattle.std.proofs.lemmas.List.{length-map, get_or-map, take_more, map-append}
 use Rattle.std.proofs.lemmas.List.Sums.{sum_by-cons, sum_by-le-sum_by, length-filter, count_by-le-length}
 use Rattle.std.proofs.lemmas.List.FromFn.{length-range_with_len}

@@ -1,17 +1,12 @@
 -- Which attempts count: those up to the first that solves.
-use Rattle.std.proofs.Common.{◌≡◌, ℕ, ◌+◌, ◌<◌, Bool, true, false, cond, ◌&&◌, List, [], ◌∷◌, ◌++◌, length, take, drop, get_or, map, filter, ◌≤◌, Option, Some, None, is_some, refl, sym, ap, ◌∙◌, add-zero, append_assoc, append-nil, length-append, arith}
-use Rattle.std.specs.List.{list_any, enumerate_from, count_by, find}
+use Rattle.std.proofs.Common.{◌≡◌, Bool, true, false, cond, List, [], ◌∷◌, ◌++◌, length, map, filter, ◌≤◌, None, is_some, refl, sym, ap, ◌∙◌, append_assoc, append-nil, length-append, arith}
+use Rattle.std.specs.List.{list_any, enumerate_from, find}
 use Rattle.std.proofs.Math.Seq.{take-append_seam}
-use Rattle.std.proofs.lemmas.List.{take-append-drop, drop_more, take_all}
-use Rattle.std.proofs.lemmas.List.Folds.{list_any-append, find-append}
+use Rattle.std.proofs.lemmas.List.Folds.{list_any-append}
 use Rattle.std.proofs.lemmas.Bool.{false≢true}
 use Rattle.std.proofs.lemmas.Grind.{common_steps}
 use Rattle.contest_score.specs.declared.attempt.Attempt.{Attempt}
-use Rattle.contest_score.specs.declared.cell.Cell.{Cell}
-use Rattle.contest_types.specs.declared.minute.Minute.{Minute}
-use Rattle.contest_score.specs.declared.attempt.Verdict.{Verdict}
-use Rattle.std.proofs.lemmas.List.Sums.{sum_by_push}
-use Rattle.contest_score.specs.Scoring.{is_solving, is_judged, is_pending, is_penalised, counts_at, counted, cell_of_attempts, minute_of}
+use Rattle.contest_score.specs.Scoring.{is_solving, counts_at, counted}
 
 -- up to the first that solves
 abbrev pub until_solved : List Attempt → List Attempt

@@ -1,9 +1,9 @@
 -- Tables of cells, and how they grow by one submission.
-use Rattle.std.proofs.Common.{◌≡◌, ◌≢◌, ◌⊎◌, ℕ, suc, ◌+◌, ◌<◌, ◌≤◌, ◌^◌, Bool, true, false, cond, ◌&&◌, List, [], ◌∷◌, ◌++◌, length, take, get_or, set, map, filter, slice_get, Option, Some, None, refl, sym, ap, subst, ◌∙◌, append-nil, arith, inl, inr, All, eqb}
-use Rattle.std.specs.List.{range_with_len, count_by}
+use Rattle.std.proofs.Common.{◌≡◌, ◌≢◌, ◌⊎◌, ℕ, suc, ◌+◌, ◌<◌, ◌≤◌, ◌^◌, Bool, true, false, cond, ◌&&◌, List, [], ◌∷◌, ◌++◌, length, take, get_or, set, map, filter, slice_get, Some, None, refl, sym, ap, subst, ◌∙◌, append-nil, arith, inl, inr, All, eqb}
+use Rattle.std.specs.List.{range_with_len}
 use Rattle.std.proofs.Math.Path.{fun_ext}
-use Rattle.std.proofs.lemmas.Bool.{cases_eq, cases_Bool, eqb-true, eq-eqb, false≢true}
-use Rattle.std.proofs.lemmas.List.{take_more, take_all, length-map, length-take, length-set, map-append, get_or-set_same, get_or-set_other}
+use Rattle.std.proofs.lemmas.Bool.{cases_eq, eqb-true, eq-eqb}
+use Rattle.std.proofs.lemmas.List.{take_more, length-map, length-take, length-set, map-append, get_or-set_same, get_or-set_other}
 use Rattle.std.proofs.lemmas.List.Elements.{filter-append}
 use Rattle.std.proofs.lemmas.List.Sums.{length-filter, count_by-le-length}
 use Rattle.std.proofs.lemmas.List.FromFn.{fill_by_all, get_or-map-range_with_len, length-map-range_with_len}
@@ -14,10 +14,9 @@ use Rattle.contest_types.specs.declared.audience.Audience.{Audience}
 use Rattle.contest_score.specs.declared.cell.Cell.{Cell}
 use Rattle.contest_types.specs.declared.mask.Mask.{Mask}
 use Rattle.contest_score.specs.declared.submission.JudgedSubmission.{JudgedSubmission}
-use Rattle.contest_score.specs.Scoring.{cell_of_attempts}
 use Rattle.contest_score.specs.Counting.{HasRoom, cell_with}
 use Rattle.contest_score.specs.Table.{no_attempts, cell_in, cells_table, row_at, with_cell}
-use Rattle.contest_score.specs.Masks.{mask_for, is_by, attempt_under, attempts_under, start_of, cell_under, cell_for, IsAdmitted}
+use Rattle.contest_score.specs.Masks.{mask_for, is_by, attempt_under, attempts_under, start_of, cell_for, IsAdmitted}
 use Rattle.contest_score.proofs.CellSteps.{cell_more, cell_room}
 
 -- one place of a list by places is set

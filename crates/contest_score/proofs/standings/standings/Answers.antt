@@ -1,4 +1,3 @@
-use Rattle.std.proofs.Common.{sym}
 use Rattle.contest_score.specs.declared.standings.Standing.{Standing}
 use Rattle.contest_score.specs.Keys.{TellsTeam}
 use Rattle.contest_score.proofs.Placed.{Placed-more, Placed-past}
