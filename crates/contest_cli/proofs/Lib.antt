@@ -5,3 +5,4 @@ pub mod ReplayedLemmas
 mod ReplayLemmas
 pub mod ReplayFileLemmas
 pub mod TextLemmas
+pub mod ReplayedContestLemmas

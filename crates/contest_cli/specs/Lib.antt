@@ -3,6 +3,7 @@ pub mod FieldTexts
 pub mod ReplayRows
 pub mod Replayed
 pub mod TeamsSoFar
+pub mod ReplayedContest
 pub mod ReplayFile
 pub mod Columns
 pub mod CellText

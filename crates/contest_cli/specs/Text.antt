@@ -5,11 +5,11 @@ use Rattle.contest_types.specs.declared.audience.Audience.{Audience}
 use Rattle.contest_types.specs.declared.audience.Audience.TheVariants.{Public, Jury}
 use Rattle.contest_types.specs.declared.marks.Marks.{Marks}
 use Rattle.contest_types.specs.declared.refusal.Refusal.{Refusal}
-use Rattle.contest_score.specs.Masks.{cell_for}
-use Rattle.contest_score.specs.Ranking.{board_rows, is_public}
+use Rattle.contest_score.specs.Contest.{board_for}
 use Rattle.contest_score.specs.declared.submission.JudgedSubmission.{JudgedSubmission}
 use Rattle.contest_cli.specs.BoardText.{board_text}
 use Rattle.contest_cli.specs.Replayed.{ReplayedLists}
+use Rattle.contest_cli.specs.ReplayedContest.{contest_of}
 use Rattle.contest_cli.specs.ReplayFile.{replayed_in}
 
 -- who looks: the jury, or anyone
@@ -33,9 +33,9 @@ moment_for s (Some (negsuc n)) = 0
 abbrev pub up_to : ℕ → List JudgedSubmission → List JudgedSubmission
 up_to now us = filter (λ u. nat_le u.time now) us
 
--- the text of the board of these submissions, for a caller at a moment
+-- the text of the model's board for a caller at a moment, of the contest with these submissions
 abbrev pub text_of : Audience → Setup → Marks → ℕ → List JudgedSubmission → List ℕ
-text_of who s marks now us = board_text s marks now who (board_rows s (is_public s) (cell_for who s marks now us))
+text_of who s marks now us = board_text s marks now who (board_for who now (contest_of s marks us))
 
 -- the text of the board of a replayed contest: of its submissions up to the moment
 abbrev pub shown_text : Audience → Marks → ℕ → ReplayedLists → List ℕ
