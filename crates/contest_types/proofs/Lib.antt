@@ -10,3 +10,9 @@ pub mod Printed
 pub mod RelTimeReading
 pub mod OrderLemmas
 pub mod SightLemmas
+pub mod ExampleContest
+mod ExamplesSight
+pub mod AlikeLemmas
+pub mod ExampleTalk
+mod ExamplesAlike
+mod ExamplesUnlike
