@@ -10,3 +10,5 @@ pub mod Ranks
 pub mod Placed
 pub mod BoardOrder
 pub mod MaskLemmas
+mod Examples
+mod ExamplesAwards
