@@ -16,3 +16,7 @@ pub mod AlikeLemmas
 pub mod ExampleTalk
 mod ExamplesAlike
 mod ExamplesUnlike
+pub mod SeriesLemmas
+pub mod ValidParts
+pub mod AddLemmas
+pub mod AddClarification
