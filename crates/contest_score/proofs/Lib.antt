@@ -11,3 +11,5 @@ pub mod Placed
 pub mod BoardOrder
 pub mod MaskLemmas
 mod Examples
+mod ExamplesBoard
+mod ExamplesAwards

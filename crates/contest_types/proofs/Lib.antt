@@ -10,3 +10,13 @@ pub mod Printed
 pub mod RelTimeReading
 pub mod OrderLemmas
 pub mod SightLemmas
+pub mod ExampleContest
+mod ExamplesSight
+pub mod AlikeLemmas
+pub mod ExampleTalk
+mod ExamplesAlike
+mod ExamplesUnlike
+pub mod SeriesLemmas
+pub mod ValidParts
+pub mod AddLemmas
+pub mod AddClarification

@@ -12,11 +12,11 @@ use Rattle.contest_types.specs.declared.objects.Problem.{Problem}
 use Rattle.contest_types.specs.declared.objects.Team.{Team}
 use Rattle.contest_types.proofs.PlaceLemmas.{and_left, and_right, both_true, different_push, all_push}
 
-all_wider : {T : Type 0} (s t : T → Bool) → ((x : T) → s x ≡ true → t x ≡ true) → (xs : List T) → list_all s xs ≡ true → list_all t xs ≡ true
+pub all_wider : {T : Type 0} (s t : T → Bool) → ((x : T) → s x ≡ true → t x ≡ true) → (xs : List T) → list_all s xs ≡ true → list_all t xs ≡ true
 all_wider s t f [] h = refl
 all_wider s t f (x ∷ xs) h = both_true _ _ (f x (and_left _ _ h)) (all_wider s t f xs (and_right (s x) _ h))
 
-below_wider : (m n g : ℕ) → m ≤ n → nat_lt g m ≡ true → nat_lt g n ≡ true
+pub below_wider : (m n g : ℕ) → m ≤ n → nat_lt g m ≡ true → nat_lt g n ≡ true
 below_wider m n g l h = grind (arith, nat_tests)
 
 -- references hold where there are more groups

@@ -17,4 +17,11 @@ pub mod Masks
 pub mod State
 pub mod Sight
 pub mod Alike
+pub mod Series
+pub mod ValidFixed
+pub mod ValidSubmissions
+pub mod ValidClarifications
+pub mod ValidRejudgings
+pub mod Valid
+pub mod Addable
 pub mod Laws

@@ -1,0 +1,144 @@
+-- Worked examples: the clock, and who sees what.
+use Rattle.std.proofs.Common.{◌≡◌, ℕ, ◌+◌, ◌-◌, List, [], ◌∷◌, refl, Option, Some, None, true, false, map}
+use Rattle.std.specs.Prelude.{codes}
+use Rattle.std.specs.Fmt.{digits}
+use Rattle.contest_types.specs.Clock.{end_of, freeze_of, is_frozen, is_freezing, is_thawed, is_finalized, phase_at}
+use Rattle.contest_types.specs.State.{ContestState}
+use Rattle.contest_types.specs.Sight.{SeenSubmission, SeenClarification, Judgement, seen_submissions, seen_clarifications, seen_verdict, sees_team, clarification_id}
+use Rattle.contest_types.specs.declared.audience.Audience.{Audience}
+use Rattle.contest_types.specs.declared.audience.Audience.TheVariants as audience
+use Rattle.contest_types.specs.declared.audience.Phase.TheVariants as phase
+use Rattle.contest_types.specs.declared.clarification.Addressee.TheVariants as addressee
+use Rattle.contest_types.specs.declared.clarification.Reference.{Reference}
+use Rattle.contest_types.proofs.ExampleContest.{minutes, hours, settings, started, empty, thawed_at, accepted, wrong, submitted, released, asked, answered, announced}
+
+ends : end_of settings started ≡ Some (hours 5)
+ends = refl
+
+freezes : freeze_of settings started ≡ Some (hours 4)
+freezes = refl
+
+-- with no start there is no freeze moment
+never_freezes : freeze_of settings (record started { start = None }) ≡ None
+never_freezes = refl
+
+-- a millisecond before the freeze, and exactly at it
+not_yet_frozen : is_frozen settings started (hours 4 - 1) ≡ false
+not_yet_frozen = refl
+
+frozen : is_frozen settings started (hours 4) ≡ true
+frozen = refl
+
+freeze_lasts : is_freezing settings started (hours 6) ≡ true
+freeze_lasts = refl
+
+thaw_ends_it : is_freezing settings (record started { thaw = Some (hours 6) }) (hours 6) ≡ false
+thaw_ends_it = refl
+
+before_start : phase_at settings (record started { start = Some 10 }) 9 ≡ phase.Before
+before_start = refl
+
+unset_start : phase_at settings (record started { start = None }) (hours 9) ≡ phase.Before
+unset_start = refl
+
+at_start : phase_at settings started 0 ≡ phase.Running
+at_start = refl
+
+last_millisecond : phase_at settings started (hours 5 - 1) ≡ phase.Running
+last_millisecond = refl
+
+at_end : phase_at settings started (hours 5) ≡ phase.Ended
+at_end = refl
+
+finalized_now : is_finalized (record started { finalized = Some 7 }) 7 ≡ true
+finalized_now = refl
+
+-- the second team submits a just before the freeze and b exactly at it; both are accepted later
+abbrev around_freeze : ContestState
+around_freeze = record empty {
+  submissions = submitted 1 1 (hours 4 - 1) 0 ∷ submitted 1 2 (hours 4) 1 ∷ [];
+  releases = released 1 1 1 accepted (hours 4 + minutes 10) ∷ released 1 2 1 accepted (hours 4 + minutes 10) ∷ [];
+}
+
+abbrev verdicts_seen : Audience → ℕ → ContestState → List (Option Judgement)
+verdicts_seen a now x = map (λ (s : SeenSubmission). s.judgement) (seen_submissions a now x)
+
+abbrev its_acceptance : Option Judgement
+its_acceptance = Some (record { round = 1; verdict = accepted; time = hours 4 + minutes 10 })
+
+public_sees : verdicts_seen audience.Public (hours 4 + minutes 20) around_freeze ≡ its_acceptance ∷ None ∷ []
+public_sees = refl
+
+other_team_sees : verdicts_seen (audience.Team 1) (hours 4 + minutes 20) around_freeze ≡ its_acceptance ∷ None ∷ []
+other_team_sees = refl
+
+owner_sees : verdicts_seen (audience.Team 2) (hours 4 + minutes 20) around_freeze ≡ its_acceptance ∷ its_acceptance ∷ []
+owner_sees = refl
+
+jury_sees : verdicts_seen audience.Jury (hours 4 + minutes 20) around_freeze ≡ its_acceptance ∷ its_acceptance ∷ []
+jury_sees = refl
+
+thawed_public_sees : verdicts_seen audience.Public (hours 5) (thawed_at around_freeze (hours 5)) ≡ its_acceptance ∷ its_acceptance ∷ []
+thawed_public_sees = refl
+
+-- the last release counts
+abbrev judged_twice : ContestState
+judged_twice = record empty {
+  submissions = submitted 0 1 (minutes 5) 0 ∷ [];
+  releases = released 0 1 1 accepted (minutes 6) ∷ released 0 1 2 wrong (minutes 9) ∷ [];
+}
+
+last_counts : map (λ s. seen_verdict audience.Public 0 judged_twice s) judged_twice.submissions ≡ Some wrong ∷ []
+last_counts = refl
+
+-- the hidden team's submissions are seen by it and by the jury
+hidden_from_public : sees_team audience.Public settings 3 ≡ false
+hidden_from_public = refl
+
+seen_by_itself : sees_team (audience.Team 4) settings 3 ≡ true
+seen_by_itself = refl
+
+hidden_submits : seen_submissions audience.Public 0 (record empty { submissions = submitted 3 1 0 0 ∷ [] }) ≡ []
+hidden_submits = refl
+
+-- whichever was accepted first, submissions stand by time, then by team id
+abbrev order_of : List SeenSubmission → List ℕ
+order_of = map (λ s. s.team)
+
+in_time : order_of (seen_submissions audience.Jury 0 (record empty { submissions = submitted 2 1 (minutes 3) 0 ∷ submitted 1 1 (minutes 1) 0 ∷ submitted 0 1 (minutes 3) 0 ∷ [] })) ≡ 1 ∷ 0 ∷ 2 ∷ []
+in_time = refl
+
+-- the second team asks, and the jury answers it before all
+abbrev talk : ContestState
+talk = record empty {
+  clarifications = asked 1 1 (minutes 5) ∷ announced 1 (minutes 9) (Some (record { addressee = addressee.Team 1; number = 1 })) ∷ [];
+}
+
+abbrev replies_heard : Audience → ContestState → List (Option Reference)
+replies_heard a x = map (λ (c : SeenClarification). c.reply) (seen_clarifications a x)
+
+asker_hears : replies_heard (audience.Team 2) talk ≡ None ∷ Some (record { addressee = addressee.Team 1; number = 1 }) ∷ []
+unfolding digits
+asker_hears = refl
+
+-- another team hears the answer, and not which question it answers
+other_hears : replies_heard (audience.Team 1) talk ≡ None ∷ []
+unfolding digits
+other_hears = refl
+
+public_hears : replies_heard audience.Public talk ≡ None ∷ []
+unfolding digits
+public_hears = refl
+
+-- of one moment, clarifications stand by the bytes of their ids: `c2-10` before `c2-2`
+request_id : clarification_id (addressee.Team 1) 10 ≡ codes "c2-10"
+unfolding digits
+request_id = refl
+
+general_id : clarification_id addressee.All 3 ≡ codes "g-3"
+unfolding digits
+general_id = refl
+
+numbers_by_id : map (λ (c : SeenClarification). c.number) (seen_clarifications (audience.Team 2) (record empty { clarifications = asked 1 2 5 ∷ asked 1 10 5 ∷ announced 1 5 None ∷ [] })) ≡ 10 ∷ 2 ∷ 1 ∷ []
+unfolding digits
+numbers_by_id = refl

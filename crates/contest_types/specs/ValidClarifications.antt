@@ -1,0 +1,68 @@
+-- When the clarifications of a contest are valid (own).
+use Rattle.std.specs.Prelude.{ℕ, Bool, true, false, not, ◌&&◌, ◌||◌, ◌==◌, nat_le, nat_lt, List, length, map, count_by, slice_get, if◌then◌else◌}
+use Rattle.std.specs.List.{list_any, list_all}
+use Rattle.std.specs.Option.{option_map_or}
+use Rattle.std.proofs.Math.Bool.{beq}
+use Rattle.contest_types.specs.Series.{in_each, count_up, have_own_keys}
+use Rattle.contest_types.specs.State.{FixedPart, ContestState, same_addressee}
+use Rattle.contest_types.specs.declared.limits.TheConstants.{TEAM_REQUESTS, JURY_CLARIFICATIONS}
+use Rattle.contest_types.specs.declared.account.Role.{Role}
+use Rattle.contest_types.specs.declared.account.Role.TheVariants as role
+use Rattle.contest_types.specs.declared.clarification.Clarification.{Clarification}
+use Rattle.contest_types.specs.declared.clarification.Addressee.{Addressee}
+use Rattle.contest_types.specs.declared.clarification.Addressee.TheVariants as addressee
+use Rattle.contest_types.specs.declared.clarification.Reference.{Reference}
+
+abbrev pub is_an_addressee : FixedPart → Addressee → Bool
+is_an_addressee f addressee.All = true
+is_an_addressee f (addressee.Team team) = nat_lt team (length f.settings.teams)
+
+abbrev pub has_clarification : ContestState → Reference → Bool
+has_clarification x r = list_any (λ c. same_addressee c.addressee r.addressee && (c.number == r.number)) x.clarifications
+
+-- the account speaks for the team that the clarification belongs to
+abbrev pub speaks_for : Role → Addressee → Bool
+speaks_for (role.Team team) to = same_addressee (addressee.Team team) to
+speaks_for _ to = false
+
+-- a team sees its own clarifications and those to all
+abbrev pub is_seen_from : Addressee → Addressee → Bool
+is_seen_from of addressee.All = true
+is_seen_from of (addressee.Team team) = same_addressee of (addressee.Team team)
+
+-- what a team writes belongs to it, and answers nothing that it doesn't see
+abbrev pub is_well_sent : FixedPart → Clarification → Bool
+is_well_sent f c =
+    c.from_jury || (option_map_or (λ a. speaks_for a.role c.addressee) (slice_get f.accounts c.account) false
+    && option_map_or (λ (r : Reference). is_seen_from c.addressee r.addressee) c.reply true)
+
+-- a clarification names what is there
+abbrev pub is_valid_clarification : ContestState → Clarification → Bool
+is_valid_clarification x c =
+    is_an_addressee x.fixed c.addressee && nat_lt c.account (length x.fixed.accounts)
+    && option_map_or (λ problem. nat_lt problem (length x.fixed.settings.problems)) c.problem true
+    && option_map_or (has_clarification x) c.reply true && is_well_sent x.fixed c
+
+abbrev pub to_one_addressee : Clarification → Clarification → Bool
+to_one_addressee c d = same_addressee d.addressee c.addressee
+
+abbrev pub is_request : Clarification → Bool
+is_request c = not c.from_jury
+
+-- an addressee's clarifications count up over both directions, and neither direction has too many
+abbrev pub are_valid_clarifications : List Clarification → Bool
+are_valid_clarifications cs =
+    count_up (map (λ (c : Clarification). c.number) cs)
+    && nat_le (count_by is_request cs) TEAM_REQUESTS && nat_le (count_by (λ (c : Clarification). c.from_jury) cs) JURY_CLARIFICATIONS
+
+-- keys are told apart by the team, and for the jury by the account
+abbrev pub in_one_scope : Clarification → Clarification → Bool
+in_one_scope c d = beq c.from_jury d.from_jury && (if c.from_jury then d.account == c.account else same_addressee d.addressee c.addressee)
+
+abbrev pub keys_are_own : List Clarification → Bool
+keys_are_own cs = have_own_keys (map (λ (c : Clarification). c.key) cs)
+
+abbrev pub has_valid_clarifications : ContestState → Bool
+has_valid_clarifications x =
+    list_all (is_valid_clarification x) x.clarifications
+    && in_each to_one_addressee are_valid_clarifications x.clarifications && in_each in_one_scope keys_are_own x.clarifications
