@@ -57,10 +57,10 @@ same a b h = eqb-true a b h
 later : (earlier : List JudgedSubmission) (u : JudgedSubmission) (team number : ℕ) → number ≤ count team earlier
     → releases_on team number (released (record { number = count u.team earlier + 1; row = u }) u.verdict) ≡ []
 later earlier u team number h = elim (cases_Bool (nat_eq u.team team)) [
-    inl t ↦ other_number (record { number = count u.team earlier + 1; row = u }) u.verdict team number true t
-        (below (count u.team earlier + 1) number (omega (arith, h, ap (λ k. count k earlier) (same u.team team t))))
+  | inl t ↦ other_number (record { number = count u.team earlier + 1; row = u }) u.verdict team number true t
+      (below (count u.team earlier + 1) number (omega (arith, h, ap (λ k. count k earlier) (same u.team team t))))
   | inr f ↦ other_team (record { number = count u.team earlier + 1; row = u }) u.verdict team number f
-  ]
+]
 
 -- the submissions still to come have greater numbers
 none_later : (earlier us : List JudgedSubmission) (team number : ℕ) → number ≤ count team earlier → releases_on team number (releases_of (numbered_after earlier us)) ≡ []
@@ -89,10 +89,10 @@ is_before_more : (earlier : List JudgedSubmission) (vs : List Release) (u : Judg
 is_before_more earlier vs u h team number l =
     let n : Numbered = record { number = count u.team earlier + 1; row = u } in
     let none : releases_on team number (released n u.verdict) ≡ [] = elim (cases_Bool (nat_eq u.team team)) [
-        inl t ↦ other_number n u.verdict team number true t
-            (above (count u.team earlier + 1) number (omega (arith, l, count_more team earlier u, count_own u, ap (λ k. count k earlier) (same u.team team t), ap (λ k. count k (u ∷ [])) (same u.team team t))))
+      | inl t ↦ other_number n u.verdict team number true t
+          (above (count u.team earlier + 1) number (omega (arith, l, count_more team earlier u, count_own u, ap (λ k. count k earlier) (same u.team team t), ap (λ k. count k (u ∷ [])) (same u.team team t))))
       | inr f ↦ other_team n u.verdict team number f
-      ] in
+    ] in
     filter-append _ vs (released n u.verdict) ∙ rw (none, h team number (omega (arith, l, count_more team earlier u))) refl
 
 head_told : (earlier us : List JudgedSubmission) (u : JudgedSubmission) (before : List Release) → IsBefore earlier before
@@ -101,11 +101,11 @@ head_told earlier us u before h =
     let n : Numbered = record { number = count u.team earlier + 1; row = u } in
     let rest : List Release = releases_of (numbered_after (earlier ++ u ∷ []) us) in
     let after : releases_on u.team n.number rest ≡ [] =
-        none_later (earlier ++ u ∷ []) us u.team n.number (omega (arith, count_more u.team earlier u, count_own u)) in
+    none_later (earlier ++ u ∷ []) us u.team n.number (omega (arith, count_more u.team earlier u, count_own u)) in
     let first : releases_on u.team n.number before ≡ [] = h u.team n.number (omega arith) in
     let split : releases_on u.team n.number (before ++ (released n u.verdict ++ rest)) ≡ released n u.verdict =
-        filter-append _ before (released n u.verdict ++ rest)
-        ∙ (rw first (filter-append _ (released n u.verdict) rest ∙ rw (after, own_releases n u.verdict) (append-nil (released n u.verdict)))) in
+    filter-append _ before (released n u.verdict ++ rest)
+    ∙ (rw first (filter-append _ (released n u.verdict) rest ∙ rw (after, own_releases n u.verdict) (append-nil (released n u.verdict)))) in
     ap told split ∙ told_of n u.verdict
 
 told_all : (vs before : List Release) (earlier us : List JudgedSubmission) → vs ≡ before ++ releases_of (numbered_after earlier us) → IsBefore earlier before
@@ -115,7 +115,7 @@ told_all vs before earlier (u ∷ us) e h =
     let n : Numbered = record { number = count u.team earlier + 1; row = u } in
     let same_head : judged vs n ≡ u = ap (λ v. record { team = u.team; problem = u.problem; time = u.time; verdict = v }) (rw e (head_told earlier us u before h)) in
     let same_tail : map (judged vs) (numbered_after (earlier ++ u ∷ []) us) ≡ us =
-        told_all vs (before ++ released n u.verdict) (earlier ++ u ∷ []) us (e ∙ sym (append_assoc before (released n u.verdict) (releases_of (numbered_after (earlier ++ u ∷ []) us)))) (is_before_more earlier before u h) in
+    told_all vs (before ++ released n u.verdict) (earlier ++ u ∷ []) us (e ∙ sym (append_assoc before (released n u.verdict) (releases_of (numbered_after (earlier ++ u ∷ []) us)))) (is_before_more earlier before u h) in
     rw (same_head, same_tail) refl
 
 -- scoring reads of a replayed contest what the records said

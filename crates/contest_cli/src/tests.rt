@@ -2,6 +2,10 @@
 use crate::commands::run;
 use crate::input::{InputFault, read_limited, zeros};
 use crate::output::write_whole;
+use crate::replay_csv::read_replay_csv;
+use crate::visibility::{seen_verdict, sees_submission};
+use contest_types::{Audience, Marks, Moment, Rows, Settings, Submission};
+use std::alloc::Global;
 use std::cmp::min;
 use std::io::{self, ErrorKind, Read, Write};
 use std::test::Fail;
@@ -153,6 +157,68 @@ fn tells_faults_of_words(rt: HostRuntime) -> Result<(), Fail> {
             out.is_empty() && err.starts_with(text.as_bytes()),
             "at {text}"
         );
+    }
+    Ok(())
+}
+
+// A contest with a freeze, a team and a hidden one.
+const HIDDEN: &str = "kind,id,f1,f2,f3
+contest,c,Cup,5:00:00,1:00:00
+type,AC,correct,true,false
+problem,a,A,Apples,0
+team,t1,Alpha,,
+team,t2,Staff,true,
+";
+
+const HOUR: u64 = 3_600_000;
+
+fn submission_at(alloc: Global, team: usize, hours: u32) -> Option<Submission> {
+    Some(Submission {
+        team,
+        number: 1,
+        time: Moment::from_milliseconds(u64::from(hours) * HOUR)?,
+        problem: 0,
+        language: 0,
+        entry_point: None,
+        file: Rows::new(alloc),
+        key: None,
+    })
+}
+
+// Whether the caller sees the submission, and its verdict before the thaw.
+fn seen(settings: &Settings, audience: Audience, submission: &Submission) -> (bool, Option<usize>) {
+    let marks = Marks {
+        start: Moment::from_milliseconds(0),
+        thaw: None,
+        finalized: None,
+    };
+    let sees = sees_submission(audience, settings, submission);
+    let now = submission.time;
+    let verdict = seen_verdict(audience, settings, &marks, now, submission, Some(0));
+    (sees, verdict)
+}
+
+#[test]
+fn shows_what_a_caller_may_see(rt: HostRuntime) -> Result<(), Fail> {
+    let Ok(replayed) = read_replay_csv(rt.alloc(), HIDDEN.as_bytes()) else {
+        return Err(Fail::from("the file is refused"));
+    };
+    let rows = [
+        (Audience::Public, 0, 3, (true, Some(0))),
+        (Audience::Public, 0, 4, (true, None)),
+        (Audience::Public, 1, 3, (false, None)),
+        (Audience::Team(1), 0, 4, (true, Some(0))),
+        (Audience::Team(1), 1, 3, (false, None)),
+        (Audience::Team(2), 0, 4, (true, None)),
+        (Audience::Team(2), 1, 4, (true, Some(0))),
+        (Audience::Jury, 1, 4, (true, Some(0))),
+    ];
+    for (audience, team, hours, wanted) in rows {
+        let Some(submission) = submission_at(rt.alloc(), team, hours) else {
+            return Err(Fail::from("no such moment"));
+        };
+        let answer = seen(replayed.settings(), audience, &submission);
+        assert_eq!(rt; answer, wanted, "team {team} at {hours}");
     }
     Ok(())
 }
