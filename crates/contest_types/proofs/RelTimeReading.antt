@@ -184,7 +184,7 @@ pub reltime_unread : (text : List ℕ) → reltime_of text ≡ None → (time : 
 reltime_unread text e = unreads text _ refl e
 
 -- what is found by the spelling is what is read
-found_at : (text : List ℕ) (time : ℤ) (o : Option ℤ) → reltime_of text ≡ o → IsRelTimeText text time → Some time ≡ reltime_of text
+pub found_at : (text : List ℕ) (time : ℤ) (o : Option ℤ) → reltime_of text ≡ o → IsRelTimeText text time → Some time ≡ reltime_of text
 found_at text time None e h = absurd (reltime_unread text e time h)
 found_at text time (Some other) e h = ap Some (one_shown text time other h (reltime_read text other e)) ∙ sym e
 

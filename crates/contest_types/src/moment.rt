@@ -99,3 +99,10 @@ fn instant_of(milliseconds: u64) -> Timestamp
 pub fn one_text()
     ensures { (a b : List ℕ) (m : ℕ) → ShowsMoment a m → ShowsMoment b m → a ≡ b }
 {}
+
+/// A text shows one moment at most, when it is read and when it is printed: so two moments never
+/// print alike.
+pub fn one_moment()
+    ensures read { (text : List ℕ) (m n : ℕ) → IsMomentText text m → IsMomentText text n → m ≡ n }
+    ensures printed { (text : List ℕ) (m n : ℕ) → ShowsMoment text m → ShowsMoment text n → m ≡ n }
+{}
