@@ -1,3 +1,4 @@
+//! Ids, of contests and of the objects in them.
 ghost use Rattle.std.specs.Prelude.{◌≡◌, ℕ, List, IfOk, IfErr, OnErr, SomeIff, IsTrue, ◌↔◌};
 ghost use Rattle.std.specs.List.{list_all};
 ghost use Rattle.std.proofs.Common.{rules};
@@ -15,7 +16,7 @@ use std::cmp::Ordering;
 use std::marker::Model;
 
 /// What names an object of a contest in paths, files and replies: 1 to 36 letters, digits, `_`, `.`
-/// or `-`, not beginning with `-`. Contracts see its bytes.
+/// or `-`, not beginning with `-` (Contest API 2023-06, ID). Contracts see its bytes.
 #[derive(Clone, Debug, Drop)]
 pub struct Id {
     text: String,

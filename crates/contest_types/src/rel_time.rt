@@ -62,7 +62,7 @@ impl RelTime {
         }
     }
 
-    /// The milliseconds.
+    /// The milliseconds, below zero for a time before.
     pub fn milliseconds(self) -> i64
         ensures value { result ≡ self }
         ensures bound { unsigned_abs result ≤ farthest }
@@ -148,7 +148,9 @@ fn field_at_end(text: &[u8], mark: u8, digits: usize) -> Option<(&[u8], u64)>
     Some((&text[..at], value))
 }
 
-/// Writes a time at the front of the buffer, and answers how many bytes that took.
+/// Writes a time at the front of the buffer as `h:mm:ss.uuu`, with a minus before it where it is below
+/// zero and no more digits of the hours than they need, and answers how many bytes that took. The
+/// rest of the buffer stays as it was.
 pub fn print_reltime(time: RelTime, out: &mut [u8; 24]) -> usize
     ensures fits { result ≤ 24 }
     ensures text { take result out.new ≡ rel_time_text time }
