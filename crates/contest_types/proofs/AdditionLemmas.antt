@@ -1,10 +1,7 @@
 -- What stands of a row's id, and what adding the row comes to.
-use Rattle.std.proofs.Common.{ℕ, ◌≡◌, Bool, true, false, List, length, map, Option, Some, None, get_or, refl, sym, ap, ◌∙◌}
-use Rattle.std.specs.Prelude.{find}
-use Rattle.std.specs.Str.{bytes_eq}
+use Rattle.std.proofs.Common.{ℕ, ◌≡◌, Bool, true, false, List, map, Option, Some, None, get_or, refl, sym, ap, ◌∙◌}
 use Rattle.contest_types.specs.Places.{place_of}
 use Rattle.contest_types.specs.Additions.{standing_by, standing_of}
-use Rattle.contest_types.specs.declared.id_list.Standing.{Standing}
 use Rattle.contest_types.specs.declared.id_list.Standing.TheVariants.{New, Same, Other}
 use Rattle.contest_types.proofs.PlaceLemmas.{found_at, not_found, no_place}
 

@@ -1,14 +1,14 @@
 -- A relative time that is read is the one that the text shows.
-use Rattle.std.proofs.Common.{ℕ, ℤ, ◌≡◌, ◌≢◌, ◌+◌, ◌-◌, ◌*◌, ◌<◌, ◌≤◌, ◌⊎◌, inl, inr, Bool, true, false, List, [], ◌∷◌, ◌++◌, length, take, drop, get_or, Option, Some, None, refl, sym, ap, subst, ◌∙◌, arith}
-use Rattle.std.specs.Prelude.{◌&&◌, nat_lt, nat_le, nat_eq, pos, neg_ℤ, IfSome, IfNone}
+use Rattle.std.proofs.Common.{ℕ, ℤ, ◌≡◌, ◌+◌, ◌-◌, ◌*◌, ◌<◌, ◌≤◌, inl, inr, Bool, true, false, List, [], ◌∷◌, ◌++◌, length, take, drop, get_or, Option, Some, None, refl, sym, ap, subst, ◌∙◌, arith}
+use Rattle.std.specs.Prelude.{◌&&◌, nat_lt, nat_le, nat_eq, IfSome, IfNone}
 use Rattle.std.specs.Option.{option_and_then, option_map}
 use Rattle.std.specs.List.{list_all}
 use Rattle.std.specs.Char.{digit_value}
 use Rattle.std.specs.Str.Parse.{IsNumeral, AllDigits, digits_value}
 use Rattle.std.proofs.Math.Seq.{get_or-append_seam}
-use Rattle.std.proofs.lemmas.Bool.{cases_Bool, false≢true, eqb-true, eq-eqb}
+use Rattle.std.proofs.lemmas.Bool.{false≢true, eqb-true, eq-eqb}
 use Rattle.std.proofs.lemmas.Bool.Decides.{nat_tests}
-use Rattle.std.proofs.lemmas.List.{append_assoc, length-append, take-append-drop, drop_more, drop_at, take_at, length-drop, length-take}
+use Rattle.std.proofs.lemmas.List.{append_assoc, length-append, take-append-drop, drop_more, drop_at, take_at, length-drop}
 use Rattle.contest_types.specs.RelTimeText.{farthest, Field, IsSplit, IsClock, IsRelTimeText, sign, signed}
 use Rattle.contest_types.specs.RelTimeRead.{are_digits, has_field, field_of, or_whole, total_of, clock_of, reltime_of}
 use Rattle.contest_types.proofs.PlaceLemmas.{and_left, and_right, both_true}
@@ -184,7 +184,7 @@ pub reltime_unread : (text : List ℕ) → reltime_of text ≡ None → (time : 
 reltime_unread text e = unreads text _ refl e
 
 -- what is found by the spelling is what is read
-found_at : (text : List ℕ) (time : ℤ) (o : Option ℤ) → reltime_of text ≡ o → IsRelTimeText text time → Some time ≡ reltime_of text
+pub found_at : (text : List ℕ) (time : ℤ) (o : Option ℤ) → reltime_of text ≡ o → IsRelTimeText text time → Some time ≡ reltime_of text
 found_at text time None e h = absurd (reltime_unread text e time h)
 found_at text time (Some other) e h = ap Some (one_shown text time other h (reltime_read text other e)) ∙ sym e
 

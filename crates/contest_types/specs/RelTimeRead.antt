@@ -5,7 +5,7 @@ use Rattle.std.specs.Option.{option_and_then, option_map}
 use Rattle.std.specs.List.{list_all}
 use Rattle.std.specs.Char.{digit_value}
 use Rattle.std.specs.Str.Parse.{digits_value}
-use Rattle.contest_types.specs.RelTimeText.{farthest, signed}
+use Rattle.contest_types.specs.RelTimeText.{farthest}
 
 -- one digit or more, and nothing else
 abbrev pub are_digits : List ℕ → Bool

@@ -1,5 +1,5 @@
 -- When two rows of the settings are equal in content: field by field.
-use Rattle.std.specs.Prelude.{ℕ, ◌&&◌, ◌==◌, Bool, nat_eq}
+use Rattle.std.specs.Prelude.{◌&&◌, Bool, nat_eq}
 use Rattle.std.specs.Str.{bytes_eq}
 use Rattle.std.proofs.Math.Bool.{beq}
 use Rattle.std.specs.Cmp.Lexicographic.{pointwise}

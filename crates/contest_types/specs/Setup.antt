@@ -1,5 +1,5 @@
 -- What settings hold, and when they are valid.
-use Rattle.std.specs.Prelude.{ℕ, ◌≡◌, ◌≤◌, ◌&&◌, Bool, true, not, List, length, map, nat_lt, nat_le, Option, None, Some}
+use Rattle.std.specs.Prelude.{ℕ, ◌≡◌, ◌≤◌, ◌&&◌, Bool, true, List, length, map, nat_lt, nat_le, Option, None, Some}
 use Rattle.std.specs.List.{list_all}
 use Rattle.contest_types.specs.Places.{are_different}
 use Rattle.contest_types.specs.declared.contest.ContestHead.{ContestHead}

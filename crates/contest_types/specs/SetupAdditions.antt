@@ -1,5 +1,5 @@
 -- What adding a row to the settings comes to.
-use Rattle.std.specs.Prelude.{ℕ, ◌≡◌, Bool, List, [], length, map, Result, Ok, Err, if◌then◌else◌, nat_le}
+use Rattle.std.specs.Prelude.{◌≡◌, Bool, [], length, Result, Err, if◌then◌else◌, nat_le}
 use Rattle.contest_types.specs.Places.{is_among}
 use Rattle.contest_types.specs.Setup.{Setup, labels_of, refers}
 use Rattle.contest_types.specs.Rows.{same_type, same_language, same_problem, same_group, same_team}

@@ -4,8 +4,8 @@ ghost use Rattle.contest_types.specs.Clock.{end_of, freeze_of, is_frozen, is_tha
 
 use crate::{Marks, Moment, Settings};
 
-/// When the contest ends, in milliseconds since 1970: its start and its duration; none where no
-/// start is set.
+/// When the contest ends, in milliseconds since 1970: its start and its duration (Contest API
+/// 2023-06, contest object); none where no start is set.
 pub fn end_of(settings: &Settings, marks: &Marks) -> Option<u64>
     ensures { result ≡ end_of settings.now marks.now }
 {
@@ -13,8 +13,8 @@ pub fn end_of(settings: &Settings, marks: &Marks) -> Option<u64>
     Some(start.milliseconds() + settings.head().duration.milliseconds())
 }
 
-/// When the scoreboard freezes, in milliseconds since 1970; none where no start is set or the
-/// contest has no freeze.
+/// When the scoreboard freezes, in milliseconds since 1970: so long before the end (Contest API
+/// 2023-06, contest object); none where no start is set or the contest has no freeze.
 pub fn freeze_of(settings: &Settings, marks: &Marks) -> Option<u64>
     ensures { result ≡ freeze_of settings.now marks.now }
 {
@@ -51,7 +51,8 @@ pub fn is_freezing(settings: &Settings, marks: &Marks, now: Moment) -> bool
     is_frozen(settings, marks, now) && !is_thawed(marks, now)
 }
 
-/// Whether the results are final at this moment.
+/// Whether the results are final at this moment: they were made so, and not after it (Contest API
+/// 2023-06, state object).
 pub fn is_finalized(marks: &Marks, now: Moment) -> bool
     ensures { result ≡ is_finalized marks.now now }
 {

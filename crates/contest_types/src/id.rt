@@ -1,7 +1,8 @@
-ghost use Rattle.std.specs.Prelude.{◌≡◌, ℕ, List, IfOk, IfErr, SomeIff, IsTrue, ◌↔◌};
+//! Ids, of contests and of the objects in them.
+ghost use Rattle.std.specs.Prelude.{◌≡◌, ℕ, List, IfOk, IfErr, OnErr, SomeIff, IsTrue, ◌↔◌};
 ghost use Rattle.std.specs.List.{list_all};
 ghost use Rattle.std.proofs.Common.{rules};
-ghost use Rattle.std.specs.Str.{bytes_eq};
+ghost use Rattle.std.specs.Str.{bytes_eq, IsAscii};
 ghost use Rattle.std.specs.Cmp.{partial_order_from_own_ties};
 ghost use Rattle.std.specs.Cmp.Rules.{comparing};
 ghost use Rattle.std.specs.Cmp.Lexicographic.{slice_cmp};
@@ -15,7 +16,7 @@ use std::cmp::Ordering;
 use std::marker::Model;
 
 /// What names an object of a contest in paths, files and replies: 1 to 36 letters, digits, `_`, `.`
-/// or `-`, not beginning with `-`. Contracts see its bytes.
+/// or `-`, not beginning with `-` (Contest API 2023-06, ID). Contracts see its bytes.
 #[derive(Clone, Debug, Drop)]
 pub struct Id {
     text: String,
@@ -39,11 +40,12 @@ impl Id {
     ///
     /// # Errors
     ///
-    /// Want of memory alone.
+    /// Want of memory alone, and only where there is an id.
     pub fn parse(alloc: Global, text: &str) -> Result<Option<Id>, Refusal>
         ensures exact { IfOk result (λ found. SomeIff found (IsId text.now) text.now) }
         ensures value { IfOk result (λ found. found ≡ id_of text.now) }
         ensures err { IfErr result (λ e. e ≡ Refusal.Memory) }
+        ensures memory { OnErr result (IsId text.now) }
     {
         if !is_id(text.as_bytes()) {
             return Ok(None);
@@ -56,10 +58,11 @@ impl Id {
     ///
     /// # Errors
     ///
-    /// Want of memory alone.
+    /// Want of memory alone, and only where there is an id.
     pub fn from_bytes(alloc: Global, bytes: &[u8]) -> Result<Option<Id>, Refusal>
         ensures value { IfOk result (λ found. found ≡ id_of bytes.now) }
         ensures err { IfErr result (λ e. e ≡ Refusal.Memory) }
+        ensures memory { OnErr result (IsId bytes.now) }
     {
         match std::str::from_utf8(bytes) {
             Ok(text) => Id::parse(alloc, text),
@@ -105,6 +108,11 @@ pub fn is_id(text: &[u8]) -> bool
     }
     all_id_bytes(text)
 }
+
+/// Ids are ASCII.
+pub fn ids_are_ascii()
+    ensures { (bytes : List ℕ) → IsId bytes → IsAscii bytes }
+{}
 
 impl PartialEq for Id {
     ghost eq = { bytes_eq };

@@ -37,11 +37,11 @@ pub use clock::{end_of, freeze_of, is_finalized, is_freezing, is_frozen, is_thaw
 pub use contest::{Contest, ContestHead, Medals};
 pub use decimal::decimal_number;
 pub use digest::Digest;
-pub use id::{Id, is_id};
+pub use id::{Id, ids_are_ascii, is_id};
 pub use marks::Marks;
 pub use mask::{Mask, knows_all_of, mask_for, verdict_under};
 pub use minute::Minute;
-pub use moment::{Moment, one_text, print_time};
+pub use moment::{Moment, one_moment, one_text, print_time};
 pub use name::Name;
 pub use objects::{Group, JudgementType, Language, Problem, Team};
 pub use proposal::{Proposal, Proposer};

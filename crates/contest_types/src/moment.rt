@@ -10,7 +10,8 @@ use jiff::fmt::temporal;
 use jiff::tz::Offset;
 use std::marker::Model;
 
-/// Milliseconds since 1970-01-01T00:00:00Z.
+/// A moment: whole milliseconds since 1970-01-01T00:00:00Z, up to the end of the year 9998 (Contest
+/// API 2023-06, TIME).
 #[derive(Clone, Copy, Debug, PartialEq, Eq, PartialOrd, Ord)]
 pub struct Moment {
     milliseconds: u64,
@@ -49,7 +50,13 @@ impl Moment {
         self.milliseconds
     }
 
-    /// The moment that a text shows, if it shows one.
+    /// The moment that a text shows, if it shows one: a date, a time of day and an offset from UTC
+    /// or `Z`, as in `2024-03-02T10:00:00.5+01:00` (RFC 3339), read as `jiff` reads an instant. A
+    /// moment before 1970, past the year 9998 or off the millisecond is none.
+    ///
+    /// # Errors
+    ///
+    /// None: it takes no memory.
     pub fn parse(text: &str) -> Result<Option<Moment>, Refusal>
         ensures ok { IsOk result }
         ensures found { IfOk result (λ o. IfSome o (λ m. IsMomentText text.now m)) }
@@ -72,7 +79,8 @@ impl Moment {
     }
 }
 
-/// What a clock in UTC shows at a moment, to the millisecond.
+/// What a clock in UTC shows at a moment, to the millisecond, as `yyyy-mm-ddThh:mm:ss.uuu+00:00`
+/// (Contest API 2023-06, TIME).
 pub fn print_time(moment: Moment) -> [u8; 29]
     ensures { ShowsMoment result moment }
 {
@@ -98,4 +106,11 @@ fn instant_of(milliseconds: u64) -> Timestamp
 /// A moment has one text.
 pub fn one_text()
     ensures { (a b : List ℕ) (m : ℕ) → ShowsMoment a m → ShowsMoment b m → a ≡ b }
+{}
+
+/// A text shows one moment at most, when it is read and when it is printed: so two moments never
+/// print alike.
+pub fn one_moment()
+    ensures read { (text : List ℕ) (m n : ℕ) → IsMomentText text m → IsMomentText text n → m ≡ n }
+    ensures printed { (text : List ℕ) (m n : ℕ) → ShowsMoment text m → ShowsMoment text n → m ≡ n }
 {}

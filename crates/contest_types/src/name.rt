@@ -1,5 +1,5 @@
 //! Names: of contests, problems and teams, and labels, entry points and reasons.
-ghost use Rattle.std.specs.Prelude.{◌≡◌, IfOk, IfErr};
+ghost use Rattle.std.specs.Prelude.{◌≡◌, IfOk, IfErr, OnErr, IsTrue, IsSome};
 ghost use Rattle.std.specs.List.{list_all};
 ghost use Rattle.std.specs.Str.{bytes_eq, chars};
 ghost use Rattle.std.proofs.Common.{rules};
@@ -38,10 +38,11 @@ impl Name {
     ///
     /// # Errors
     ///
-    /// Want of memory alone.
+    /// Want of memory alone, and only where there is a name.
     pub fn parse(alloc: Global, text: &str) -> Result<Option<Name>, Refusal>
         ensures value { IfOk result (λ found. found ≡ name_of text.now) }
         ensures err { IfErr result (λ e. e ≡ Refusal.Memory) }
+        ensures memory { OnErr result (IsTrue (is_name text.now)) }
     {
         if text.is_empty() || text.len() > NAME_LENGTH || !all_plain(text) {
             return Ok(None);
@@ -54,10 +55,11 @@ impl Name {
     ///
     /// # Errors
     ///
-    /// Want of memory alone.
+    /// Want of memory alone, and only where there is a name.
     pub fn from_bytes(alloc: Global, bytes: &[u8]) -> Result<Option<Name>, Refusal>
         ensures value { IfOk result (λ found. found ≡ name_from bytes.now) }
         ensures err { IfErr result (λ e. e ≡ Refusal.Memory) }
+        ensures memory { OnErr result (IsSome (name_from bytes.now)) }
     {
         match std::str::from_utf8(bytes) {
             Ok(text) => Name::parse(alloc, text),

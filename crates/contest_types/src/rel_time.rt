@@ -1,5 +1,5 @@
 //! Relative times: lengths of time, and their texts.
-ghost use Rattle.std.specs.Prelude.{◌≡◌, ◌≢◌, ◌+◌, ◌-◌, ◌*◌, ◌/◌, ◌%◌, ◌<◌, ◌≤◌, ◌∷◌, ◌++◌, ◌↔◌, ◌==◌, ℕ, ℤ, List, [], Bool, Option, Some, None, SomeIff, MatchOption, IfSome, IfNone, length, pos, neg_ℤ, drop, take, false, slice_index, unsigned_abs};
+ghost use Rattle.std.specs.Prelude.{◌≡◌, ◌≢◌, ◌+◌, ◌-◌, ◌*◌, ◌/◌, ◌%◌, ◌<◌, ◌≤◌, ◌∷◌, ◌++◌, ◌↔◌, ◌==◌, ℕ, ℤ, List, [], Bool, Option, Some, None, SomeIff, IsTrue, IsFalse, ◌⊎◌, MatchOption, IfSome, IfNone, length, pos, neg_ℤ, drop, take, false, slice_index, unsigned_abs};
 ghost use Rattle.std.specs.Str.Parse.{IsNumeral, digits_value};
 ghost use Rattle.contest_types.specs.RelTimeRead.{reltime_of};
 ghost use Rattle.contest_types.specs.RelTimeText.{farthest, AreDigits, Field, IsSplit, IsClock, IsRelTimeText, sign, rel_time_text, clock_text};
@@ -62,7 +62,7 @@ impl RelTime {
         }
     }
 
-    /// The milliseconds.
+    /// The milliseconds, below zero for a time before.
     pub fn milliseconds(self) -> i64
         ensures value { result ≡ self }
         ensures bound { unsigned_abs result ≤ farthest }
@@ -103,11 +103,19 @@ fn clock_of(text: &[u8]) -> Option<u64>
     let (front, seconds) = field_at_end(clock, b':', 2)?;
     let (front, minutes) = field_at_end(front, b':', 2)?;
     let hours = decimal_number(front, LAST_MOMENT / HOUR)?;
-    if minutes >= 60 || seconds >= 60 {
+    if !are_below_60(minutes, seconds) {
         return None;
     }
     let n = hours * HOUR + minutes * 60_000 + seconds * 1_000 + thousandths;
     if n <= LAST_MOMENT { Some(n) } else { None }
+}
+
+/// Whether minutes and seconds are within their ranges.
+fn are_below_60(minutes: u64, seconds: u64) -> bool
+    ensures yes { IsTrue result → (minutes < 60) × (seconds < 60) }
+    ensures no { IsFalse result → (60 ≤ minutes) ⊎ (60 ≤ seconds) }
+{
+    minutes < 60 && seconds < 60
 }
 
 /// The text before a fraction, and the thousandths; the whole text where there is none.
@@ -140,7 +148,9 @@ fn field_at_end(text: &[u8], mark: u8, digits: usize) -> Option<(&[u8], u64)>
     Some((&text[..at], value))
 }
 
-/// Writes a time at the front of the buffer, and answers how many bytes that took.
+/// Writes a time at the front of the buffer as `h:mm:ss.uuu`, with a minus before it where it is below
+/// zero and no more digits of the hours than they need, and answers how many bytes that took. The
+/// rest of the buffer stays as it was.
 pub fn print_reltime(time: RelTime, out: &mut [u8; 24]) -> usize
     ensures fits { result ≤ 24 }
     ensures text { take result out.new ≡ rel_time_text time }
@@ -176,7 +186,8 @@ pub fn one_time()
     ensures { (text : List ℕ) (a b : ℤ) → IsRelTimeText text a → IsRelTimeText text b → a ≡ b }
 {}
 
-/// What is printed reads back.
+/// What is printed shows the time, and is read back as it.
 pub fn printed_reads()
-    ensures { (t : ℤ) → unsigned_abs t ≤ farthest → IsRelTimeText (rel_time_text t) t }
+    ensures shows { (t : ℤ) → unsigned_abs t ≤ farthest → IsRelTimeText (rel_time_text t) t }
+    ensures reads { (t : ℤ) → unsigned_abs t ≤ farthest → reltime_of (rel_time_text t) ≡ Some t }
 {}

@@ -46,7 +46,11 @@ impl<T> Rows<T> {
 }
 
 impl<T: Drop> Rows<T> {
-    /// Adds a row at the end. Where memory is refused the rows are as before.
+    /// Adds a row at the end.
+    ///
+    /// # Errors
+    ///
+    /// Want of memory alone. The rows are then as before.
     pub fn push(&mut self, row: T) -> Result<(), AllocError>
         ensures ok { OnOk result (self.new ≡ self.old ++ row ∷ []) }
         ensures err { OnErr result (self.new ≡ self.old) }

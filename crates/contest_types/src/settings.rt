@@ -107,7 +107,7 @@ impl Settings {
         self.teams.as_slice()
     }
 
-    /// The place of the judgement type with this id, from 0.
+    /// The place of the judgement type with this id, from 0; none where no judgement type has it.
     pub fn judgement_type_place(&self, id: &[u8]) -> Option<usize>
         ensures place { result ≡ place_of id.now (map (λ t. t.id) self.now.types) }
         ensures within { IfSome result (λ place. place < length self.now.types) }
@@ -117,7 +117,7 @@ impl Settings {
         self.types.place(id)
     }
 
-    /// The place of the language with this id, from 0.
+    /// The place of the language with this id, from 0; none where no language has it.
     pub fn language_place(&self, id: &[u8]) -> Option<usize>
         ensures place { result ≡ place_of id.now (map (λ l. l.id) self.now.languages) }
         ensures within { IfSome result (λ place. place < length self.now.languages) }
@@ -127,7 +127,7 @@ impl Settings {
         self.languages.place(id)
     }
 
-    /// The place of the problem with this id, from 0.
+    /// The place of the problem with this id, from 0; none where no problem has it.
     pub fn problem_place(&self, id: &[u8]) -> Option<usize>
         ensures place { result ≡ place_of id.now (map (λ p. p.id) self.now.problems) }
         ensures within { IfSome result (λ place. place < length self.now.problems) }
@@ -137,7 +137,7 @@ impl Settings {
         self.problems.place(id)
     }
 
-    /// The place of the group with this id, from 0.
+    /// The place of the group with this id, from 0; none where no group has it.
     pub fn group_place(&self, id: &[u8]) -> Option<usize>
         ensures place { result ≡ place_of id.now (map (λ g. g.id) self.now.groups) }
         ensures within { IfSome result (λ place. place < length self.now.groups) }
@@ -147,7 +147,7 @@ impl Settings {
         self.groups.place(id)
     }
 
-    /// The place of the team with this id, from 0.
+    /// The place of the team with this id, from 0; none where no team has it.
     pub fn team_place(&self, id: &[u8]) -> Option<usize>
         ensures place { result ≡ place_of id.now (map (λ t. t.id) self.now.teams) }
         ensures within { IfSome result (λ place. place < length self.now.teams) }

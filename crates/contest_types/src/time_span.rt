@@ -53,7 +53,7 @@ impl TimeSpan {
         })
     }
 
-    /// The milliseconds.
+    /// How many milliseconds it is.
     pub fn milliseconds(self) -> u64
         ensures value { result ≡ self }
         ensures bound { result ≤ farthest }

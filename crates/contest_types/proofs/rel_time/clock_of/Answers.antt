@@ -1,7 +1,6 @@
-use Rattle.std.proofs.Common.{inl, inr, arith}
+use Rattle.std.proofs.Common.{arith}
 use Rattle.contest_types.proofs.RelTimeLemmas.{closed, no_seconds, no_minutes, no_hours, no_sixty, one_total}
 use Rattle.contest_types.proofs.rel_time.clock_of.Goals as goal
-use Rattle.contest_types.proofs.rel_time.clock_of.Goals.{then-minutes-ge60-via-then-minutes-ge60, then-minutes-ge60-via-else-minutes-ge60+then-seconds-ge60}
 
 pub returns-in_err-front-clause-none : goal.returns-in_err-front-clause-none
 returns-in_err-front-clause-none c = rw c.from_residual.ensures (no_seconds _ _ _ c.fraction_of-thousandths.ensures.split c.in_err-front.ensures.none)
@@ -12,10 +11,9 @@ returns-in_err-front-2-clause-none c = rw c.from_residual-in_err-front-2.ensures
 pub returns-in_err-hours-clause-none : goal.returns-in_err-hours-clause-none
 returns-in_err-hours-clause-none c = rw c.from_residual-in_err-hours.ensures (no_hours _ _ _ _ _ _ _ c.fraction_of-thousandths.ensures.split c.in_ok-front.ensures.found c.in_ok-front-2.ensures.found c.in_err-hours.ensures)
 
-pub returns-then-minutes-ge60-clause-none : goal.returns-then-minutes-ge60-clause-none
-returns-then-minutes-ge60-clause-none c =
-    no_sixty _ _ _ _ _ _ _ c.fraction_of-thousandths.ensures.split c.in_ok-front.ensures.found c.in_ok-front-2.ensures.found
-    (elim c.then-minutes-ge60.branch [ then-minutes-ge60-via-then-minutes-ge60 w ↦ inl w.if-minutes-ge60.true | then-minutes-ge60-via-else-minutes-ge60+then-seconds-ge60 w ↦ inr w.if-seconds-ge60.true ])
+pub returns-then-not-are_below_60-clause-none : goal.returns-then-not-are_below_60-clause-none
+returns-then-not-are_below_60-clause-none c =
+    no_sixty _ _ _ _ _ _ _ c.fraction_of-thousandths.ensures.split c.in_ok-front.ensures.found c.in_ok-front-2.ensures.found (c.are_below_60.ensures.no c.if-not-are_below_60.true)
 
 pub returns-then-n-le-LAST_MOMENT-clause-found : goal.returns-then-n-le-LAST_MOMENT-clause-found
 returns-then-n-le-LAST_MOMENT-clause-found c =

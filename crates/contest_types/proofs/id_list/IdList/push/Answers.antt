@@ -1,6 +1,5 @@
-use Rattle.std.proofs.Common.{ℕ, ◌≡◌, ◌∙◌, true, Some, ap, sym, length, subst, Option, arith}
+use Rattle.std.proofs.Common.{ℕ, ◌≡◌, ◌∙◌, true, Some, ap, length, subst, arith}
 use Rattle.std.specs.HashMap.{UpdatesBy}
-use Rattle.contest_types.specs.Places.{IsIndexed}
 use Rattle.contest_types.specs.IdText.{is_id}
 use Rattle.contest_types.proofs.PlaceLemmas.{IsIndexed-push, key_eq}
 use Rattle.contest_types.proofs.id_list.IdList.push.Goals as goal

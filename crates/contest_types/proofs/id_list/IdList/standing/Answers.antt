@@ -1,4 +1,4 @@
-use Rattle.std.proofs.Common.{◌≡◌, ◌∙◌, sym, ap, arith, length, map, Some, None}
+use Rattle.std.proofs.Common.{◌≡◌, sym, arith, map, Some}
 use Rattle.contest_types.specs.Places.{place_of}
 use Rattle.contest_types.proofs.PlaceLemmas.{place_within}
 use Rattle.contest_types.proofs.AdditionLemmas.{stands_new, stands_same, stands_other}
