@@ -20,3 +20,4 @@ pub mod SeriesLemmas
 pub mod ValidParts
 pub mod AddLemmas
 pub mod AddClarification
+pub mod AddRejudging
