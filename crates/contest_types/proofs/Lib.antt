@@ -21,3 +21,6 @@ pub mod ValidParts
 pub mod AddLemmas
 pub mod AddClarification
 pub mod AddRejudging
+pub mod AddSettings
+pub mod AddRows
+pub mod AddEntry

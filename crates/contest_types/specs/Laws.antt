@@ -1,9 +1,11 @@
 -- What holds of every contest, in the subject's words. Each is the contract of a function of src/laws.rt.
-use Rattle.std.specs.Prelude.{◌≡◌, ℕ, Bool, List}
+use Rattle.std.specs.Prelude.{◌≡◌, ℕ, Bool, true, List}
 use Rattle.contest_types.specs.Order.{Has, IsInOrder, IsStrict}
-use Rattle.contest_types.specs.State.{ContestState}
+use Rattle.contest_types.specs.State.{ContestState, Entry, add_all}
 use Rattle.contest_types.specs.Sight.{seen_submissions, seen_clarifications}
 use Rattle.contest_types.specs.Alike.{Alike, MayBeHeld}
+use Rattle.contest_types.specs.Valid.{is_valid}
+use Rattle.contest_types.specs.Addable.{are_addable}
 use Rattle.contest_types.specs.declared.audience.Audience.{Audience}
 
 -- a contest is alike to itself
@@ -33,3 +35,7 @@ abbrev pub OneOrder : Type 0 → Type 0
 OneOrder X =
     (before : X → X → Bool) (xs ys : List X) → IsStrict before → IsInOrder before xs → IsInOrder before ys
     → ((z : X) → Has xs z → Has ys z) → ((z : X) → Has ys z → Has xs z) → xs ≡ ys
+
+-- changes that may be made keep a valid contest valid
+abbrev pub AddingKeepsValid : Type 0
+AddingKeepsValid = (x : ContestState) (es : List Entry) → is_valid x ≡ true → are_addable x es ≡ true → is_valid (add_all x es) ≡ true

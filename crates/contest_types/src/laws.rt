@@ -1,5 +1,5 @@
 //! Laws of the model: functions that do nothing, and whose contracts say what holds of every contest.
-ghost use Rattle.contest_types.specs.Laws.{IsAlikeToItself, IsAlikeBothWays, IsAlikeOnward, AlikeShowTheSame, AlikeTellTheSame, OneOrder};
+ghost use Rattle.contest_types.specs.Laws.{IsAlikeToItself, IsAlikeBothWays, IsAlikeOnward, AlikeShowTheSame, AlikeTellTheSame, OneOrder, AddingKeepsValid};
 ghost use Rattle.contest_types.specs.Sight.{SeenSubmission, SeenClarification};
 
 /// A contest is alike to itself.
@@ -36,4 +36,9 @@ pub fn one_order_of_submissions()
 /// Two lists of clarifications in strict order with the same elements are one list.
 pub fn one_order_of_clarifications()
     ensures { OneOrder SeenClarification }
+{}
+
+/// What may be added keeps a valid contest valid, one change after another.
+pub fn adding_keeps_valid()
+    ensures { AddingKeepsValid }
 {}
