@@ -24,3 +24,4 @@ pub mod AddRejudging
 pub mod AddSettings
 pub mod AddRows
 pub mod AddEntry
+mod ExamplesValid
