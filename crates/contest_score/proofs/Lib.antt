@@ -12,3 +12,4 @@ pub mod BoardOrder
 pub mod MaskLemmas
 mod Examples
 mod ExamplesAwards
+pub mod BoardAlike
