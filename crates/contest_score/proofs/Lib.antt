@@ -2,7 +2,6 @@ pub mod Counted
 pub mod CellSteps
 pub mod Tables
 pub mod Sums
-pub mod Different
 pub mod InOrder
 pub mod KeyOrder
 pub mod ProblemOrder

@@ -25,3 +25,6 @@ pub mod AddSettings
 pub mod AddRows
 pub mod AddEntry
 mod ExamplesValid
+pub mod Different
+pub mod InOrderLemmas
+pub mod SeenWhole

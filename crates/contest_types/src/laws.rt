@@ -1,5 +1,5 @@
 //! Laws of the model: functions that do nothing, and whose contracts say what holds of every contest.
-ghost use Rattle.contest_types.specs.Laws.{IsAlikeToItself, IsAlikeBothWays, IsAlikeOnward, AlikeShowTheSame, AlikeTellTheSame, OneOrder, AddingKeepsValid};
+ghost use Rattle.contest_types.specs.Laws.{IsAlikeToItself, IsAlikeBothWays, IsAlikeOnward, AlikeShowTheSame, AlikeTellTheSame, SeenIsListed, OneOrder, AddingKeepsValid};
 ghost use Rattle.contest_types.specs.Sight.{SeenSubmission, SeenClarification};
 
 /// A contest is alike to itself.
@@ -26,6 +26,11 @@ pub fn seen_alike()
 /// And they let it hear the same clarifications.
 pub fn heard_alike()
     ensures { AlikeTellTheSame }
+{}
+
+/// In a valid contest all that an audience may see of submissions is listed for it, and nothing else.
+pub fn seen_is_listed()
+    ensures { SeenIsListed }
 {}
 
 /// Two lists of submissions in strict order with the same elements are one list.
