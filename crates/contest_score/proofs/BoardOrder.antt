@@ -29,7 +29,7 @@ use Rattle.contest_score.specs.Ranking.{in_order, place_in, row_cmp, row_of, ran
 use Rattle.contest_score.proofs.KeyOrder.{Follows, sorted_keys, range_rises}
 use Rattle.contest_score.proofs.Ranks.{standing_cmp_total, place_tied, count_agree}
 use Rattle.contest_score.proofs.ProblemOrder.{then_less, then_equal}
-use Rattle.contest_score.proofs.Different.{one_place}
+use Rattle.contest_types.proofs.Different.{one_place}
 
 -- the order that the standings' derived `cmp` computes to
 abbrev pub key_cmp : Standing → Standing → Ordering

@@ -2,7 +2,6 @@ pub mod Counted
 pub mod CellSteps
 pub mod Tables
 pub mod Sums
-pub mod Different
 pub mod InOrder
 pub mod KeyOrder
 pub mod ProblemOrder
@@ -13,3 +12,4 @@ pub mod MaskLemmas
 mod Examples
 mod ExamplesBoard
 mod ExamplesAwards
+pub mod BoardAlike

@@ -18,7 +18,7 @@ use Rattle.contest_types.specs.Places.{are_different}
 use Rattle.contest_types.specs.Setup.{Setup, IsValid}
 use Rattle.contest_score.specs.Keys.{TellsProblem}
 use Rattle.contest_score.specs.Ranking.{problem_cmp, problem_order, ordinal_at, problem_id_at}
-use Rattle.contest_score.proofs.Different.{one_place}
+use Rattle.contest_types.proofs.Different.{one_place}
 use Rattle.contest_score.proofs.KeyOrder.{Follows, sorted_keys, range_rises}
 
 pub then_less : (x y z : Ordering) → ordering_then x y ≡ Less → ordering_then x (ordering_then y z) ≡ Less

@@ -53,3 +53,7 @@ abbrev pub AlikeScoreTheSame : Type 0
 AlikeScoreTheSame =
     (a : Audience) (now : ℕ) (x y : ContestState) (team problem : ℕ) → MayBeHeld a now x → Alike a x y
     → sees_team a x.fixed.settings team ≡ true → seen_cell a now x team problem ≡ seen_cell a now y team problem
+
+-- and the same board
+abbrev pub AlikeRankTheSame : Type 0
+AlikeRankTheSame = (a : Audience) (now : ℕ) (x y : ContestState) → MayBeHeld a now x → Alike a x y → board_for a now x ≡ board_for a now y

@@ -2,7 +2,7 @@
 //! contest.
 ghost use Rattle.std.specs.Prelude.{List};
 ghost use Rattle.contest_score.specs.declared.attempt.Attempt.{Attempt as AttemptValue};
-ghost use Rattle.contest_score.specs.Laws.{WhatCounts, OwnCellsAreFull, NoFreezeNoMask, HeldCountsNoFrozen, AlikeScoreTheSame};
+ghost use Rattle.contest_score.specs.Laws.{WhatCounts, OwnCellsAreFull, NoFreezeNoMask, HeldCountsNoFrozen, AlikeScoreTheSame, AlikeRankTheSame};
 
 /// An attempt counts exactly where no earlier one solves.
 pub fn what_counts()
@@ -27,4 +27,9 @@ pub fn held_counts_no_frozen()
 /// Until the thaw, contests that are alike for an audience show it the same cells.
 pub fn cells_alike()
     ensures { AlikeScoreTheSame }
+{}
+
+/// And the same board.
+pub fn board_alike()
+    ensures { AlikeRankTheSame }
 {}

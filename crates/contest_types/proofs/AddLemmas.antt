@@ -27,7 +27,7 @@ use Rattle.contest_types.proofs.ValidParts.{Parts, parts, whole, AllFour, four, 
 same_number : (m n k : ℕ) → (n == m) ≡ true → (k == m) ≡ (k == n)
 same_number m n k e = ap (λ t. k == t) (sym (eqb-true n m e))
 
-one_team : IsTogether of_one_team
+pub one_team : IsTogether of_one_team
 one_team = record { itself = λ s. eq-eqb s.team s.team refl; same = λ s t u e. same_number s.team t.team u.team e }
 
 both_same : (a b : ℕ) → ((a == a) && (b == b)) ≡ true

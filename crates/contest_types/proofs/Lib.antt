@@ -20,3 +20,11 @@ pub mod SeriesLemmas
 pub mod ValidParts
 pub mod AddLemmas
 pub mod AddClarification
+pub mod AddRejudging
+pub mod AddSettings
+pub mod AddRows
+pub mod AddEntry
+mod ExamplesValid
+pub mod Different
+pub mod InOrderLemmas
+pub mod SeenWhole

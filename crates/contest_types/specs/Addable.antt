@@ -1,5 +1,5 @@
 -- Which changes keep a valid contest valid (own).
-use Rattle.std.specs.Prelude.{ℕ, ◌+◌, Bool, true, false, not, ◌&&◌, ◌||◌, ◌==◌, nat_le, nat_lt, List, ◌++◌, length, map, filter, count_by, Result, Ok, Err, is_some, if◌then◌else◌}
+use Rattle.std.specs.Prelude.{ℕ, ◌+◌, Bool, true, false, not, ◌&&◌, ◌||◌, ◌==◌, nat_le, nat_lt, List, [], ◌∷◌, ◌++◌, length, map, filter, count_by, Result, Ok, Err, is_some, if◌then◌else◌}
 use Rattle.std.specs.List.{list_all}
 use Rattle.std.specs.Option.{option_map_or}
 use Rattle.contest_types.specs.Places.{is_among}
@@ -7,7 +7,7 @@ use Rattle.contest_types.specs.MomentText.{latest}
 use Rattle.contest_types.specs.Clock.{after}
 use Rattle.contest_types.specs.Series.{is_new_key}
 use Rattle.contest_types.specs.SetupAdditions.{type_addition, language_addition, problem_addition, group_addition, team_addition}
-use Rattle.contest_types.specs.State.{ContestState, submissions_of, releases_on, proposals_for, clarifications_to, Entry, NewSubmission, NewProposal, NewRelease, NewClarification, NewRejudging, SetMember, SetRejudging, SetStart, SetThaw, SetFinalized, NewType, NewLanguage, NewProblem, NewGroup, NewTeam, NewAccount}
+use Rattle.contest_types.specs.State.{ContestState, submissions_of, releases_on, proposals_for, clarifications_to, add, Entry, NewSubmission, NewProposal, NewRelease, NewClarification, NewRejudging, SetMember, SetRejudging, SetStart, SetThaw, SetFinalized, NewType, NewLanguage, NewProblem, NewGroup, NewTeam, NewAccount}
 use Rattle.contest_types.specs.ValidFixed.{is_valid_account}
 use Rattle.contest_types.specs.ValidSubmissions.{is_valid_submission, is_valid_proposal, is_valid_release, is_imported}
 use Rattle.contest_types.specs.ValidClarifications.{is_valid_clarification, is_request, in_one_scope}
@@ -78,3 +78,8 @@ is_addable x (NewProblem p) = is_added (problem_addition x.fixed.settings p)
 is_addable x (NewGroup g) = is_added (group_addition x.fixed.settings g)
 is_addable x (NewTeam t) = is_added (team_addition x.fixed.settings t)
 is_addable x (NewAccount a) = is_valid_account x.fixed.settings a && is_next_account x.fixed.accounts a
+
+-- the changes may be made one after another
+abbrev pub are_addable : ContestState → List Entry → Bool
+are_addable x [] = true
+are_addable x (e ∷ es) = is_addable x e && are_addable (add x e) es

@@ -1,10 +1,13 @@
 -- What holds of every contest, in the subject's words. Each is the contract of a function of src/laws.rt.
-use Rattle.std.specs.Prelude.{◌≡◌, ℕ, Bool, List}
+use Rattle.std.specs.Prelude.{◌≡◌, ◌↔◌, ℕ, Bool, true, List}
 use Rattle.contest_types.specs.Order.{Has, IsInOrder, IsStrict}
-use Rattle.contest_types.specs.State.{ContestState}
-use Rattle.contest_types.specs.Sight.{seen_submissions, seen_clarifications}
+use Rattle.contest_types.specs.State.{ContestState, Entry, add_all}
+use Rattle.contest_types.specs.Sight.{SeenSubmission, sees_submission, seen_submission, seen_submissions, seen_clarifications}
 use Rattle.contest_types.specs.Alike.{Alike, MayBeHeld}
+use Rattle.contest_types.specs.Valid.{is_valid}
+use Rattle.contest_types.specs.Addable.{are_addable}
 use Rattle.contest_types.specs.declared.audience.Audience.{Audience}
+use Rattle.contest_types.specs.declared.submission.Submission.{Submission}
 
 -- a contest is alike to itself
 abbrev pub IsAlikeToItself : Type 0
@@ -28,8 +31,24 @@ abbrev pub AlikeTellTheSame : Type 0
 AlikeTellTheSame =
     (a : Audience) (now : ℕ) (x y : ContestState) → MayBeHeld a now x → Alike a x y → seen_clarifications a x ≡ seen_clarifications a y
 
+-- this is what the audience sees of a submission that stands and that it may see
+pub record IsSeen (a : Audience) (now : ℕ) (x : ContestState) (v : SeenSubmission) : Type 0 where
+  pub submission : Submission
+  pub there : Has x.submissions submission
+  pub sees : sees_submission a x submission ≡ true
+  pub shown : v ≡ seen_submission a now x submission
+
+-- in a valid contest all that an audience may see of submissions is listed for it, and nothing else
+abbrev pub SeenIsListed : Type 0
+SeenIsListed =
+    (a : Audience) (now : ℕ) (x : ContestState) → is_valid x ≡ true → (v : SeenSubmission) → Has (seen_submissions a now x) v ↔ IsSeen a now x v
+
 -- two lists in strict order with the same elements are one
 abbrev pub OneOrder : Type 0 → Type 0
 OneOrder X =
     (before : X → X → Bool) (xs ys : List X) → IsStrict before → IsInOrder before xs → IsInOrder before ys
     → ((z : X) → Has xs z → Has ys z) → ((z : X) → Has ys z → Has xs z) → xs ≡ ys
+
+-- changes that may be made keep a valid contest valid
+abbrev pub AddingKeepsValid : Type 0
+AddingKeepsValid = (x : ContestState) (es : List Entry) → is_valid x ≡ true → are_addable x es ≡ true → is_valid (add_all x es) ≡ true

@@ -1,5 +1,5 @@
 //! Laws of the model: functions that do nothing, and whose contracts say what holds of every contest.
-ghost use Rattle.contest_types.specs.Laws.{IsAlikeToItself, IsAlikeBothWays, IsAlikeOnward, AlikeShowTheSame, AlikeTellTheSame, OneOrder};
+ghost use Rattle.contest_types.specs.Laws.{IsAlikeToItself, IsAlikeBothWays, IsAlikeOnward, AlikeShowTheSame, AlikeTellTheSame, SeenIsListed, OneOrder, AddingKeepsValid};
 ghost use Rattle.contest_types.specs.Sight.{SeenSubmission, SeenClarification};
 
 /// A contest is alike to itself.
@@ -28,6 +28,11 @@ pub fn heard_alike()
     ensures { AlikeTellTheSame }
 {}
 
+/// In a valid contest all that an audience may see of submissions is listed for it, and nothing else.
+pub fn seen_is_listed()
+    ensures { SeenIsListed }
+{}
+
 /// Two lists of submissions in strict order with the same elements are one list.
 pub fn one_order_of_submissions()
     ensures { OneOrder SeenSubmission }
@@ -36,4 +41,9 @@ pub fn one_order_of_submissions()
 /// Two lists of clarifications in strict order with the same elements are one list.
 pub fn one_order_of_clarifications()
     ensures { OneOrder SeenClarification }
+{}
+
+/// What may be added keeps a valid contest valid, one change after another.
+pub fn adding_keeps_valid()
+    ensures { AddingKeepsValid }
 {}
