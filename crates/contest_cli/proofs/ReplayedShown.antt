@@ -8,6 +8,7 @@ use Rattle.contest_types.specs.Series.{never_fall}
 use Rattle.contest_types.specs.Setup.{Setup, IsValid}
 use Rattle.contest_types.specs.Valid.{is_valid}
 use Rattle.contest_types.proofs.PlaceLemmas.{and_left, and_right, both_true}
+use Rattle.contest_types.specs.declared.limits.TheConstants.{TEAM_SUBMISSIONS}
 use Rattle.contest_score.specs.Masks.{IsAdmitted}
 use Rattle.contest_score.specs.declared.submission.JudgedSubmission.{JudgedSubmission}
 use Rattle.contest_cli.specs.declared.team_so_far.TeamSoFar.{TeamSoFar}
@@ -18,9 +19,10 @@ use Rattle.contest_cli.specs.Text.{marks_for, up_to}
 use Rattle.contest_cli.proofs.ReplayedLemmas.{no_submissions, fewer}
 use Rattle.contest_cli.proofs.ReplayedValid.{contest_valid}
 
+-- what the state keeps says that its submissions are those of a valid contest
 pub reads_valid : (s : Setup) (us : List JudgedSubmission) (teams : List TeamSoFar) → IsReplayed s us teams → ReadsValid s us
 reads_valid s us teams r =
-    let few : (team : ℕ) → team < length s.teams → length (submissions_of team us) ≤ 500 = λ team l.
+    let few : (team : ℕ) → team < length s.teams → length (submissions_of team us) ≤ TEAM_SUBMISSIONS = λ team l.
         (let low : team < length teams = omega (arith, r.all, l) in
         let told = r.told team no_submissions low in
         let most = r.few team no_submissions low in

@@ -3,7 +3,7 @@ use Rattle.std.proofs.Common.{ℕ, ◌≡◌, ◌+◌, ◌<◌, ◌≤◌, inl, 
 use Rattle.std.specs.Prelude.{◌==◌, ◌&&◌, ◌||◌, not, nat_eq, nat_le, nat_lt, filter, IfSome}
 use Rattle.std.specs.List.{list_all, list_any, flat_map}
 use Rattle.std.proofs.Math.Seq.{get_or-append_seam}
-use Rattle.std.proofs.lemmas.Bool.{cases_Bool, eq-eqb, le-leb}
+use Rattle.std.proofs.lemmas.Bool.{cases_Bool, eq-eqb, le-leb, lt-ltb}
 use Rattle.std.proofs.lemmas.Bool.Decides.{nat_tests}
 use Rattle.std.proofs.lemmas.Grind.{flat_map-append}
 use Rattle.std.proofs.lemmas.List.{length-append, length-map, map-append}
@@ -32,12 +32,6 @@ use Rattle.contest_cli.specs.ReplayedContest.{Numbered, numbered_after, submissi
 use Rattle.contest_cli.specs.TeamsSoFar.{reading_marks, ReadsValid}
 use Rattle.contest_cli.specs.Text.{replay_marks}
 use Rattle.contest_cli.proofs.ReplayedContestLemmas.{count, IsBefore, is_before_more}
-
-fits : (a b : ℕ) → a ≤ b → nat_le a b ≡ true
-fits a b h = le-leb a b h
-
-within : (a b : ℕ) → a < b → nat_lt a b ≡ true
-within a b h = grind (arith, nat_tests)
 
 -- what is before the end isn't at it
 not_yet : (duration time : ℕ) → time < duration → not (nat_le (0 + duration) time) ≡ true
@@ -131,8 +125,8 @@ next_submission s thaw us u f =
     let number : nat_eq row.number (length own + 1) ≡ true = eq-eqb row.number (length own + 1) (omega (arith, long)) in
     let last : list_all (λ t. nat_le t.time row.time) own ≡ true = sym (list_all-map (λ k. nat_le k u.time) time own) ∙ (rw told f.last) in
     both_true (is_valid_submission x.fixed row) (is_next_submission own row)
-    (all_six _ _ _ _ _ _ (within _ _ f.admitted.team) (within _ _ f.admitted.problem) (within 0 (length s.languages) f.spoken) f.admitted.started (not_yet s.head.duration u.time f.early) refl)
-    (all_four _ _ _ _ number last refl (within _ _ (omega (arith, long, f.room))))
+    (all_six _ _ _ _ _ _ (lt-ltb _ _ f.admitted.team) (lt-ltb _ _ f.admitted.problem) (lt-ltb 0 (length s.languages) f.spoken) f.admitted.started (not_yet s.head.duration u.time f.early) refl)
+    (all_four _ _ _ _ number last refl (lt-ltb _ _ (omega (arith, long, f.room))))
 
 -- the next submission, with its verdict if it has one
 next : (s : Setup) (thaw : Option ℕ) (us : List JudgedSubmission) (u : JudgedSubmission) (verdict : Option ℕ) → IfSome verdict (λ place. place < length s.types) → Follows s us u → Stands s thaw us
@@ -151,7 +145,7 @@ next s thaw us u (Some verdict) there f h =
     let none : releases_on u.team n.number y.releases ≡ [] = h.1 u.team n.number (omega arith) in
     let round : nat_eq 1 (length (releases_on u.team n.number y.releases) + 1) ≡ true = eq-eqb 1 _ (ap (λ vs. length vs + 1) (sym none)) in
     let stands : has_submission y u.team n.number ≡ true = last_among (λ t. (t.team == u.team) && (t.number == n.number)) x.submissions (submission_of n) (both_true _ _ (eq-eqb u.team u.team refl) (eq-eqb n.number n.number refl)) in
-    adding_release y v valid (both_true _ _ (both_true _ _ stands (within verdict (length s.types) there)) round)
+    adding_release y v valid (both_true _ _ (both_true _ _ stands (lt-ltb verdict (length s.types) there)) round)
 
 one_more : (s : Setup) (thaw : Option ℕ) (us : List JudgedSubmission) (u : JudgedSubmission) → Follows s us u → Stands s thaw us → Stands s thaw (us ++ u ∷ [])
 one_more s thaw us u f h =
@@ -170,7 +164,7 @@ all_more s thaw earlier (u ∷ us) r h =
 
 -- settings in the order of the contest's tests
 settings_valid : (s : Setup) (thaw : Option ℕ) → IsValid s → has_valid_settings (contest_of s (replay_marks thaw) []) ≡ true
-settings_valid s thaw v = all_thirteen _ _ _ _ _ _ _ _ _ _ _ _ _ (v.head, v.types, fits _ _ v.few_types, v.languages, fits _ _ v.few_languages, v.problems, v.labels, fits _ _ v.few_problems, v.groups, fits _ _ v.few_groups, v.teams, fits _ _ v.few_teams, v.references)
+settings_valid s thaw v = all_thirteen _ _ _ _ _ _ _ _ _ _ _ _ _ (v.head, v.types, le-leb _ _ v.few_types, v.languages, le-leb _ _ v.few_languages, v.problems, v.labels, le-leb _ _ v.few_problems, v.groups, le-leb _ _ v.few_groups, v.teams, le-leb _ _ v.few_teams, v.references)
 
 -- no contest is longer than what fits before the last moment
 not_long : (h : ContestHead) → is_valid_head h ≡ true → nat_le h.duration LONGEST_CONTEST ≡ true

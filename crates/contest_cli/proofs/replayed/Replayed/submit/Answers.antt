@@ -9,6 +9,7 @@ time_before : (duration t time : ℕ) (b : Bool) → nat_lt t duration ≡ b →
 time_before duration t time true e h = let same : time ≡ t = cc h in rw same (ltb-true t duration e)
 time_before duration t time false e h = absurd (cc h)
 
+-- a time that counts is before the end
 is_early : (duration : ℕ) (time : ℤ) (n : ℕ) → Some n ≡ within duration time → n < duration
 is_early duration (pos t) n h = time_before duration t n (nat_lt t duration) refl h
 is_early duration (negsuc t) n h = absurd (cc h)
