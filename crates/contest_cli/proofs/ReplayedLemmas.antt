@@ -1,5 +1,5 @@
 -- What a replay's state keeps of its submissions, as it grows.
-use Rattle.std.proofs.Common.{ℕ, zero, suc, ◌≡◌, ◌≢◌, ◌+◌, ◌<◌, ◌≤◌, ◌⊎◌, inl, inr, Bool, true, false, cond, List, [], ◌∷◌, ◌++◌, length, map, get_or, Option, Some, None, refl, sym, ap, subst, ◌∙◌, arith, All, append-nil, add-zero, ◌*◌}
+use Rattle.std.proofs.Common.{ℕ, ◌≡◌, ◌≢◌, ◌+◌, ◌<◌, ◌≤◌, ◌⊎◌, inl, inr, Bool, true, false, cond, List, [], ◌∷◌, ◌++◌, length, map, get_or, Option, Some, None, refl, sym, ap, subst, ◌∙◌, arith, All, append-nil, add-zero}
 use Rattle.std.specs.Prelude.{◌==◌, nat_eq, nat_le, filter, fold, max, IfSome, slice_set, sum_by}
 use Rattle.std.specs.List.{list_all}
 use Rattle.std.proofs.lemmas.Bool.{cases_Bool, false≢true, eqb-true, eq-eqb, le-leb}
@@ -146,12 +146,12 @@ rising_more : (us : List JudgedSubmission) (u : JudgedSubmission) → last_time 
 rising_more us u late team h =
     let time : JudgedSubmission → ℕ = λ v. v.time in
     let own : nat_eq u.team team ≡ true → never_fall (times_of team (us ++ u ∷ [])) ≡ true = λ t.
-        (let e : last_time team us ≤ u.time = subst (λ k. last_time k us ≤ u.time) (same_team u.team team t) late in
-        let grown : times_of team (us ++ u ∷ []) ≡ times_of team us ++ u.time ∷ [] = ap (map time) (kept team u us true t) ∙ map-append time (submissions_of team us) (u ∷ []) in
-        rw grown (never_fall_push (times_of team us) u.time h (none_past 0 (times_of team us) u.time e))) in
+    (let e : last_time team us ≤ u.time = subst (λ k. last_time k us ≤ u.time) (same_team u.team team t) late in
+    let grown : times_of team (us ++ u ∷ []) ≡ times_of team us ++ u.time ∷ [] = ap (map time) (kept team u us true t) ∙ map-append time (submissions_of team us) (u ∷ []) in
+    rw grown (never_fall_push (times_of team us) u.time h (none_past 0 (times_of team us) u.time e))) in
     elim (cases_Bool (nat_eq u.team team)) [
-    | inl t ↦ own t
-    | inr f ↦ rw (pushed_other team u us f) h
+      | inl t ↦ own t
+      | inr f ↦ rw (pushed_other team u us f) h
     ]
 
 -- one more submission

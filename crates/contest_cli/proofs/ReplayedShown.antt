@@ -1,5 +1,5 @@
 -- What a replay keeps of its submissions makes its contest valid, also up to a moment.
-use Rattle.std.proofs.Common.{ℕ, ◌≡◌, ◌<◌, ◌≤◌, inl, inr, Bool, true, List, [], ◌∷◌, length, map, get_or, refl, ap, ◌∙◌, arith, Some, None}
+use Rattle.std.proofs.Common.{ℕ, ◌≡◌, ◌<◌, ◌≤◌, inl, inr, Bool, true, List, [], ◌∷◌, length, map, refl, ap, arith, Some, None}
 use Rattle.std.specs.Prelude.{◌==◌, nat_le, filter, if◌then◌else◌}
 use Rattle.std.specs.List.{list_all}
 use Rattle.std.proofs.lemmas.Bool.{cases_Bool}
@@ -23,10 +23,10 @@ use Rattle.contest_cli.proofs.ReplayedValid.{contest_valid}
 pub reads_valid : (s : Setup) (us : List JudgedSubmission) (teams : List TeamSoFar) → IsReplayed s us teams → ReadsValid s us
 reads_valid s us teams r =
     let few : (team : ℕ) → team < length s.teams → length (submissions_of team us) ≤ TEAM_SUBMISSIONS = λ team l.
-        (let low : team < length teams = omega (arith, r.all, l) in
-        let told = r.told team no_submissions low in
-        let most = r.few team no_submissions low in
-        omega (arith, told.count, most)) in
+    (let low : team < length teams = omega (arith, r.all, l) in
+    let told = r.told team no_submissions low in
+    let most = r.few team no_submissions low in
+    omega (arith, told.count, most)) in
     record { spoken = r.spoken; admitted = r.admitted; within = r.within; few = few; rising = r.rising }
 
 -- two tests keep the same in either order
@@ -35,8 +35,8 @@ swapped p q [] = refl
 swapped p q (x ∷ xs) =
     let rest = swapped p q xs in
     elim (cases_Bool (p x)) [
-    | inl a ↦ elim (cases_Bool (q x)) [ inl b ↦ rw (a, b, a) (ap (λ r. x ∷ r) rest) | inr b ↦ rw (a, b) rest ]
-    | inr a ↦ elim (cases_Bool (q x)) [ inl b ↦ rw (b, a) rest | inr b ↦ rw (a, b) rest ]
+      | inl a ↦ elim (cases_Bool (q x)) [ inl b ↦ rw (a, b, a) (ap (λ r. x ∷ r) rest) | inr b ↦ rw (a, b) rest ]
+      | inr a ↦ elim (cases_Bool (q x)) [ inl b ↦ rw (b, a) rest | inr b ↦ rw (a, b) rest ]
     ]
 
 all_kept : {X : Type 0} (f : X → ℕ) (q : ℕ → Bool) (p : X → Bool) (xs : List X) → list_all q (map f xs) ≡ true → list_all q (map f (filter p xs)) ≡ true
@@ -44,8 +44,8 @@ all_kept f q p [] h = refl
 all_kept f q p (x ∷ xs) h =
     let rest = all_kept f q p xs (and_right (q (f x)) _ h) in
     elim (cases_Bool (p x)) [
-    | inl t ↦ rw t (both_true (q (f x)) _ (and_left (q (f x)) (list_all q (map f xs)) h) rest)
-    | inr e ↦ rw e rest
+      | inl t ↦ rw t (both_true (q (f x)) _ (and_left (q (f x)) (list_all q (map f xs)) h) rest)
+      | inr e ↦ rw e rest
     ]
 
 -- times that never fall don't fall where some are left out
@@ -55,8 +55,8 @@ rising_kept f p (x ∷ xs) h =
     let rest = rising_kept f p xs (and_right (list_all (nat_le (f x)) (map f xs)) _ h) in
     let first = all_kept f (nat_le (f x)) p xs (and_left _ (never_fall (map f xs)) h) in
     elim (cases_Bool (p x)) [
-    | inl t ↦ rw t (both_true _ _ first rest)
-    | inr e ↦ rw e rest
+      | inl t ↦ rw t (both_true _ _ first rest)
+      | inr e ↦ rw e rest
     ]
 
 -- what is left of the submissions makes a valid contest too

@@ -1,7 +1,7 @@
 -- A replayed contest is valid: it is valid with no submission, and each one may follow those before it.
-use Rattle.std.proofs.Common.{ℕ, ◌≡◌, ◌+◌, ◌<◌, ◌≤◌, inl, inr, Bool, true, false, List, [], ◌∷◌, ◌++◌, length, map, get_or, Option, Some, None, refl, sym, ap, subst, ◌∙◌, arith, All, append-nil, append_assoc}
-use Rattle.std.specs.Prelude.{◌==◌, ◌&&◌, ◌||◌, not, nat_eq, nat_le, nat_lt, filter, IfSome}
-use Rattle.std.specs.List.{list_all, list_any, flat_map}
+use Rattle.std.proofs.Common.{ℕ, ◌≡◌, ◌+◌, ◌<◌, inl, inr, Bool, true, false, List, [], ◌∷◌, ◌++◌, length, map, get_or, Option, Some, None, refl, sym, ap, subst, ◌∙◌, arith, append-nil, append_assoc}
+use Rattle.std.specs.Prelude.{◌==◌, ◌&&◌, ◌||◌, not, nat_eq, nat_le, nat_lt, IfSome}
+use Rattle.std.specs.List.{list_all, list_any}
 use Rattle.std.proofs.Math.Seq.{get_or-append_seam}
 use Rattle.std.proofs.lemmas.Bool.{cases_Bool, eq-eqb, le-leb, lt-ltb}
 use Rattle.std.proofs.lemmas.Bool.Decides.{nat_tests}
@@ -9,12 +9,11 @@ use Rattle.std.proofs.lemmas.Grind.{flat_map-append}
 use Rattle.std.proofs.lemmas.List.{length-append, length-map, map-append}
 use Rattle.std.proofs.lemmas.List.Elements.{filter-append}
 use Rattle.std.proofs.lemmas.List.Folds.{list_all-append, list_all-map}
-use Rattle.contest_types.specs.Clock.{reached}
 use Rattle.contest_types.specs.Setup.{Setup, IsValid, is_valid_head, has_valid_freeze, has_valid_medals}
 use Rattle.contest_types.specs.MomentText.{latest}
 use Rattle.contest_types.specs.Series.{never_fall}
-use Rattle.contest_types.specs.State.{ContestState, add, releases_on, NewSubmission, NewRelease, submissions_of as rows_of}
-use Rattle.contest_types.specs.ValidFixed.{has_valid_settings, has_valid_clock}
+use Rattle.contest_types.specs.State.{add, releases_on, NewSubmission, submissions_of as rows_of}
+use Rattle.contest_types.specs.ValidFixed.{has_valid_settings}
 use Rattle.contest_types.specs.ValidSubmissions.{is_valid_submission, has_submission}
 use Rattle.contest_types.specs.Valid.{is_valid}
 use Rattle.contest_types.specs.Addable.{is_addable, is_next_submission}
@@ -74,7 +73,7 @@ follows s earlier us u r =
     let admitted : IsAdmitted s reading_marks u = subst (IsAdmitted s reading_marks) seam (r.admitted (length earlier) u there) in
     let long : length (submissions_of u.team all) ≡ count u.team earlier + length (u ∷ submissions_of u.team us) = ap length (own_among earlier us u) ∙ length-append (submissions_of u.team earlier) (u ∷ submissions_of u.team us) in
     let times : map time (submissions_of u.team all) ≡ map time (submissions_of u.team earlier) ++ u.time ∷ map time (submissions_of u.team us) =
-        ap (map time) (own_among earlier us u) ∙ map-append time (submissions_of u.team earlier) (u ∷ submissions_of u.team us) in
+    ap (map time) (own_among earlier us u) ∙ map-append time (submissions_of u.team earlier) (u ∷ submissions_of u.team us) in
     let few = r.few u.team admitted.team in
     record {
       spoken = r.spoken;
@@ -97,8 +96,8 @@ times_told team earlier [] = refl
 times_told team earlier (u ∷ us) =
     let rest = times_told team (earlier ++ u ∷ []) us in
     elim (cases_Bool (nat_eq u.team team)) [
-    | inl t ↦ rw t (ap (λ ts. u.time ∷ ts) rest)
-    | inr f ↦ rw f rest
+      | inl t ↦ rw t (ap (λ ts. u.time ∷ ts) rest)
+      | inr f ↦ rw f rest
     ]
 
 or_right : (a b : Bool) → b ≡ true → (a || b) ≡ true
@@ -153,7 +152,7 @@ one_more s thaw us u f h =
     let more : numbered_after [] (us ++ u ∷ []) ≡ numbered_after [] us ++ n ∷ [] = numbered_more [] us u in
     let rows : map submission_of (numbered_after [] (us ++ u ∷ [])) ≡ map submission_of (numbered_after [] us) ++ submission_of n ∷ [] = ap (map submission_of) more ∙ map-append submission_of (numbered_after [] us) (n ∷ []) in
     let vs : releases_of (numbered_after [] (us ++ u ∷ [])) ≡ releases_of (numbered_after [] us) ++ released n u.verdict =
-        ap releases_of more ∙ (flat_map-append (λ m. released m m.row.verdict) (numbered_after [] us) (n ∷ []) ∙ ap (λ ws. releases_of (numbered_after [] us) ++ ws) (append-nil (released n u.verdict))) in
+    ap releases_of more ∙ (flat_map-append (λ m. released m m.row.verdict) (numbered_after [] us) (n ∷ []) ∙ ap (λ ws. releases_of (numbered_after [] us) ++ ws) (append-nil (released n u.verdict))) in
     (rw (rows, vs) (next s thaw us u u.verdict f.admitted.verdict f h), rw vs (is_before_more us (releases_of (numbered_after [] us)) u h.1))
 
 all_more : (s : Setup) (thaw : Option ℕ) (earlier us : List JudgedSubmission) → ReadsValid s (earlier ++ us) → Stands s thaw earlier → Stands s thaw (earlier ++ us)
