@@ -6,3 +6,5 @@ mod ReplayLemmas
 pub mod ReplayFileLemmas
 pub mod TextLemmas
 pub mod ReplayedContestLemmas
+pub mod ReplayedValid
+pub mod ReplayedShown

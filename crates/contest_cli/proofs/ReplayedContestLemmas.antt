@@ -20,7 +20,7 @@ use Rattle.contest_score.specs.declared.submission.JudgedSubmission.{JudgedSubmi
 use Rattle.contest_cli.specs.Replayed.{submissions_of}
 use Rattle.contest_cli.specs.ReplayedContest.{Numbered, numbered_after, submission_of, released, releases_of, contest_of}
 
-abbrev count : ℕ → List JudgedSubmission → ℕ
+abbrev pub count : ℕ → List JudgedSubmission → ℕ
 count team us = length (submissions_of team us)
 
 below : (a b : ℕ) → b < a → nat_eq a b ≡ false
@@ -81,10 +81,10 @@ abbrev judged : List Release → Numbered → JudgedSubmission
 judged vs n = record { team = n.row.team; problem = n.row.problem; time = n.row.time; verdict = told (releases_on n.row.team n.number vs) }
 
 -- nothing was released on submissions that are still to come
-abbrev IsBefore : List JudgedSubmission → List Release → Type 0
+abbrev pub IsBefore : List JudgedSubmission → List Release → Type 0
 IsBefore earlier vs = (team number : ℕ) → count team earlier < number → releases_on team number vs ≡ []
 
-is_before_more : (earlier : List JudgedSubmission) (vs : List Release) (u : JudgedSubmission) → IsBefore earlier vs
+pub is_before_more : (earlier : List JudgedSubmission) (vs : List Release) (u : JudgedSubmission) → IsBefore earlier vs
     → IsBefore (earlier ++ u ∷ []) (vs ++ released (record { number = count u.team earlier + 1; row = u }) u.verdict)
 is_before_more earlier vs u h team number l =
     let n : Numbered = record { number = count u.team earlier + 1; row = u } in

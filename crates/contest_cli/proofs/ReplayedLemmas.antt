@@ -1,17 +1,21 @@
 -- What a replay's state keeps of its submissions, as it grows.
-use Rattle.std.proofs.Common.{ℕ, zero, suc, ◌≡◌, ◌≢◌, ◌+◌, ◌<◌, ◌≤◌, ◌⊎◌, inl, inr, Bool, true, false, cond, List, [], ◌∷◌, ◌++◌, length, map, get_or, Option, Some, None, refl, sym, ap, subst, ◌∙◌, arith, All, append-nil, add-zero, ◌*◌}
+use Rattle.std.proofs.Common.{ℕ, ◌≡◌, ◌≢◌, ◌+◌, ◌<◌, ◌≤◌, ◌⊎◌, inl, inr, Bool, true, false, cond, List, [], ◌∷◌, ◌++◌, length, map, get_or, Option, Some, None, refl, sym, ap, subst, ◌∙◌, arith, All, append-nil, add-zero}
 use Rattle.std.specs.Prelude.{◌==◌, nat_eq, nat_le, filter, fold, max, IfSome, slice_set, sum_by}
-use Rattle.std.proofs.lemmas.Bool.{cases_Bool, false≢true, eqb-true, eq-eqb}
+use Rattle.std.specs.List.{list_all}
+use Rattle.std.proofs.lemmas.Bool.{cases_Bool, false≢true, eqb-true, eq-eqb, le-leb}
 use Rattle.std.proofs.lemmas.Bool.Decides.{nat_tests}
 use Rattle.std.proofs.Math.Seq.{get_or-append_seam}
 use Rattle.std.proofs.lemmas.List.{length-append, map-append, get_or_append_left, get_or-set_same, get_or-set_other, length-set}
 use Rattle.std.proofs.lemmas.List.Sums.{fold-append, sum_by_push, sum_by-set, sum_by-le, length-filter, count_by-le-length}
 use Rattle.std.proofs.lemmas.List.Elements.{filter-append, All-push, All-tail, All-filter}
 use Rattle.std.specs.Str.{chars}
+use Rattle.contest_types.specs.Series.{never_fall}
 use Rattle.contest_types.specs.Setup.{Setup}
 use Rattle.contest_types.specs.NameText.{name_of}
 use Rattle.contest_types.specs.declared.limits.TheConstants.{TEAMS, TEAM_SUBMISSIONS}
 use Rattle.contest_types.specs.declared.marks.Marks.{Marks}
+use Rattle.contest_types.proofs.PlaceLemmas.{both_true}
+use Rattle.contest_types.proofs.SeriesLemmas.{never_fall_push}
 use Rattle.contest_score.specs.Masks.{IsAdmitted}
 use Rattle.contest_score.specs.declared.submission.JudgedSubmission.{JudgedSubmission}
 use Rattle.contest_cli.specs.declared.team_so_far.TeamSoFar.{TeamSoFar}
@@ -64,8 +68,8 @@ admitted_wider s t us teams problems types h i d l =
     record { team = omega (arith, a.team); problem = omega (arith, a.problem); verdict = placed (get_or us i d).verdict (length s.types) (length t.types) types a.verdict; started = a.started }
 
 -- more judgement types or problems
-pub IsReplayed-wider : (s t : Setup) (us : List JudgedSubmission) (teams : List TeamSoFar) → t.head ≡ s.head → length t.teams ≡ length s.teams → length s.problems ≤ length t.problems → length s.types ≤ length t.types → IsReplayed s us teams → IsReplayed t us teams
-IsReplayed-wider s t us teams head same problems types r =
+pub IsReplayed-wider : (s t : Setup) (us : List JudgedSubmission) (teams : List TeamSoFar) → t.head ≡ s.head → length t.teams ≡ length s.teams → length s.problems ≤ length t.problems → length s.types ≤ length t.types → length s.languages ≤ length t.languages → IsReplayed s us teams → IsReplayed t us teams
+IsReplayed-wider s t us teams head same problems types languages r =
     let duration : t.head.duration ≡ s.head.duration = ap (λ h. h.duration) head in
     record {
       all = r.all ∙ sym same;
@@ -74,7 +78,10 @@ IsReplayed-wider s t us teams head same problems types r =
       few = r.few;
       total = r.total;
       lasting = rw duration r.lasting;
+      spoken = omega (arith, r.spoken);
       admitted = admitted_wider s t us (omega arith) problems types r.admitted;
+      within = rw duration r.within;
+      rising = r.rising;
     }
 
 at_end : (i n : ℕ) → i < n + 1 → (i < n) ⊎ (i ≡ n)
@@ -87,8 +94,8 @@ abbrev pub no_submissions : TeamSoFar
 no_submissions = record { last = 0; count = 0 }
 
 -- one more team
-pub IsReplayed-team : (s t : Setup) (us : List JudgedSubmission) (teams : List TeamSoFar) → t.head ≡ s.head → length t.teams ≡ length s.teams + 1 → length s.problems ≤ length t.problems → length s.types ≤ length t.types → IsReplayed s us teams → IsReplayed t us (teams ++ no_submissions ∷ [])
-IsReplayed-team s t us teams head more problems types r =
+pub IsReplayed-team : (s t : Setup) (us : List JudgedSubmission) (teams : List TeamSoFar) → t.head ≡ s.head → length t.teams ≡ length s.teams + 1 → length s.problems ≤ length t.problems → length s.types ≤ length t.types → length s.languages ≤ length t.languages → IsReplayed s us teams → IsReplayed t us (teams ++ no_submissions ∷ [])
+IsReplayed-team s t us teams head more problems types languages r =
     let duration : t.head.duration ≡ s.head.duration = ap (λ h. h.duration) head in
     let all = r.all in
     let longer : length (teams ++ no_submissions ∷ []) ≡ length teams + 1 = length-append teams (no_submissions ∷ []) in
@@ -110,7 +117,10 @@ IsReplayed-team s t us teams head more problems types r =
       ];
       total = r.total ∙ sym (sum_by_push count_in teams no_submissions ∙ add-zero _);
       lasting = rw duration r.lasting;
+      spoken = omega (arith, r.spoken);
       admitted = admitted_wider s t us (omega arith) problems types r.admitted;
+      within = rw duration r.within;
+      rising = r.rising;
     }
 
 from_zero : (n : ℕ) → nat_le 0 n ≡ true
@@ -118,6 +128,31 @@ from_zero n = grind (arith, nat_tests)
 
 latest : (last time : ℕ) → max last (max time last) ≡ max time last
 latest last time = omega arith
+
+at_least : (a : ℕ) (ts : List ℕ) → a ≤ fold max a ts
+at_least a [] = omega arith
+at_least a (t ∷ ts) = omega (arith, at_least (max a t) ts)
+
+-- no time is past the latest
+none_past : (a : ℕ) (ts : List ℕ) (m : ℕ) → fold max a ts ≤ m → list_all (λ t. nat_le t m) ts ≡ true
+none_past a [] m h = refl
+none_past a (t ∷ ts) m h = both_true _ _ (le-leb t m (omega (arith, at_least (max a t) ts, h))) (none_past (max a t) ts m h)
+
+abbrev times_of : ℕ → List JudgedSubmission → List ℕ
+times_of team us = map (λ u. u.time) (submissions_of team us)
+
+-- a team's times still don't fall after one that isn't before its last
+rising_more : (us : List JudgedSubmission) (u : JudgedSubmission) → last_time u.team us ≤ u.time → (team : ℕ) → never_fall (times_of team us) ≡ true → never_fall (times_of team (us ++ u ∷ [])) ≡ true
+rising_more us u late team h =
+    let time : JudgedSubmission → ℕ = λ v. v.time in
+    let own : nat_eq u.team team ≡ true → never_fall (times_of team (us ++ u ∷ [])) ≡ true = λ t.
+    (let e : last_time team us ≤ u.time = subst (λ k. last_time k us ≤ u.time) (same_team u.team team t) late in
+    let grown : times_of team (us ++ u ∷ []) ≡ times_of team us ++ u.time ∷ [] = ap (map time) (kept team u us true t) ∙ map-append time (submissions_of team us) (u ∷ []) in
+    rw grown (never_fall_push (times_of team us) u.time h (none_past 0 (times_of team us) u.time e))) in
+    elim (cases_Bool (nat_eq u.team team)) [
+      | inl t ↦ own t
+      | inr f ↦ rw (pushed_other team u us f) h
+    ]
 
 -- one more submission
 pub IsReplayed-submission : (s : Setup) (us : List JudgedSubmission) (teams : List TeamSoFar) (p : NamedPlaces) (old : TeamSoFar) (time : ℕ) → IsReplayed s us teams → AreThere s p → old ≡ get_or teams p.team old → old.count < TEAM_SUBMISSIONS → time < s.head.duration
@@ -155,6 +190,9 @@ IsReplayed-submission s us teams p old time r there at room short =
       ];
       total = omega (arith, length-append us (u ∷ []), r.total, swapped);
       lasting = r.lasting;
+      spoken = r.spoken;
+      within = All-push (λ v. v.time < s.head.duration) us u r.within (omega arith);
+      rising = λ i. rising_more us u (omega (arith, old_told.last)) i (r.rising i);
       admitted = All-push (IsAdmitted s reading_marks) us u r.admitted (record { team = there.team; problem = there.problem; verdict = there.verdict; started = from_zero (max time old.last) });
     }
 

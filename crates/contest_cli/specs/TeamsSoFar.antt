@@ -1,5 +1,6 @@
 -- What a replay's state keeps of its submissions.
-use Rattle.std.specs.Prelude.{ℕ, ◌≡◌, ◌<◌, ◌≤◌, List, length, sum_by, All, Some, None, IfSome, get_or}
+use Rattle.std.specs.Prelude.{ℕ, ◌≡◌, ◌<◌, ◌≤◌, true, List, length, map, sum_by, All, Some, None, IfSome, get_or}
+use Rattle.contest_types.specs.Series.{never_fall}
 use Rattle.contest_types.specs.Setup.{Setup}
 use Rattle.contest_types.specs.declared.limits.TheConstants.{TEAM_SUBMISSIONS}
 use Rattle.contest_types.specs.declared.marks.Marks.{Marks}
@@ -26,7 +27,19 @@ pub record IsReplayed (s : Setup) (us : List JudgedSubmission) (teams : List Tea
   pub few : (i : ℕ) (d : TeamSoFar) → i < length teams → (get_or teams i d).count ≤ TEAM_SUBMISSIONS
   pub total : length us ≡ sum_by (λ t. t.count) teams
   pub lasting : 0 < s.head.duration
+  pub spoken : 0 < length s.languages
   pub admitted : All (IsAdmitted s reading_marks) us
+  pub within : All (λ u. u.time < s.head.duration) us
+  pub rising : (team : ℕ) → never_fall (map (λ u. u.time) (submissions_of team us)) ≡ true
+
+-- the submissions of a valid contest: each names what is there and comes before the end, and a team's
+-- times never fall and are not too many
+pub record ReadsValid (s : Setup) (us : List JudgedSubmission) : Type 0 where
+  pub spoken : 0 < length s.languages
+  pub admitted : All (IsAdmitted s reading_marks) us
+  pub within : All (λ u. u.time < s.head.duration) us
+  pub few : (team : ℕ) → team < length s.teams → length (submissions_of team us) ≤ TEAM_SUBMISSIONS
+  pub rising : (team : ℕ) → never_fall (map (λ u. u.time) (submissions_of team us)) ≡ true
 
 -- the places are there
 pub record AreThere (s : Setup) (p : NamedPlaces) : Type 0 where

@@ -1,8 +1,11 @@
 //! A replay file, judged as it is read.
-ghost use Rattle.std.specs.Prelude.{◌≡◌, ◌≤◌, ◌+◌, ◌∷◌, ◌^◌, ◌||◌, ℕ, Bool, false, List, [], None, Ok, Err, OnOk, IfOk, IfErr, length};
+ghost use Rattle.std.specs.Prelude.{◌≡◌, ◌≤◌, ◌+◌, ◌∷◌, ◌^◌, ◌||◌, ℕ, Bool, true, false, List, [], None, Ok, Err, OnOk, IfOk, IfErr, length};
 ghost use Rattle.csv.specs.Reading.{default_config, strip_bom, records};
 ghost use Rattle.csv.specs.Records.{fields_of};
+ghost use Rattle.contest_types.specs.Valid.{is_valid};
+ghost use Rattle.contest_cli.specs.ReplayedContest.{contest_of};
 ghost use Rattle.contest_cli.specs.ReplayFile.{replayed_in, going, names_contest, is_header, is_header_text, Refuses};
+ghost use Rattle.contest_cli.specs.Text.{marks_for};
 
 use crate::fields::{Fields, five_fields};
 use crate::records::Records;
@@ -127,7 +130,7 @@ fn judge_all<'a>(alloc: Global, records: Records<'a>, row: ByteRecord) -> Result
     reading.finish()
 }
 
-/// The contest of a replay file.
+/// The contest of a replay file, which is a valid one.
 ///
 /// # Errors
 ///
@@ -136,6 +139,7 @@ fn judge_all<'a>(alloc: Global, records: Records<'a>, row: ByteRecord) -> Result
 pub(crate) fn read_replay_csv(alloc: Global, bytes: &[u8]) -> Result<Replayed, Refusal>
     ensures ok { IfOk result (λ r. replayed_in bytes.now ≡ Ok r) }
     ensures err { IfErr result (λ e. Refuses e (replayed_in bytes.now)) }
+    ensures valid { (thawed : Bool) → IfOk result (λ r. is_valid (contest_of r.settings (marks_for r.settings thawed) r.submissions) ≡ true) }
 {
     let mut records = Records::new(alloc, bytes);
     let mut row = ByteRecord::new(alloc);
@@ -145,5 +149,6 @@ pub(crate) fn read_replay_csv(alloc: Global, bytes: &[u8]) -> Result<Replayed, R
     if !is_header(&row) {
         return Err(Refusal::Malformed);
     }
-    judge_all(alloc, records, row)
+    let replayed = judge_all(alloc, records, row)?;
+    Ok(replayed.valid())
 }

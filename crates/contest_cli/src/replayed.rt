@@ -1,9 +1,11 @@
 //! A contest as the records of a replay build it up.
-ghost use Rattle.std.specs.Prelude.{◌≡◌, ◌<◌, Ok, Some, IfOk, IfErr, OnOk, All, ◌^◌, length, nat_le, string_bytes};
+ghost use Rattle.std.specs.Prelude.{◌≡◌, ◌<◌, Bool, true, Ok, Some, IfOk, IfErr, OnOk, All, ◌^◌, length, nat_le, string_bytes};
 ghost use Rattle.contest_types.specs.Additions.{IsFaultOf};
+ghost use Rattle.contest_types.specs.Valid.{is_valid};
 ghost use Rattle.contest_cli.specs.Replayed.{any_language, started, with_type_row, with_problem_row, with_team_row, with_submission, submitted, within};
+ghost use Rattle.contest_cli.specs.ReplayedContest.{contest_of};
 ghost use Rattle.contest_cli.specs.TeamsSoFar.{AreThere};
-ghost use Rattle.contest_cli.specs.Text.{shown_text, text_of, up_to};
+ghost use Rattle.contest_cli.specs.Text.{marks_for, shown_text, text_of, up_to};
 ghost use Rattle.contest_score.specs.Masks.{IsAdmitted};
 
 use crate::board_text::board_text;
@@ -79,6 +81,15 @@ impl Replayed {
         &self.settings
     }
 
+    /// The same contest, which is a valid one.
+    pub(crate) fn valid(self) -> Replayed
+        ensures same { result ≡ self }
+        ensures valid { (thawed : Bool) → is_valid (contest_of result.settings (marks_for result.settings thawed) result.submissions) ≡ true }
+    {
+        let _ = self.settings.head();
+        self
+    }
+
     /// The text of its board for a caller at a moment, of the submissions up to that moment.
     ///
     /// # Errors
@@ -94,6 +105,7 @@ impl Replayed {
         requires { marks.now.start ≡ Some 0 }
         ensures text { IfOk result (λ text. string_bytes text ≡ shown_text audience marks.now now self) }
         ensures err { IfErr result (λ e. e ≡ Refusal.Memory) }
+        ensures valid { (thawed : Bool) → is_valid (contest_of self.settings (marks_for self.settings thawed) (up_to now self.submissions)) ≡ true }
     {
         let teams = self.settings.teams().len();
         prove!(teams <= limits::TEAMS);

@@ -14,4 +14,4 @@ invariant_of-self-in-Ok c =
     let teams = c.self.inside.teams.items in
     let e : c.add_team.new.self ≡ new = rw c.if-branch.true at c.in_ok-add_team.ensures.ok.1 in
     let more : length new.teams ≡ length old.teams + 1 = length-append old.teams (c.args.row ∷ []) in
-    rw (c.in-Ok.ensures.items, c.reserve.ensures.items) (subst (λ (s : Setup). IsReplayed s us (teams ++ no_submissions ∷ [])) (sym e) (IsReplayed-team old new us teams refl more (omega arith) (omega arith) c.self.invariant))
+    rw (c.in-Ok.ensures.items, c.reserve.ensures.items) (subst (λ (s : Setup). IsReplayed s us (teams ++ no_submissions ∷ [])) (sym e) (IsReplayed-team old new us teams refl more (omega arith) (omega arith) (omega arith) c.self.invariant))
