@@ -1,10 +1,9 @@
 -- In a valid contest all that an audience may see of submissions is listed, and nothing else.
-use Rattle.std.proofs.Common.{◌≡◌, ◌⊎◌, ℕ, zero, suc, ◌+◌, ◌<◌, ◌≤◌, Bool, true, false, List, [], ◌∷◌, length, map, filter, Option, Some, None, refl, sym, ap, subst, ◌∙◌, inl, inr, arith, add-zero}
+use Rattle.std.proofs.Common.{◌≡◌, ℕ, zero, suc, ◌+◌, ◌<◌, ◌≤◌, Bool, true, false, List, [], ◌∷◌, length, map, refl, sym, ap, subst, ◌∙◌, inl, inr, arith, add-zero}
 use Rattle.std.specs.Prelude.{◌&&◌, ◌==◌, not, nat_lt, nat_le, if◌then◌else◌}
 use Rattle.std.specs.List.{list_all, flat_map, range_with_len}
 use Rattle.std.specs.Cmp.{IsTotalOrder}
 use Rattle.std.specs.Ordering.{nat_cmp, ordering_then}
-use Rattle.std.specs.Cmp.Lexicographic.{slice_cmp}
 use Rattle.std.specs.declared.cmp.Ordering.{Ordering}
 use Rattle.std.specs.declared.cmp.Ordering.TheVariants.{Less, Equal, Greater}
 use Rattle.std.proofs.lemmas.Bool.{false≢true, eqb-true, eq-eqb}
@@ -14,13 +13,13 @@ use Rattle.std.proofs.lemmas.Map.Lookups.{exact_bytes}
 use Rattle.std.proofs.lemmas.Slice.Eq.{bytes_eq-Decides}
 use Rattle.std.proofs.lemmas.List.{length-map}
 use Rattle.contest_types.specs.Clock.{reached, end_of}
-use Rattle.contest_types.specs.declared.limits.TheConstants.{POSTED_FILE, TEAM_SUBMISSIONS}
+use Rattle.contest_types.specs.declared.limits.TheConstants.{POSTED_FILE}
 use Rattle.contest_types.specs.Setup.{Setup}
-use Rattle.contest_types.specs.Series.{in_each, count_up}
+use Rattle.contest_types.specs.Series.{count_up}
 use Rattle.contest_types.specs.TeamPlaces.{team_places, team_id_at}
-use Rattle.contest_types.specs.Order.{Has, in_order}
-use Rattle.contest_types.specs.State.{FixedPart, ContestState, submissions_of}
-use Rattle.contest_types.specs.Sight.{SeenSubmission, sees_team, sees_submission, seen_submission, seen_of_team, submission_cmp, seen_submissions}
+use Rattle.contest_types.specs.Order.{Has}
+use Rattle.contest_types.specs.State.{ContestState, submissions_of}
+use Rattle.contest_types.specs.Sight.{SeenSubmission, sees_team, seen_submission, seen_of_team, submission_cmp, seen_submissions}
 use Rattle.contest_types.specs.ValidSubmissions.{is_valid_submission, of_one_team, are_valid_submissions}
 use Rattle.contest_types.specs.Valid.{is_valid}
 use Rattle.contest_types.specs.Laws.{IsSeen}
@@ -33,7 +32,7 @@ use Rattle.contest_types.proofs.SeriesLemmas.{in_any}
 use Rattle.contest_types.proofs.ValidParts.{parts}
 use Rattle.contest_types.proofs.AddLemmas.{one_team}
 use Rattle.contest_types.proofs.AddSettings.{tests_of}
-use Rattle.contest_types.proofs.InOrderLemmas.{nothing_added, nothing_lost, flat_has, FromOne, has_flat, has_map, MadeOf, map_has, has_filter, filter_has}
+use Rattle.contest_types.proofs.InOrderLemmas.{nothing_added, nothing_lost, flat_has, has_flat, has_map, map_has, has_filter, filter_has}
 
 submission_order : (s : Setup) → IsTotalOrder (submission_cmp s)
 submission_order s = then_total (on_total (λ (v : SeenSubmission). v.time) nat_cmp_total) (then_total (on_total (λ (v : SeenSubmission). team_id_at s v.team) nat_list_cmp_total) (on_total (λ (v : SeenSubmission). v.number) nat_cmp_total))
