@@ -1,10 +1,8 @@
 -- Worked examples: awards, and when they are shown.
-use Rattle.std.proofs.Common.{◌≡◌, ℕ, ◌+◌, List, [], ◌∷◌, refl, Option, Some, None, true, false, map}
+use Rattle.std.proofs.Common.{◌≡◌, ℕ, ◌+◌, List, [], ◌∷◌, refl, Some, None, false, map}
 use Rattle.std.specs.Prelude.{codes}
 use Rattle.contest_types.specs.State.{ContestState}
-use Rattle.contest_types.specs.declared.audience.Audience.{Audience}
 use Rattle.contest_types.specs.declared.audience.Audience.TheVariants as audience
-use Rattle.contest_types.specs.declared.contest.Medals.{Medals}
 use Rattle.contest_types.specs.declared.objects.Team.{Team}
 use Rattle.contest_types.proofs.ExampleContest.{minutes, hours, empty, team_named, accepted, wrong, submitted, released}
 use Rattle.contest_score.specs.Awards.{Award, shown_awards}

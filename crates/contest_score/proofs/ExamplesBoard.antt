@@ -1,14 +1,13 @@
 -- Worked examples: boards and cells for each caller.
-use Rattle.std.proofs.Common.{◌≡◌, ℕ, ◌+◌, ◌-◌, List, [], ◌∷◌, refl, Option, Some, None, true, false, map}
-use Rattle.std.specs.Prelude.{codes, take}
+use Rattle.std.proofs.Common.{◌≡◌, ℕ, ◌+◌, ◌-◌, List, [], ◌∷◌, refl, Option, Some, None, map}
+use Rattle.std.specs.Prelude.{take}
 use Rattle.contest_types.specs.State.{ContestState}
 use Rattle.contest_types.specs.declared.audience.Audience.{Audience}
 use Rattle.contest_types.specs.declared.audience.Audience.TheVariants as audience
 use Rattle.contest_types.specs.declared.mask.Mask.TheVariants.{Full, Held}
 use Rattle.contest_types.specs.declared.minute.Minute.{Minute}
-use Rattle.contest_types.proofs.ExampleContest.{minutes, hours, empty, thawed_at, team_named, accepted, wrong, compile_error, submitted, released, proposed}
+use Rattle.contest_types.proofs.ExampleContest.{minutes, hours, empty, thawed_at, accepted, wrong, compile_error, submitted, released, proposed}
 use Rattle.contest_score.specs.declared.cell.Cell.{Cell}
-use Rattle.contest_score.specs.declared.score.Score.{Score}
 use Rattle.contest_score.specs.declared.row.Row.{Row}
 use Rattle.contest_score.specs.Contest.{contest_cell, seen_cell, board_for}
 use Rattle.contest_score.specs.Table.{no_attempts}

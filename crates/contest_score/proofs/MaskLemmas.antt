@@ -1,13 +1,12 @@
 -- Cells under the two masks.
-use Rattle.std.proofs.Common.{◌≡◌, ℕ, Bool, true, false, List, [], ◌∷◌, ◌++◌, map, filter, Option, Some, None, refl, sym, ap, ◌∙◌}
+use Rattle.std.proofs.Common.{◌≡◌, ℕ, Bool, true, false, List, [], ◌∷◌, ◌++◌, map, filter, Option, None, refl, sym, ap, ◌∙◌}
 use Rattle.std.specs.Prelude.{◌==◌, ◌&&◌, if◌then◌else◌}
-use Rattle.std.specs.List.{list_any}
 use Rattle.std.proofs.lemmas.Simd.{map-map}
 use Rattle.contest_types.specs.Setup.{Setup}
 use Rattle.contest_types.specs.Clock.{freeze_of, is_frozen, reached}
-use Rattle.contest_types.specs.Masks.{is_jury, owns, mask_for, verdict_under}
+use Rattle.contest_types.specs.Masks.{owns, mask_for, verdict_under}
 use Rattle.contest_types.specs.State.{ContestState, submissions_of}
-use Rattle.contest_types.specs.Sight.{Judgement, SeenSubmission, type_of, full_verdict, last_judgement, sees_team, seen_judgement, seen_submission, seen_of_team}
+use Rattle.contest_types.specs.Sight.{Judgement, SeenSubmission, type_of, last_judgement, sees_team, seen_judgement, seen_submission, seen_of_team}
 use Rattle.contest_types.specs.Alike.{Alike, MayBeHeld}
 use Rattle.contest_types.proofs.SightLemmas.{map-filter_same, team_alike}
 use Rattle.contest_types.specs.declared.audience.Audience.{Audience}

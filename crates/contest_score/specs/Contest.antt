@@ -3,11 +3,9 @@
 use Rattle.std.specs.Prelude.{ℕ, List, map, Option, find}
 use Rattle.std.specs.List.{flat_map, filter_map}
 use Rattle.std.specs.Option.{option_map}
-use Rattle.contest_types.specs.Masks.{mask_for}
 use Rattle.contest_types.specs.State.{ContestState}
 use Rattle.contest_types.specs.Sight.{full_verdict}
 use Rattle.contest_types.specs.declared.audience.Audience.{Audience}
-use Rattle.contest_types.specs.declared.audience.Audience.TheVariants.{Jury}
 use Rattle.contest_types.specs.declared.mask.Mask.{Mask}
 use Rattle.contest_types.specs.declared.mask.Mask.TheVariants.{Full}
 use Rattle.contest_types.specs.declared.submission.Submission.{Submission}

@@ -1,15 +1,15 @@
 -- Adding what may be added keeps a contest valid: clarifications and marks.
-use Rattle.std.proofs.Common.{◌≡◌, ℕ, zero, suc, ◌+◌, Bool, true, false, List, [], ◌∷◌, ◌++◌, length, map, filter, Option, Some, None, refl, sym, ◌∙◌, ap, arith}
-use Rattle.std.specs.Prelude.{◌&&◌, ◌||◌, ◌==◌, not, nat_le, nat_lt, count_by, cond, is_some, if◌then◌else◌}
-use Rattle.std.specs.List.{list_all, list_any}
+use Rattle.std.proofs.Common.{◌≡◌, ℕ, ◌+◌, Bool, true, false, List, [], ◌∷◌, ◌++◌, length, map, filter, Option, Some, None, refl, sym, ap, arith}
+use Rattle.std.specs.Prelude.{◌&&◌, ◌||◌, ◌==◌, not, nat_le, nat_lt, count_by, is_some, if◌then◌else◌}
+use Rattle.std.specs.List.{list_all}
 use Rattle.std.specs.Option.{option_map_or}
 use Rattle.std.proofs.Math.Bool.{beq}
 use Rattle.std.proofs.lemmas.Bool.{false≢true, eqb-true, eq-eqb}
 use Rattle.contest_types.specs.MomentText.{latest}
-use Rattle.contest_types.specs.Clock.{after, end_of}
-use Rattle.contest_types.specs.Series.{in_each, count_up, have_own_keys, is_new_key}
+use Rattle.contest_types.specs.Clock.{after}
+use Rattle.contest_types.specs.Series.{in_each, count_up, is_new_key}
 use Rattle.contest_types.specs.State.{ContestState, same_addressee, clarifications_to, add, NewClarification, SetStart, SetThaw, SetFinalized}
-use Rattle.contest_types.specs.ValidSubmissions.{is_valid_submission, has_valid_submissions, of_one_team, are_valid_submissions}
+use Rattle.contest_types.specs.ValidSubmissions.{has_valid_submissions}
 use Rattle.contest_types.specs.ValidClarifications.{is_an_addressee, has_clarification, is_well_sent, is_valid_clarification, to_one_addressee, is_request, are_valid_clarifications, in_one_scope, keys_are_own}
 use Rattle.contest_types.specs.Valid.{is_valid}
 use Rattle.contest_types.specs.Addable.{is_addable, is_next_clarification}
@@ -18,7 +18,6 @@ use Rattle.contest_types.specs.declared.clarification.Clarification.{Clarificati
 use Rattle.contest_types.specs.declared.clarification.Addressee.{Addressee}
 use Rattle.contest_types.specs.declared.clarification.Addressee.TheVariants as addressee
 use Rattle.contest_types.specs.declared.clarification.Reference.{Reference}
-use Rattle.contest_types.specs.declared.submission.Submission.{Submission}
 use Rattle.contest_types.proofs.PlaceLemmas.{and_left, and_right, both_true, all_push}
 use Rattle.contest_types.proofs.SetupLemmas.{all_wider}
 use Rattle.contest_types.proofs.SightLemmas.{same_is_one}

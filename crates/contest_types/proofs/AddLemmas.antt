@@ -1,18 +1,16 @@
 -- Adding what may be added keeps a contest valid: submissions, proposals, releases and marks.
-use Rattle.std.proofs.Common.{◌≡◌, ℕ, ◌+◌, Bool, true, false, List, [], ◌∷◌, ◌++◌, length, map, filter, Option, Some, None, refl, sym, ◌∙◌, ap, arith}
-use Rattle.std.specs.Prelude.{◌&&◌, ◌||◌, ◌==◌, not, nat_le, nat_lt, count_by, cond, is_some}
-use Rattle.std.specs.List.{list_all, list_any}
-use Rattle.std.specs.Option.{option_map_or}
+use Rattle.std.proofs.Common.{◌≡◌, ℕ, ◌+◌, Bool, true, false, List, [], ◌∷◌, ◌++◌, length, map, Option, Some, None, refl, sym, ap, arith}
+use Rattle.std.specs.Prelude.{◌&&◌, ◌||◌, ◌==◌, not, nat_le, nat_lt, count_by, is_some}
+use Rattle.std.specs.List.{list_all}
 use Rattle.std.proofs.lemmas.Bool.{false≢true, eqb-true, eq-eqb}
 use Rattle.std.proofs.lemmas.List.{map-append, length-map}
 use Rattle.contest_types.specs.Clock.{reached, end_of}
 use Rattle.contest_types.specs.Series.{count_up, never_fall, have_own_keys, is_new_key}
 use Rattle.contest_types.specs.State.{ContestState, submissions_of, releases_on, proposals_for, add, NewSubmission, NewProposal, NewRelease}
-use Rattle.contest_types.specs.ValidFixed.{has_valid_clock}
-use Rattle.contest_types.specs.ValidSubmissions.{is_valid_submission, of_one_team, are_valid_submissions, has_submission, is_valid_release, on_one_submission, are_valid_releases, is_valid_proposal, for_one_submission, are_valid_proposals, is_imported, is_there}
-use Rattle.contest_types.specs.ValidRejudgings.{is_valid_rejudging, is_valid_member, is_valid_state, has_release, are_different_members}
+use Rattle.contest_types.specs.ValidSubmissions.{is_valid_submission, of_one_team, are_valid_submissions, has_submission, is_valid_release, on_one_submission, are_valid_releases, is_valid_proposal, for_one_submission, are_valid_proposals, is_imported}
+use Rattle.contest_types.specs.ValidRejudgings.{is_valid_rejudging, is_valid_member, has_release}
 use Rattle.contest_types.specs.Valid.{is_valid}
-use Rattle.contest_types.specs.Addable.{is_addable, is_next_submission, is_next_proposal, is_next_release}
+use Rattle.contest_types.specs.Addable.{is_addable, is_next_submission, is_next_proposal}
 use Rattle.contest_types.specs.declared.limits.TheConstants.{TEAM_SUBMISSIONS, PROPOSALS, POSTED_FILE}
 use Rattle.contest_types.specs.declared.submission.Submission.{Submission}
 use Rattle.contest_types.specs.declared.submission.Release.{Release}
@@ -22,7 +20,7 @@ use Rattle.contest_types.specs.declared.rejudging.Member.{Member}
 use Rattle.contest_types.proofs.PlaceLemmas.{and_left, and_right, both_true, all_push}
 use Rattle.contest_types.proofs.SetupLemmas.{all_wider}
 use Rattle.contest_types.proofs.SeriesLemmas.{IsTogether, in_each_push, in_any, some_more, count_up_push, never_fall_push, own_keys_push, room, length_push, count_push, list_all_map}
-use Rattle.contest_types.proofs.ValidParts.{Parts, parts, whole, AllFour, four, all_four, first_of_two, first_of_three}
+use Rattle.contest_types.proofs.ValidParts.{Parts, parts, whole, four, all_four, first_of_two, first_of_three}
 
 same_number : (m n k : ℕ) → (n == m) ≡ true → (k == m) ≡ (k == n)
 same_number m n k e = ap (λ t. k == t) (sym (eqb-true n m e))

@@ -1,8 +1,8 @@
 -- Adding what may be added keeps a contest valid: rejudgings, their members and their states.
-use Rattle.std.proofs.Common.{◌≡◌, ℕ, zero, suc, ◌+◌, Bool, true, false, List, [], ◌∷◌, ◌++◌, length, map, filter, refl, sym, ◌∙◌, ap, subst, append-nil}
-use Rattle.std.specs.Prelude.{◌&&◌, ◌||◌, ◌==◌, not, nat_le, nat_lt, cond, if◌then◌else◌}
-use Rattle.std.specs.List.{list_all, list_any, flat_map, enumerate_from}
-use Rattle.std.proofs.lemmas.Bool.{cases_Bool, false≢true}
+use Rattle.std.proofs.Common.{◌≡◌, ℕ, suc, ◌+◌, Bool, true, false, List, [], ◌∷◌, ◌++◌, length, map, filter, refl, sym, ◌∙◌, ap, subst, append-nil}
+use Rattle.std.specs.Prelude.{◌&&◌, ◌||◌, ◌==◌, not, nat_le, nat_lt, if◌then◌else◌}
+use Rattle.std.specs.List.{list_all, list_any, flat_map}
+use Rattle.std.proofs.lemmas.Bool.{false≢true}
 use Rattle.std.proofs.lemmas.Grind.{flat_map-append}
 use Rattle.std.proofs.lemmas.List.{map-append}
 use Rattle.std.proofs.lemmas.List.Elements.{filter-append}
@@ -17,7 +17,6 @@ use Rattle.contest_types.specs.declared.rejudging.Member.{Member}
 use Rattle.contest_types.specs.declared.rejudging.MemberState.{MemberState}
 use Rattle.contest_types.specs.declared.rejudging.MemberState.TheVariants as member
 use Rattle.contest_types.proofs.PlaceLemmas.{and_left, and_right, both_true, all_push}
-use Rattle.contest_types.proofs.SeriesLemmas.{room, length_push}
 use Rattle.contest_types.proofs.ValidParts.{Parts, parts, whole}
 use Rattle.contest_types.proofs.AddLemmas.{next_room}
 

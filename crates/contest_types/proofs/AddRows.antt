@@ -1,19 +1,19 @@
 -- Adding what may be added keeps a contest valid: each row of the settings, and accounts.
-use Rattle.std.proofs.Common.{◌≡◌, ℕ, zero, suc, ◌+◌, ◌≤◌, Bool, true, false, List, [], ◌∷◌, ◌++◌, length, map, Option, Some, None, refl, sym, ◌∙◌, ap, arith}
-use Rattle.std.specs.Prelude.{◌&&◌, not, nat_le, nat_lt, slice_get, Result, Ok, Err, if◌then◌else◌}
+use Rattle.std.proofs.Common.{◌≡◌, ℕ, zero, suc, Bool, true, false, List, [], ◌∷◌, ◌++◌, length, map, Some, None, refl, sym, ◌∙◌, arith}
+use Rattle.std.specs.Prelude.{◌&&◌, not, nat_le, nat_lt, slice_get, Result, Err, if◌then◌else◌}
 use Rattle.std.specs.List.{list_all}
 use Rattle.std.proofs.lemmas.Bool.{false≢true}
 use Rattle.std.proofs.lemmas.List.{map-append}
 use Rattle.std.proofs.lemmas.Option.{slice_get_past}
 use Rattle.contest_types.specs.Places.{is_among, are_different}
-use Rattle.contest_types.specs.Setup.{Setup, labels_of, refers}
+use Rattle.contest_types.specs.Setup.{labels_of, refers}
 use Rattle.contest_types.specs.Rows.{same_type, same_language, same_problem, same_group, same_team}
 use Rattle.contest_types.specs.Additions.{standing_of, addition}
 use Rattle.contest_types.specs.SetupAdditions.{problem_addition_by}
 use Rattle.contest_types.specs.State.{ContestState, add, NewType, NewLanguage, NewProblem, NewGroup, NewTeam, NewAccount}
 use Rattle.contest_types.specs.ValidFixed.{is_valid_account}
 use Rattle.contest_types.specs.Valid.{is_valid}
-use Rattle.contest_types.specs.Addable.{is_addable, is_added, is_next_account}
+use Rattle.contest_types.specs.Addable.{is_addable, is_added}
 use Rattle.contest_types.specs.declared.limits.TheConstants.{JUDGEMENT_TYPES, LANGUAGES, PROBLEMS, GROUPS, TEAMS, ACCOUNTS}
 use Rattle.contest_types.specs.declared.refusal.Cause.{Cause}
 use Rattle.contest_types.specs.declared.refusal.Cause.TheVariants.{UnknownReference}
@@ -25,11 +25,11 @@ use Rattle.contest_types.specs.declared.objects.Language.{Language}
 use Rattle.contest_types.specs.declared.objects.Problem.{Problem}
 use Rattle.contest_types.specs.declared.objects.Group.{Group}
 use Rattle.contest_types.specs.declared.objects.Team.{Team}
-use Rattle.contest_types.proofs.PlaceLemmas.{and_left, and_right, both_true, all_push, different_push}
+use Rattle.contest_types.proofs.PlaceLemmas.{and_left, and_right, all_push, different_push}
 use Rattle.contest_types.proofs.SetupLemmas.{all_wider, refers_wider, labels_push}
-use Rattle.contest_types.proofs.ValidParts.{parts, AllFour, four, all_four}
+use Rattle.contest_types.proofs.ValidParts.{parts, four, all_four}
 use Rattle.contest_types.proofs.AddLemmas.{next_room}
-use Rattle.contest_types.proofs.AddSettings.{with_lists, Wider, widened, account_wider, longer, TestsOf, tests_of, all_tests, IsNewRow, new_row, TakesRow, takes, same_lists}
+use Rattle.contest_types.proofs.AddSettings.{with_lists, Wider, widened, account_wider, longer, TestsOf, tests_of, all_tests, IsNewRow, new_row, takes}
 
 pub adding_type : (x : ContestState) (t : JudgementType) → is_valid x ≡ true → is_addable x (NewType t) ≡ true → is_valid (add x (NewType t)) ≡ true
 adding_type x t h a =

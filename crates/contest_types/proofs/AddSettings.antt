@@ -1,25 +1,23 @@
 -- Adding what may be added keeps a contest valid: rows of the settings, and accounts.
-use Rattle.std.proofs.Common.{◌≡◌, ℕ, ◌+◌, ◌<◌, ◌≤◌, Bool, true, false, List, [], ◌∷◌, ◌++◌, length, map, Option, Some, None, refl, sym, ◌∙◌, ap, arith, get_or}
-use Rattle.std.specs.Prelude.{◌&&◌, ◌||◌, not, nat_le, nat_lt, slice_get, Result, Ok, Err, if◌then◌else◌}
+use Rattle.std.proofs.Common.{◌≡◌, ℕ, ◌≤◌, Bool, true, false, List, [], ◌∷◌, ◌++◌, length, map, Option, Some, None, refl, arith}
+use Rattle.std.specs.Prelude.{◌&&◌, ◌||◌, not, nat_le, nat_lt, slice_get}
 use Rattle.std.specs.List.{list_all}
 use Rattle.std.specs.Option.{option_map_or}
 use Rattle.std.proofs.lemmas.Bool.{false≢true}
 use Rattle.std.proofs.lemmas.Bool.Decides.{nat_tests}
 use Rattle.std.proofs.lemmas.List.{map-append, length-append}
-use Rattle.contest_types.specs.Places.{is_among, are_different}
+use Rattle.contest_types.specs.Places.{are_different}
 use Rattle.contest_types.specs.Clock.{reached, end_of}
 use Rattle.contest_types.specs.Setup.{Setup, labels_of, is_valid_head, refers}
-use Rattle.contest_types.specs.Rows.{same_type, same_language, same_problem, same_group, same_team}
-use Rattle.contest_types.specs.Additions.{standing_of, addition, addition_by}
-use Rattle.contest_types.specs.SetupAdditions.{problem_addition_by}
-use Rattle.contest_types.specs.State.{FixedPart, ContestState, Entry, NewType, NewLanguage, NewProblem, NewGroup, NewTeam, NewAccount, add}
+use Rattle.contest_types.specs.Additions.{standing_of, addition_by}
+use Rattle.contest_types.specs.State.{FixedPart, ContestState}
 use Rattle.contest_types.specs.ValidFixed.{has_valid_settings, has_valid_accounts, has_valid_role, is_valid_account}
 use Rattle.contest_types.specs.ValidSubmissions.{is_valid_submission, is_valid_release, is_valid_proposal, is_there, has_submission}
 use Rattle.contest_types.specs.ValidClarifications.{is_an_addressee, has_clarification, is_well_sent, speaks_for, is_seen_from, is_valid_clarification}
 use Rattle.contest_types.specs.ValidRejudgings.{is_valid_rejudging, is_valid_member, is_valid_state, has_release}
 use Rattle.contest_types.specs.Valid.{is_valid}
-use Rattle.contest_types.specs.Addable.{is_addable, is_added, is_next_account}
-use Rattle.contest_types.specs.declared.limits.TheConstants.{JUDGEMENT_TYPES, LANGUAGES, PROBLEMS, GROUPS, TEAMS, ACCOUNTS, POSTED_FILE}
+use Rattle.contest_types.specs.Addable.{is_added}
+use Rattle.contest_types.specs.declared.limits.TheConstants.{JUDGEMENT_TYPES, LANGUAGES, PROBLEMS, GROUPS, TEAMS, POSTED_FILE}
 use Rattle.contest_types.specs.declared.id_list.Standing.{Standing}
 use Rattle.contest_types.specs.declared.id_list.Standing.TheVariants.{New, Same, Other}
 use Rattle.contest_types.specs.declared.account.Account.{Account}
@@ -43,10 +41,10 @@ use Rattle.contest_types.specs.declared.rejudging.Rejudging.{Rejudging}
 use Rattle.contest_types.specs.declared.rejudging.Member.{Member}
 use Rattle.contest_types.specs.declared.rejudging.MemberState.{MemberState}
 use Rattle.contest_types.specs.declared.rejudging.MemberState.TheVariants as member
-use Rattle.contest_types.proofs.PlaceLemmas.{and_left, and_right, both_true, all_push, different_push, not_among}
+use Rattle.contest_types.proofs.PlaceLemmas.{and_left, and_right, both_true, different_push, not_among}
 use Rattle.contest_types.proofs.AdditionLemmas.{place_of_new}
-use Rattle.contest_types.proofs.SetupLemmas.{all_wider, below_wider, refers_wider, labels_push}
-use Rattle.contest_types.proofs.ValidParts.{Parts, parts, whole, four, all_four, first_of_two, first_of_three}
+use Rattle.contest_types.proofs.SetupLemmas.{all_wider, below_wider}
+use Rattle.contest_types.proofs.ValidParts.{Parts, parts, whole, first_of_two, first_of_three}
 use Rattle.contest_types.proofs.AddLemmas.{next_room}
 
 -- the contest with other lists of settings, and other accounts

@@ -1,28 +1,23 @@
 -- The contest of the examples: five hours from moment 0, the last of them frozen; two problems, and
 -- four teams of which the last is hidden.
-use Rattle.std.specs.Prelude.{ℕ, ◌*◌, ◌+◌, Bool, true, false, List, [], ◌∷◌, Option, Some, None, codes}
+use Rattle.std.specs.Prelude.{ℕ, ◌*◌, Bool, true, false, List, [], ◌∷◌, Option, Some, None, codes}
 use Rattle.contest_types.specs.Setup.{Setup}
-use Rattle.contest_types.specs.State.{FixedPart, ContestState}
+use Rattle.contest_types.specs.State.{ContestState}
 use Rattle.contest_types.specs.declared.contest.ContestHead.{ContestHead}
 use Rattle.contest_types.specs.declared.marks.Marks.{Marks}
 use Rattle.contest_types.specs.declared.account.Account.{Account}
 use Rattle.contest_types.specs.declared.account.Role.{Role}
 use Rattle.contest_types.specs.declared.account.Role.TheVariants as role
-use Rattle.contest_types.specs.declared.objects.JudgementType.{JudgementType}
-use Rattle.contest_types.specs.declared.objects.Language.{Language}
-use Rattle.contest_types.specs.declared.objects.Problem.{Problem}
 use Rattle.contest_types.specs.declared.objects.Team.{Team}
 use Rattle.contest_types.specs.declared.submission.Submission.{Submission}
 use Rattle.contest_types.specs.declared.submission.Release.{Release}
 use Rattle.contest_types.specs.declared.proposal.Proposal.{Proposal}
 use Rattle.contest_types.specs.declared.proposal.Proposer.TheVariants as proposer
 use Rattle.contest_types.specs.declared.clarification.Clarification.{Clarification}
-use Rattle.contest_types.specs.declared.clarification.Addressee.{Addressee}
 use Rattle.contest_types.specs.declared.clarification.Addressee.TheVariants as addressee
 use Rattle.contest_types.specs.declared.clarification.Reference.{Reference}
 use Rattle.contest_types.specs.declared.rejudging.Rejudging.{Rejudging}
 use Rattle.contest_types.specs.declared.rejudging.RejudgingState.{RejudgingState}
-use Rattle.contest_types.specs.declared.rejudging.Member.{Member}
 use Rattle.contest_types.specs.declared.rejudging.MemberState.TheVariants as member
 
 -- contest time in milliseconds

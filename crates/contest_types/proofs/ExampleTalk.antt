@@ -1,5 +1,5 @@
 -- The contest that the examples of alike contests vary.
-use Rattle.std.specs.Prelude.{ℕ, ◌+◌, List, [], ◌∷◌, Option, None}
+use Rattle.std.specs.Prelude.{◌+◌, List, [], ◌∷◌, None}
 use Rattle.contest_types.specs.State.{ContestState}
 use Rattle.contest_types.specs.declared.submission.Submission.{Submission}
 use Rattle.contest_types.specs.declared.submission.Release.{Release}

@@ -1,18 +1,17 @@
 -- Worked examples: contests that differ only in what an audience may not learn are alike for it.
-use Rattle.std.proofs.Common.{◌≡◌, ℕ, ◌+◌, List, [], ◌∷◌, refl, Option, Some, None, true, Bool}
+use Rattle.std.proofs.Common.{◌≡◌, ◌+◌, [], ◌∷◌, refl, Some, None, true}
 use Rattle.std.specs.Prelude.{codes}
 use Rattle.std.specs.List.{list_all}
 use Rattle.contest_types.specs.State.{ContestState}
-use Rattle.contest_types.specs.Alike.{Alike, sight_of, told_of}
+use Rattle.contest_types.specs.Alike.{Alike}
 use Rattle.contest_types.specs.Valid.{is_valid}
 use Rattle.contest_types.specs.declared.audience.Audience.{Audience}
 use Rattle.contest_types.specs.declared.audience.Audience.TheVariants as audience
 use Rattle.contest_types.specs.declared.clarification.Addressee.TheVariants as addressee
-use Rattle.contest_types.specs.declared.clarification.Reference.{Reference}
 use Rattle.contest_types.specs.declared.rejudging.RejudgingState.TheVariants as state
-use Rattle.contest_types.proofs.AlikeLemmas.{AtEach, alike_within}
-use Rattle.contest_types.proofs.ExampleContest.{minutes, hours, empty, accepted, wrong, proposed, released, rejudged, asked, answered, announced}
-use Rattle.contest_types.proofs.ExampleTalk.{base, own_submission, other_submission, frozen_submission, hidden_submission, own_release, other_release, frozen_release, submissions, releases, clarifications}
+use Rattle.contest_types.proofs.AlikeLemmas.{alike_within}
+use Rattle.contest_types.proofs.ExampleContest.{minutes, hours, accepted, wrong, proposed, rejudged, asked, answered, announced}
+use Rattle.contest_types.proofs.ExampleTalk.{base, own_submission, other_submission, frozen_submission, hidden_submission, own_release, other_release, frozen_release}
 
 -- the first team, which asks
 abbrev pub me : Audience

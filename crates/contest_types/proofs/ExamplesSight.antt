@@ -2,7 +2,7 @@
 use Rattle.std.proofs.Common.{◌≡◌, ℕ, ◌+◌, ◌-◌, List, [], ◌∷◌, refl, Option, Some, None, true, false, map}
 use Rattle.std.specs.Prelude.{codes}
 use Rattle.std.specs.Fmt.{digits}
-use Rattle.contest_types.specs.Clock.{end_of, freeze_of, is_frozen, is_freezing, is_thawed, is_finalized, phase_at}
+use Rattle.contest_types.specs.Clock.{end_of, freeze_of, is_frozen, is_freezing, is_finalized, phase_at}
 use Rattle.contest_types.specs.State.{ContestState}
 use Rattle.contest_types.specs.Sight.{SeenSubmission, SeenClarification, Judgement, seen_submissions, seen_clarifications, seen_verdict, sees_team, clarification_id}
 use Rattle.contest_types.specs.declared.audience.Audience.{Audience}
@@ -10,7 +10,7 @@ use Rattle.contest_types.specs.declared.audience.Audience.TheVariants as audienc
 use Rattle.contest_types.specs.declared.audience.Phase.TheVariants as phase
 use Rattle.contest_types.specs.declared.clarification.Addressee.TheVariants as addressee
 use Rattle.contest_types.specs.declared.clarification.Reference.{Reference}
-use Rattle.contest_types.proofs.ExampleContest.{minutes, hours, settings, started, empty, thawed_at, accepted, wrong, submitted, released, asked, answered, announced}
+use Rattle.contest_types.proofs.ExampleContest.{minutes, hours, settings, started, empty, thawed_at, accepted, wrong, submitted, released, asked, announced}
 
 ends : end_of settings started ≡ Some (hours 5)
 ends = refl

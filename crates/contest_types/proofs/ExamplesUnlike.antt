@@ -1,20 +1,18 @@
 -- Worked examples: contests that differ in something that an audience may learn aren't alike for it.
-use Rattle.std.proofs.Common.{◌≡◌, ℕ, ◌+◌, List, [], ◌∷◌, refl, Option, Some, None, true, false, Bool, length}
+use Rattle.std.proofs.Common.{◌+◌, List, [], ◌∷◌, refl, Some, None, false, length}
 use Rattle.std.specs.Prelude.{codes, ◌==◌, ◌&&◌, is_some, is_none}
-use Rattle.std.specs.List.{list_all, list_any}
+use Rattle.std.specs.List.{list_any}
 use Rattle.contest_types.specs.State.{FixedPart, ContestState}
 use Rattle.contest_types.specs.Sight.{Judgement}
-use Rattle.contest_types.specs.Alike.{OwnRecord, OpenRecord, OpenClarification, Alike}
-use Rattle.contest_types.specs.Valid.{is_valid}
+use Rattle.contest_types.specs.Alike.{Alike}
 use Rattle.contest_types.specs.declared.submission.Submission.{Submission}
 use Rattle.contest_types.specs.declared.submission.Release.{Release}
 use Rattle.contest_types.specs.declared.clarification.Clarification.{Clarification}
 use Rattle.contest_types.specs.declared.audience.Audience.{Audience}
 use Rattle.contest_types.specs.declared.audience.Audience.TheVariants as audience
 use Rattle.contest_types.specs.declared.clarification.Addressee.TheVariants as addressee
-use Rattle.contest_types.specs.declared.clarification.Reference.{Reference}
 use Rattle.contest_types.proofs.AlikeLemmas.{some_own, some_open, unlike_teams, unlike_talk, unlike_fixed}
-use Rattle.contest_types.proofs.ExampleContest.{minutes, hours, accepted, wrong, submitted, released, asked, answered, announced, team_named}
+use Rattle.contest_types.proofs.ExampleContest.{minutes, hours, accepted, wrong, asked, answered, announced}
 use Rattle.contest_types.proofs.ExampleTalk.{base, own_submission, other_submission, frozen_submission, hidden_submission, own_release, other_release}
 
 -- the first team, which asks

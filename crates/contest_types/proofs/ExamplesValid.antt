@@ -1,8 +1,8 @@
 -- Worked examples: what makes a contest invalid, and what doesn't.
-use Rattle.std.proofs.Common.{◌≡◌, ℕ, ◌+◌, ◌-◌, List, [], ◌∷◌, refl, Option, Some, None, true, false, Bool}
-use Rattle.std.specs.Prelude.{codes, replicate}
+use Rattle.std.proofs.Common.{◌≡◌, ℕ, ◌+◌, ◌-◌, List, [], ◌∷◌, refl, Some, None, true, false}
+use Rattle.std.specs.Prelude.{codes}
 use Rattle.std.specs.List.{list_all, list_any}
-use Rattle.contest_types.specs.State.{ContestState, Entry, NewSubmission, NewRelease, NewProposal, NewClarification, SetStart, SetThaw, add_all}
+use Rattle.contest_types.specs.State.{ContestState, Entry, NewSubmission, NewRelease, NewProposal, NewClarification, SetStart, SetThaw}
 use Rattle.contest_types.specs.Valid.{is_valid}
 use Rattle.contest_types.specs.Addable.{is_addable, are_addable}
 use Rattle.contest_types.specs.declared.marks.Marks.{Marks}
@@ -15,13 +15,11 @@ use Rattle.contest_types.specs.declared.proposal.Proposer.TheVariants as propose
 use Rattle.contest_types.specs.declared.clarification.Clarification.{Clarification}
 use Rattle.contest_types.specs.declared.clarification.Addressee.{Addressee}
 use Rattle.contest_types.specs.declared.clarification.Addressee.TheVariants as addressee
-use Rattle.contest_types.specs.declared.clarification.Reference.{Reference}
 use Rattle.contest_types.specs.declared.rejudging.Rejudging.{Rejudging}
 use Rattle.contest_types.specs.declared.rejudging.RejudgingState.TheVariants as state
-use Rattle.contest_types.specs.declared.rejudging.Member.{Member}
 use Rattle.contest_types.specs.declared.rejudging.MemberState.TheVariants as member
-use Rattle.contest_types.proofs.ExampleContest.{minutes, hours, settings, accounts, started, empty, account_for, accepted, wrong, submitted, released, proposed, asked, answered, announced, rejudged}
-use Rattle.contest_types.proofs.ExampleTalk.{base, own_submission, other_submission, own_release}
+use Rattle.contest_types.proofs.ExampleContest.{hours, settings, accounts, started, empty, account_for, wrong, submitted, released, proposed, asked, answered, announced, rejudged}
+use Rattle.contest_types.proofs.ExampleTalk.{base, own_submission, own_release}
 
 empty_valid : is_valid empty ≡ true
 empty_valid = refl

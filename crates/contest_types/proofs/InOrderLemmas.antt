@@ -40,12 +40,12 @@ count_less {X} p q (y ∷ xs) x weaker h f t =
     (let rest = count_less p q xs x weaker k f t in let head = one_le (p y) (q y) (weaker y) in rw (count_more p y xs, count_more q y xs) (omega (arith, rest, head))) in
     elim h [ inl i ↦ here i | inr k ↦ there k ]
 
-is_less : (o : Ordering) → is_lt o ≡ true → o ≡ Less
+pub is_less : (o : Ordering) → is_lt o ≡ true → o ≡ Less
 is_less Less h = refl
 is_less Equal h = absurd (false≢true h)
 is_less Greater h = absurd (false≢true h)
 
-place_less : {X : Type 0} {R : X → X → Ordering} (o : IsTotalOrder R) (xs : List X) (x y : X) → Has xs x → R x y ≡ Less → place_in R xs x < place_in R xs y
+pub place_less : {X : Type 0} {R : X → X → Ordering} (o : IsTotalOrder R) (xs : List X) (x y : X) → Has xs x → R x y ≡ Less → place_in R xs x < place_in R xs y
 place_less {X} {R} o xs x y there e =
     count_less (λ z. is_lt (R z x)) (λ z. is_lt (R z y)) xs x (λ z h. ap is_lt (o.trans z x y (is_less _ h) e)) there (rw (tied_itself o x) refl) (rw e refl)
 
@@ -65,7 +65,7 @@ found_in {X} p (y ∷ xs) x h t =
     record { item = rest.item; found = rw f rest.found; passes = rest.passes; there = inr rest.there }) in
     elim (cases_Bool (p y)) [ inl e ↦ record { item = y; found = rw e refl; passes = e; there = inl refl } | inr f ↦ later f ]
 
-find_has : {X : Type 0} (p : X → Bool) (xs : List X) (x : X) → find p xs ≡ Some x → Has xs x
+pub find_has : {X : Type 0} (p : X → Bool) (xs : List X) (x : X) → find p xs ≡ Some x → Has xs x
 find_has p [] x h = absurd (cc h)
 find_has {X} p (y ∷ xs) x h =
     let go : (b : Bool) → (if b then Some y else find p xs) ≡ Some x → Has (y ∷ xs) x =
@@ -76,7 +76,7 @@ has_option : {X : Type 0} (o : Option X) (xs : List X) (x : X) → (o ≡ Some x
 has_option None xs x h = elim h [ inl e ↦ absurd (cc e) | inr k ↦ k ]
 has_option {X} (Some y) xs x h = elim h [ inl e ↦ (let same : y ≡ x = cc e in inl (sym same)) | inr k ↦ inr k ]
 
-option_has : {X : Type 0} (o : Option X) (xs : List X) (x : X) → Has (cons_option o xs) x → (o ≡ Some x) ⊎ Has xs x
+pub option_has : {X : Type 0} (o : Option X) (xs : List X) (x : X) → Has (cons_option o xs) x → (o ≡ Some x) ⊎ Has xs x
 option_has None xs x h = inr h
 option_has (Some y) xs x h = elim h [ inl e ↦ inl (ap Some (sym e)) | inr k ↦ inr k ]
 

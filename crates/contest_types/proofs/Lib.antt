@@ -27,4 +27,6 @@ pub mod AddEntry
 mod ExamplesValid
 pub mod Different
 pub mod InOrderLemmas
+pub mod Rising
 pub mod SeenWhole
+pub mod SettingsTest

@@ -1,5 +1,5 @@
 -- Lists in strict order with the same elements are one list.
-use Rattle.std.proofs.Common.{◌≡◌, ◌⊎◌, List, [], ◌∷◌, refl, sym, subst, Bool, true, false, inl, inr}
+use Rattle.std.proofs.Common.{◌≡◌, List, [], ◌∷◌, refl, sym, subst, Bool, true, inl, inr}
 use Rattle.contest_types.specs.Order.{IsStrict, Has, IsBefore, IsInOrder}
 
 before_each : {X : Type 0} (before : X → X → Bool) (x : X) (ys : List X) (y : X) → IsBefore before x ys → Has ys y → before x y ≡ true

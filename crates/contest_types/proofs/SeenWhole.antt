@@ -1,10 +1,9 @@
 -- In a valid contest all that an audience may see of submissions is listed, and nothing else.
-use Rattle.std.proofs.Common.{◌≡◌, ◌⊎◌, ℕ, zero, suc, ◌+◌, ◌<◌, ◌≤◌, Bool, true, false, List, [], ◌∷◌, length, map, filter, Option, Some, None, refl, sym, ap, subst, ◌∙◌, inl, inr, arith, add-zero}
-use Rattle.std.specs.Prelude.{◌&&◌, ◌==◌, not, nat_lt, nat_le, if◌then◌else◌}
+use Rattle.std.proofs.Common.{◌≡◌, ℕ, zero, suc, ◌+◌, ◌<◌, ◌≤◌, Bool, true, false, List, [], ◌∷◌, length, map, refl, sym, ap, subst, ◌∙◌, inl, inr, arith, add-zero}
+use Rattle.std.specs.Prelude.{◌↔◌, ◌&&◌, ◌==◌, not, nat_lt, nat_le, if◌then◌else◌}
 use Rattle.std.specs.List.{list_all, flat_map, range_with_len}
 use Rattle.std.specs.Cmp.{IsTotalOrder}
-use Rattle.std.specs.Ordering.{nat_cmp, ordering_then}
-use Rattle.std.specs.Cmp.Lexicographic.{slice_cmp}
+use Rattle.std.specs.Ordering.{nat_cmp, ordering_then, is_lt}
 use Rattle.std.specs.declared.cmp.Ordering.{Ordering}
 use Rattle.std.specs.declared.cmp.Ordering.TheVariants.{Less, Equal, Greater}
 use Rattle.std.proofs.lemmas.Bool.{false≢true, eqb-true, eq-eqb}
@@ -14,13 +13,13 @@ use Rattle.std.proofs.lemmas.Map.Lookups.{exact_bytes}
 use Rattle.std.proofs.lemmas.Slice.Eq.{bytes_eq-Decides}
 use Rattle.std.proofs.lemmas.List.{length-map}
 use Rattle.contest_types.specs.Clock.{reached, end_of}
-use Rattle.contest_types.specs.declared.limits.TheConstants.{POSTED_FILE, TEAM_SUBMISSIONS}
+use Rattle.contest_types.specs.declared.limits.TheConstants.{POSTED_FILE}
 use Rattle.contest_types.specs.Setup.{Setup}
-use Rattle.contest_types.specs.Series.{in_each, count_up}
+use Rattle.contest_types.specs.Series.{count_up}
 use Rattle.contest_types.specs.TeamPlaces.{team_places, team_id_at}
-use Rattle.contest_types.specs.Order.{Has, in_order}
-use Rattle.contest_types.specs.State.{FixedPart, ContestState, submissions_of}
-use Rattle.contest_types.specs.Sight.{SeenSubmission, sees_team, sees_submission, seen_submission, seen_of_team, submission_cmp, seen_submissions}
+use Rattle.contest_types.specs.Order.{Has, IsInOrder}
+use Rattle.contest_types.specs.State.{ContestState, submissions_of}
+use Rattle.contest_types.specs.Sight.{SeenSubmission, sees_team, seen_submission, seen_of_team, submission_cmp, seen_submissions, SeenClarification, clarification_id, clarification_cmp, heard_of, addressees, seen_clarifications}
 use Rattle.contest_types.specs.ValidSubmissions.{is_valid_submission, of_one_team, are_valid_submissions}
 use Rattle.contest_types.specs.Valid.{is_valid}
 use Rattle.contest_types.specs.Laws.{IsSeen}
@@ -33,9 +32,11 @@ use Rattle.contest_types.proofs.SeriesLemmas.{in_any}
 use Rattle.contest_types.proofs.ValidParts.{parts}
 use Rattle.contest_types.proofs.AddLemmas.{one_team}
 use Rattle.contest_types.proofs.AddSettings.{tests_of}
-use Rattle.contest_types.proofs.InOrderLemmas.{nothing_added, nothing_lost, flat_has, FromOne, has_flat, has_map, MadeOf, map_has, has_filter, filter_has}
+use Rattle.contest_types.proofs.OrderLemmas.{same_order}
+use Rattle.contest_types.proofs.Rising.{rising, strict}
+use Rattle.contest_types.proofs.InOrderLemmas.{nothing_added, nothing_lost, flat_has, has_flat, has_map, map_has, has_filter, filter_has}
 
-submission_order : (s : Setup) → IsTotalOrder (submission_cmp s)
+pub submission_order : (s : Setup) → IsTotalOrder (submission_cmp s)
 submission_order s = then_total (on_total (λ (v : SeenSubmission). v.time) nat_cmp_total) (then_total (on_total (λ (v : SeenSubmission). team_id_at s v.team) nat_list_cmp_total) (on_total (λ (v : SeenSubmission). v.number) nat_cmp_total))
 
 both_equal : (a b : Ordering) → ordering_then a b ≡ Equal → (a ≡ Equal) × (b ≡ Equal)
@@ -147,3 +148,19 @@ seen_listed a now x valid v i =
     let shown : Has (seen_of_team a now x team) (seen_submission a now x i.submission) = go (sees_team a x.fixed.settings team) i.sees in
     let here : Has (gathered a now x) v = subst (λ w. Has (gathered a now x) w) (sym i.shown) (flat_has (seen_of_team a now x) (team_places x.fixed.settings) team (seen_submission a now x i.submission) (has_team x.fixed.settings team (team_there x i.submission valid i.there)) shown) in
     nothing_lost (submission_order x.fixed.settings) (gathered a now x) v here (λ w h e. no_ties a now x valid v w i (from_gathered a now x w h) e)
+
+clarification_order : IsTotalOrder clarification_cmp
+clarification_order = then_total (on_total (λ (c : SeenClarification). c.time) nat_cmp_total) (on_total (λ (c : SeenClarification). clarification_id c.addressee c.number) nat_list_cmp_total)
+
+pub seen_rises : (a : Audience) (now : ℕ) (x : ContestState) → IsInOrder (λ v w. is_lt (submission_cmp x.fixed.settings v w)) (seen_submissions a now x)
+seen_rises a now x = rising (submission_order x.fixed.settings) (gathered a now x)
+
+pub heard_rises : (a : Audience) (x : ContestState) → IsInOrder (λ c d. is_lt (clarification_cmp c d)) (seen_clarifications a x)
+heard_rises a x = rising clarification_order (flat_map (heard_of a x) (addressees x.fixed.settings))
+
+-- whoever lists in order just what is seen has the same list
+pub one_list : (a : Audience) (now : ℕ) (x : ContestState) → is_valid x ≡ true → (vs : List SeenSubmission) → IsInOrder (λ v w. is_lt (submission_cmp x.fixed.settings v w)) vs
+    → ((v : SeenSubmission) → Has vs v ↔ IsSeen a now x v) → vs ≡ seen_submissions a now x
+one_list a now x valid vs up same =
+    same_order (λ v w. is_lt (submission_cmp x.fixed.settings v w)) (strict (submission_order x.fixed.settings)) vs (seen_submissions a now x) up (seen_rises a now x)
+    (λ v h. seen_listed a now x valid v ((same v).0 h)) (λ v h. (same v).1 (listed_seen a now x v h))

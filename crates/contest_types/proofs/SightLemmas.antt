@@ -1,5 +1,5 @@
 -- What an audience sees before the thaw is a function of what alike contests agree on.
-use Rattle.std.proofs.Common.{◌≡◌, ◌≢◌, ℕ, List, [], ◌∷◌, map, refl, sym, ◌∙◌, ap, subst, Bool, true, false, Option, Some, None}
+use Rattle.std.proofs.Common.{◌≡◌, ◌≢◌, ℕ, List, [], ◌∷◌, map, refl, sym, ◌∙◌, ap, subst, Bool, true, false, Some, None}
 use Rattle.std.specs.Prelude.{if◌then◌else◌, filter, ◌==◌, ◌||◌}
 use Rattle.std.specs.List.{flat_map, last_or}
 use Rattle.std.proofs.lemmas.Simd.{map-map}
@@ -9,7 +9,7 @@ use Rattle.contest_types.specs.TeamPlaces.{team_places, is_public}
 use Rattle.contest_types.specs.Clock.{is_frozen, is_thawed}
 use Rattle.contest_types.specs.Masks.{is_jury, owns}
 use Rattle.contest_types.specs.State.{FixedPart, ContestState, submissions_of, same_addressee, clarifications_to}
-use Rattle.contest_types.specs.Sight.{Judgement, Program, SeenSubmission, judgements_on, sees_team, seen_submission, seen_of_team, submission_cmp, seen_submissions, SeenClarification, seen_clarification, heard_of, clarification_cmp, addressees, seen_clarifications, hears}
+use Rattle.contest_types.specs.Sight.{SeenSubmission, judgements_on, seen_submission, seen_of_team, submission_cmp, seen_submissions, SeenClarification, seen_clarification, heard_of, clarification_cmp, addressees, seen_clarifications, hears}
 use Rattle.contest_types.specs.Alike.{OwnRecord, OpenRecord, OpenClarification, own_record, open_record, open_clarification, TeamSight, Whole, Open, Nothing, sight_of, told_of, Alike, MayBeHeld}
 use Rattle.contest_types.specs.declared.audience.Audience.{Audience}
 use Rattle.contest_types.specs.declared.audience.Audience.TheVariants as audience

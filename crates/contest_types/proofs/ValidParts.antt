@@ -1,6 +1,6 @@
 -- The tests of a valid contest, one by one.
-use Rattle.std.proofs.Common.{◌≡◌, Bool, true, false, refl}
-use Rattle.std.specs.Prelude.{◌&&◌, ◌||◌}
+use Rattle.std.proofs.Common.{◌≡◌, Bool, true, refl}
+use Rattle.std.specs.Prelude.{◌&&◌}
 use Rattle.contest_types.specs.State.{ContestState}
 use Rattle.contest_types.specs.ValidFixed.{has_valid_settings, has_valid_clock, has_valid_accounts}
 use Rattle.contest_types.specs.ValidSubmissions.{has_valid_submissions, has_valid_proposals, has_valid_releases}

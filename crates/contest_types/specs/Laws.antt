@@ -1,9 +1,12 @@
 -- What holds of every contest, in the subject's words. Each is the contract of a function of src/laws.rt.
 use Rattle.std.specs.Prelude.{◌≡◌, ◌↔◌, ℕ, Bool, true, List}
+use Rattle.std.specs.Ordering.{is_lt}
 use Rattle.contest_types.specs.Order.{Has, IsInOrder, IsStrict}
 use Rattle.contest_types.specs.State.{ContestState, Entry, add_all}
-use Rattle.contest_types.specs.Sight.{SeenSubmission, sees_submission, seen_submission, seen_submissions, seen_clarifications}
+use Rattle.contest_types.specs.Sight.{SeenSubmission, sees_submission, seen_submission, submission_cmp, seen_submissions, clarification_cmp, seen_clarifications}
 use Rattle.contest_types.specs.Alike.{Alike, MayBeHeld}
+use Rattle.contest_types.specs.Setup.{IsValid}
+use Rattle.contest_types.specs.ValidFixed.{has_valid_settings}
 use Rattle.contest_types.specs.Valid.{is_valid}
 use Rattle.contest_types.specs.Addable.{are_addable}
 use Rattle.contest_types.specs.declared.audience.Audience.{Audience}
@@ -43,11 +46,27 @@ abbrev pub SeenIsListed : Type 0
 SeenIsListed =
     (a : Audience) (now : ℕ) (x : ContestState) → is_valid x ≡ true → (v : SeenSubmission) → Has (seen_submissions a now x) v ↔ IsSeen a now x v
 
+-- what is listed stands in strict order
+abbrev pub SeenIsInOrder : Type 0
+SeenIsInOrder =
+    (a : Audience) (now : ℕ) (x : ContestState) → IsInOrder (λ v w. is_lt (submission_cmp x.fixed.settings v w)) (seen_submissions a now x)
+    × IsInOrder (λ c d. is_lt (clarification_cmp c d)) (seen_clarifications a x)
+
+-- in a valid contest whoever lists in strict order just what is seen has the same list
+abbrev pub OneListIsSeen : Type 0
+OneListIsSeen =
+    (a : Audience) (now : ℕ) (x : ContestState) → is_valid x ≡ true → (vs : List SeenSubmission)
+    → IsInOrder (λ v w. is_lt (submission_cmp x.fixed.settings v w)) vs → ((v : SeenSubmission) → Has vs v ↔ IsSeen a now x v) → vs ≡ seen_submissions a now x
+
 -- two lists in strict order with the same elements are one
 abbrev pub OneOrder : Type 0 → Type 0
 OneOrder X =
     (before : X → X → Bool) (xs ys : List X) → IsStrict before → IsInOrder before xs → IsInOrder before ys
     → ((z : X) → Has xs z → Has ys z) → ((z : X) → Has ys z → Has xs z) → xs ≡ ys
+
+-- the test of the settings is that of the type `Settings`
+abbrev pub SettingsAreTested : Type 0
+SettingsAreTested = (x : ContestState) → (has_valid_settings x ≡ true) ↔ IsValid x.fixed.settings
 
 -- changes that may be made keep a valid contest valid
 abbrev pub AddingKeepsValid : Type 0

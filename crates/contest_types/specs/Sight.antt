@@ -10,8 +10,8 @@ use Rattle.std.specs.declared.cmp.Ordering.{Ordering}
 use Rattle.contest_types.specs.Setup.{Setup}
 use Rattle.contest_types.specs.TeamPlaces.{team_places, team_id_at, is_public}
 use Rattle.contest_types.specs.Order.{in_order}
-use Rattle.contest_types.specs.Masks.{is_jury, owns, knows_all_of, mask_for, verdict_under}
-use Rattle.contest_types.specs.State.{FixedPart, ContestState, submissions_of, releases_on, clarifications_to}
+use Rattle.contest_types.specs.Masks.{knows_all_of, mask_for, verdict_under}
+use Rattle.contest_types.specs.State.{ContestState, submissions_of, releases_on, clarifications_to}
 use Rattle.contest_types.specs.declared.audience.Audience.{Audience}
 use Rattle.contest_types.specs.declared.mask.Mask.TheVariants.{Full, Held}
 use Rattle.contest_types.specs.declared.submission.Submission.{Submission}

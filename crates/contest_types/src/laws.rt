@@ -1,5 +1,5 @@
 //! Laws of the model: functions that do nothing, and whose contracts say what holds of every contest.
-ghost use Rattle.contest_types.specs.Laws.{IsAlikeToItself, IsAlikeBothWays, IsAlikeOnward, AlikeShowTheSame, AlikeTellTheSame, SeenIsListed, OneOrder, AddingKeepsValid};
+ghost use Rattle.contest_types.specs.Laws.{IsAlikeToItself, IsAlikeBothWays, IsAlikeOnward, AlikeShowTheSame, AlikeTellTheSame, SeenIsListed, SeenIsInOrder, OneListIsSeen, OneOrder, SettingsAreTested, AddingKeepsValid};
 ghost use Rattle.contest_types.specs.Sight.{SeenSubmission, SeenClarification};
 
 /// A contest is alike to itself.
@@ -33,6 +33,17 @@ pub fn seen_is_listed()
     ensures { SeenIsListed }
 {}
 
+/// What is listed for an audience stands in strict order.
+pub fn seen_is_in_order()
+    ensures { SeenIsInOrder }
+{}
+
+/// In a valid contest whoever lists in strict order just what an audience may see of submissions has
+/// the same list.
+pub fn one_list_is_seen()
+    ensures { OneListIsSeen }
+{}
+
 /// Two lists of submissions in strict order with the same elements are one list.
 pub fn one_order_of_submissions()
     ensures { OneOrder SeenSubmission }
@@ -41,6 +52,11 @@ pub fn one_order_of_submissions()
 /// Two lists of clarifications in strict order with the same elements are one list.
 pub fn one_order_of_clarifications()
     ensures { OneOrder SeenClarification }
+{}
+
+/// The test of a valid contest's settings is what the type `Settings` always meets.
+pub fn settings_are_tested()
+    ensures { SettingsAreTested }
 {}
 
 /// What may be added keeps a valid contest valid, one change after another.
