@@ -12,3 +12,4 @@ pub mod MaskLemmas
 mod Examples
 mod ExamplesAwards
 pub mod BoardAlike
+pub mod AwardsAlike
