@@ -88,7 +88,7 @@ board_same s shown c d h =
     ∙ map_found (row_of s shown c) (row_of s shown d) at (λ k u e. row u (found_kept shown (λ x. place_in (row_cmp s shown d) L x == k) (team_places s) u e)) (range_with_len 0 (length L))
 
 -- what anyone sees is seen
-seen_of_public : (a : Audience) (s : Setup) (team : ℕ) → is_public s team ≡ true → sees_team a s team ≡ true
+pub seen_of_public : (a : Audience) (s : Setup) (team : ℕ) → is_public s team ≡ true → sees_team a s team ≡ true
 seen_of_public a s team e =
     let go : (b : Bool) → (b || true) ≡ true = elim [ true ↦ refl | false ↦ refl ] in
     rw e (go (knows_all_of a team))

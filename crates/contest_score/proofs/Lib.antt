@@ -13,3 +13,4 @@ mod Examples
 mod ExamplesBoard
 mod ExamplesAwards
 pub mod BoardAlike
+pub mod AwardsAlike

@@ -48,10 +48,10 @@ full_for_own audience.Jury marks now team o = absurd (false≢true o)
 pub own_cell : (a : Audience) (now : ℕ) (x : ContestState) (freeze : Option ℕ) (team problem : ℕ) → owns a team ≡ true → seen_cell a now (with_freeze x freeze) team problem ≡ contest_cell Full x team problem
 own_cell a now x freeze team problem o = rw (full_for_own a x.fixed.marks now team o) refl
 
-never_frozen : (s : Setup) (marks : Marks) (time : ℕ) → freeze_of s marks ≡ None → is_frozen s marks time ≡ false
+pub never_frozen : (s : Setup) (marks : Marks) (time : ℕ) → freeze_of s marks ≡ None → is_frozen s marks time ≡ false
 never_frozen s marks time h = ap (λ f. reached f time) h
 
-map_same : {X Y : Type 0} (f g : X → Y) → ((x : X) → f x ≡ g x) → (xs : List X) → map f xs ≡ map g xs
+pub map_same : {X Y : Type 0} (f g : X → Y) → ((x : X) → f x ≡ g x) → (xs : List X) → map f xs ≡ map g xs
 map_same f g h [] = refl
 map_same f g h (x ∷ xs) = rw (h x, map_same f g h xs) refl
 
@@ -88,7 +88,7 @@ filter_both p q (x ∷ xs) =
     go (p x) (q x) refl
 
 -- an attempt as it is seen
-abbrev seen_attempt : List JudgementType → SeenSubmission → Attempt
+abbrev pub seen_attempt : List JudgementType → SeenSubmission → Attempt
 seen_attempt types v = record { time = v.time; verdict = verdict_of types (type_of v.judgement) }
 
 type_under : (mask : Mask) (s : Setup) (marks : Marks) (time : ℕ) (j : Option Judgement) → verdict_under mask s marks time (type_of j) ≡ type_of (verdict_under mask s marks time j)
@@ -108,7 +108,7 @@ attempt_seen a now x team s h e =
     ap attempt (type_under (mask_for a x.fixed.marks now team) x.fixed.settings x.fixed.marks s.time (last_judgement x s) ∙ ap type_of (sym same))
 
 -- the attempts of a team follow from what is seen of it
-attempts_seen : (a : Audience) (now : ℕ) (x : ContestState) (team problem : ℕ) → sees_team a x.fixed.settings team ≡ true
+pub attempts_seen : (a : Audience) (now : ℕ) (x : ContestState) (team problem : ℕ) → sees_team a x.fixed.settings team ≡ true
     → attempts_under (mask_for a x.fixed.marks now team) x.fixed.settings x.fixed.marks (judged_submissions x) team problem ≡ map (seen_attempt x.fixed.settings.types) (filter (λ v. v.problem == problem) (seen_of_team a now x team))
 attempts_seen a now x team problem h =
     let mask = mask_for a x.fixed.marks now team in

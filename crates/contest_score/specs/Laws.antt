@@ -16,6 +16,7 @@ use Rattle.contest_score.specs.declared.submission.JudgedSubmission.{JudgedSubmi
 use Rattle.contest_score.specs.Scoring.{is_solving, counted}
 use Rattle.contest_score.specs.Masks.{cell_under}
 use Rattle.contest_score.specs.Contest.{contest_cell, seen_cell, board_for}
+use Rattle.contest_score.specs.Awards.{shown_awards}
 
 -- an attempt counts where no earlier one solves, and after one that solves nothing counts
 pub record WhatCounts (earlier : List Attempt) (a : Attempt) (later : List Attempt) : Type 0 where
@@ -57,3 +58,7 @@ AlikeScoreTheSame =
 -- and the same board
 abbrev pub AlikeRankTheSame : Type 0
 AlikeRankTheSame = (a : Audience) (now : ℕ) (x y : ContestState) → MayBeHeld a now x → Alike a x y → board_for a now x ≡ board_for a now y
+
+-- and the same awards
+abbrev pub AlikeAwardTheSame : Type 0
+AlikeAwardTheSame = (a : Audience) (now : ℕ) (x y : ContestState) → MayBeHeld a now x → Alike a x y → shown_awards a now x ≡ shown_awards a now y

@@ -2,7 +2,7 @@
 //! contest.
 ghost use Rattle.std.specs.Prelude.{List};
 ghost use Rattle.contest_score.specs.declared.attempt.Attempt.{Attempt as AttemptValue};
-ghost use Rattle.contest_score.specs.Laws.{WhatCounts, OwnCellsAreFull, NoFreezeNoMask, HeldCountsNoFrozen, AlikeScoreTheSame, AlikeRankTheSame};
+ghost use Rattle.contest_score.specs.Laws.{WhatCounts, OwnCellsAreFull, NoFreezeNoMask, HeldCountsNoFrozen, AlikeScoreTheSame, AlikeRankTheSame, AlikeAwardTheSame};
 
 /// An attempt counts exactly where no earlier one solves.
 pub fn what_counts()
@@ -32,4 +32,9 @@ pub fn cells_alike()
 /// And the same board.
 pub fn board_alike()
     ensures { AlikeRankTheSame }
+{}
+
+/// And the same awards.
+pub fn awards_alike()
+    ensures { AlikeAwardTheSame }
 {}
