@@ -11,3 +11,8 @@ is_help word = bytes_eq word (codes "--help") || bytes_eq word (codes "-h")
 abbrev pub IsReplay : List Text → Type 0
 IsReplay [] = ⊥
 IsReplay (name ∷ options) = (name ≡ codes "replay") × (list_any is_help options ≡ false)
+
+-- the first word is no command
+abbrev pub NamesNone : List Text → Type 0
+NamesNone [] = Unit {0}
+NamesNone (name ∷ options) = (bytes_eq name (codes "replay") || bytes_eq name (codes "help") || is_help name) ≡ false

@@ -1,7 +1,7 @@
 //! The program's commands: which one the words name, and the help that tells of them.
-ghost use Rattle.std.specs.Prelude.{◌≡◌, ◌≤◌, map};
+ghost use Rattle.std.specs.Prelude.{◌≡◌, ◌≤◌, map, string_bytes, IfOk};
 ghost use Rattle.std.specs.List.{list_any};
-ghost use Rattle.contest_cli.specs.Commands.{IsReplay, is_help};
+ghost use Rattle.contest_cli.specs.Commands.{IsReplay, NamesNone, is_help};
 ghost use Rattle.contest_cli.specs.Replay.{Replays};
 
 use crate::output::write_whole;
@@ -55,16 +55,26 @@ fn run_owned<R: Read, O: Write, E: Write>(
     out: &mut O,
     err: &mut E,
 ) -> u8
-    ensures { result ≤ 2 }
+    ensures statuses { result ≤ 2 }
+    ensures replay { IsReplay (map string_bytes words.now)
+        → Replays (map string_bytes words.now) (R.remaining reader.old) (O.contents out.old) (O.contents out.new) (E.contents err.old) (E.contents err.new) result }
+    ensures unknown { NamesNone (map string_bytes words.now) → 1 ≤ result }
 {
-    match words
-        .iter()
-        .map(|word| word.as_str())
-        .collect::<Vec<&str>>(alloc)
-    {
+    match borrowed(alloc, words) {
         Ok(words) => run(alloc, &words, reader, out, err),
         Err(AllocError) => Stop::Refused(Refusal::Memory).refuse(err),
     }
+}
+
+// The words themselves.
+fn borrowed(alloc: Global, words: &[String]) -> Result<Vec<&str>, AllocError>
+    ensures { IfOk result (λ found. map (λ s. s.now) found.items ≡ map string_bytes words.now) }
+{
+    let mut found = Vec::new(alloc);
+    for word in words {
+        found.push(word.as_str())?;
+    }
+    Ok(found)
 }
 
 // What is said of arguments that can't be read.
@@ -80,7 +90,7 @@ fn refuse_arguments<E: Write>(error: &io::Error, err: &mut E) -> u8
 
 /// Runs the command that the words name; the program's own name isn't among them. Answers the exit
 /// status: 0 where it did what was asked, 1 where that was refused or a stream failed, 2 where the
-/// words have a fault. Help that is asked for goes to `out`.
+/// words have a fault or name no command. Help that is asked for goes to `out`.
 pub fn run<R: Read, O: Write, E: Write>(
     alloc: Global,
     words: &[&str],
@@ -91,6 +101,7 @@ pub fn run<R: Read, O: Write, E: Write>(
     ensures statuses { result ≤ 2 }
     ensures replay { IsReplay (map (λ s. s.now) words.now)
         → Replays (map (λ s. s.now) words.now) (R.remaining reader.old) (O.contents out.old) (O.contents out.new) (E.contents err.old) (E.contents err.new) result }
+    ensures unknown { NamesNone (map (λ s. s.now) words.now) → 1 ≤ result }
 {
     if words.is_empty() {
         let _ = write_whole(err, HELP.as_bytes());
@@ -150,7 +161,8 @@ fn replay_help(alloc: Global) -> Result<String, AllocError> {
 
 // What is said of a command that there isn't.
 fn refuse_command<E: Write>(alloc: Global, name: &str, err: &mut E) -> u8
-    ensures { result ≤ 2 }
+    ensures statuses { result ≤ 2 }
+    ensures refused { 1 ≤ result }
 {
     let text = format!(in alloc;
         "error: unknown command '{name}'; the commands are replay and help\n"
