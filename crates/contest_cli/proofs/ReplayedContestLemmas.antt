@@ -1,14 +1,14 @@
 -- A replayed contest tells of each submission what its record said.
-use Rattle.std.proofs.Common.{ℕ, ◌≡◌, ◌+◌, ◌<◌, ◌≤◌, ◌⊎◌, inl, inr, Bool, true, false, List, [], ◌∷◌, ◌++◌, length, map, Option, Some, None, refl, sym, ap, subst, ◌∙◌, arith, append-nil, append_assoc}
-use Rattle.std.specs.Prelude.{◌==◌, ◌&&◌, nat_eq, filter}
-use Rattle.std.specs.List.{flat_map, last_or}
-use Rattle.std.proofs.lemmas.Bool.{cases_Bool, false≢true, eqb-true, eq-eqb}
+use Rattle.std.proofs.Common.{ℕ, ◌≡◌, ◌+◌, ◌<◌, ◌≤◌, inl, inr, Bool, true, false, List, [], ◌∷◌, ◌++◌, length, map, Option, Some, None, refl, sym, ap, ◌∙◌, arith, append-nil, append_assoc}
+use Rattle.std.specs.Prelude.{◌==◌, nat_eq}
+use Rattle.std.specs.List.{last_or}
+use Rattle.std.proofs.lemmas.Bool.{cases_Bool, eqb-true, eq-eqb}
 use Rattle.std.proofs.lemmas.Bool.Decides.{nat_tests}
 use Rattle.std.proofs.lemmas.List.{length-append}
 use Rattle.std.proofs.lemmas.Simd.{map-map}
 use Rattle.std.proofs.lemmas.List.Elements.{filter-append}
 use Rattle.contest_types.specs.Setup.{Setup}
-use Rattle.contest_types.specs.State.{ContestState, releases_on}
+use Rattle.contest_types.specs.State.{releases_on}
 use Rattle.contest_types.specs.Sight.{judgement_of, type_of}
 use Rattle.contest_types.specs.declared.audience.Audience.{Audience}
 use Rattle.contest_types.specs.declared.marks.Marks.{Marks}
@@ -18,7 +18,7 @@ use Rattle.contest_score.specs.Masks.{cell_for}
 use Rattle.contest_score.specs.Ranking.{board_rows, is_public}
 use Rattle.contest_score.specs.declared.submission.JudgedSubmission.{JudgedSubmission}
 use Rattle.contest_cli.specs.Replayed.{submissions_of}
-use Rattle.contest_cli.specs.ReplayedContest.{Numbered, numbered_after, submission_of, released, releases_of, contest_of}
+use Rattle.contest_cli.specs.ReplayedContest.{Numbered, numbered_after, released, releases_of, contest_of}
 
 abbrev pub count : ℕ → List JudgedSubmission → ℕ
 count team us = length (submissions_of team us)

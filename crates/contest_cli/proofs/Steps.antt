@@ -1,5 +1,5 @@
 -- What a read of a record does, whether or not the reader had failed.
-use Rattle.std.proofs.Common.{◌≡◌, ◌∙◌, inl, inr, refl, ℕ, List, [], ◌∷◌, Option, Some, None, Bool, true, false, Result, Ok, Err, Bor}
+use Rattle.std.proofs.Common.{◌≡◌, ◌∙◌, inl, inr, refl, ℕ, List, [], ◌∷◌, Option, Some, None, Bool, true, false, Bor}
 use Rattle.csv.specs.Reading.{ExplainsRead, ReadRecord, ReadsNext, Ready, stops_reader}
 use Rattle.csv.specs.declared.error.ErrorKind.{ErrorKind}
 use Rattle.csv.specs.declared.error.ErrorKind.TheVariants as kind

@@ -1,5 +1,5 @@
 -- The text board, line by line.
-use Rattle.std.specs.Prelude.{ℕ, ℤ, pos, ◌-◌, ◌-ℤ◌, ◌==◌, ◌&&◌, ◌||◌, not, is_some, Bool, true, false, List, [], ◌∷◌, ◌++◌, map, fold, max, slice_get, Option, Some, None, if◌then◌else◌, codes}
+use Rattle.std.specs.Prelude.{ℕ, pos, ◌-◌, ◌-ℤ◌, ◌==◌, ◌&&◌, ◌||◌, not, is_some, Bool, List, [], ◌++◌, map, fold, max, slice_get, Option, Some, None, if◌then◌else◌, codes}
 use Rattle.std.specs.List.{flat_map}
 use Rattle.std.specs.Option.{option_map_or}
 use Rattle.std.specs.Fmt.{decimal}
@@ -13,7 +13,6 @@ use Rattle.contest_types.specs.declared.audience.Phase.TheVariants as phase
 use Rattle.contest_types.specs.declared.marks.Marks.{Marks}
 use Rattle.contest_score.specs.Ranking.{name_at, team_id_at, problem_order}
 use Rattle.contest_score.specs.declared.row.Row.{Row}
-use Rattle.contest_score.specs.declared.cell.Cell.{Cell}
 use Rattle.contest_cli.specs.Columns.{columns_of, left, right}
 use Rattle.contest_cli.specs.CellText.{cell_text}
 

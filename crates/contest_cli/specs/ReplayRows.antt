@@ -1,5 +1,5 @@
 -- What the records of a replay say: a contest, its judgement types, problems and teams.
-use Rattle.std.specs.Prelude.{ℕ, Bool, true, false, List, [], ◌∷◌, Option, Some, None, if◌then◌else◌, codes}
+use Rattle.std.specs.Prelude.{false, [], Option, Some, None, if◌then◌else◌}
 use Rattle.std.specs.Option.{option_and_then, option_map}
 use Rattle.contest_types.specs.IdText.{id_of}
 use Rattle.contest_types.specs.NameText.{name_from}
@@ -8,7 +8,7 @@ use Rattle.contest_types.specs.declared.contest.Medals.{Medals}
 use Rattle.contest_types.specs.declared.objects.JudgementType.{JudgementType}
 use Rattle.contest_types.specs.declared.objects.Problem.{Problem}
 use Rattle.contest_types.specs.declared.objects.Team.{Team}
-use Rattle.contest_cli.specs.FieldTexts.{Text, FiveFields, is_empty, flag_of, flag_or_empty, span_of, span_or_empty, ordinal_of}
+use Rattle.contest_cli.specs.FieldTexts.{FiveFields, is_empty, flag_of, flag_or_empty, span_of, span_or_empty, ordinal_of}
 
 -- four places for each kind of medal
 abbrev pub usual_medals : Medals

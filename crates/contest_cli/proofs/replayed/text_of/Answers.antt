@@ -1,4 +1,3 @@
-use Rattle.std.proofs.Common.{sym}
 use Rattle.contest_cli.proofs.ReplayedContestLemmas.{replayed_board}
 use Rattle.contest_cli.proofs.replayed.text_of.Goals as goal
 
