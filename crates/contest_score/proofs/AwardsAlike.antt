@@ -1,15 +1,15 @@
 -- Until the thaw, alike contests show an audience the same awards.
-use Rattle.std.proofs.Common.{◌≡◌, ℕ, Bool, true, false, List, [], ◌∷◌, ◌++◌, map, filter, Option, Some, None, refl, sym, ap, ◌∙◌}
+use Rattle.std.proofs.Common.{◌≡◌, ℕ, Bool, true, false, List, [], ◌∷◌, map, filter, Option, Some, None, refl, sym, ap, ◌∙◌}
 use Rattle.std.specs.Prelude.{◌==◌, ◌&&◌, ◌||◌, find, is_none, if◌then◌else◌}
 use Rattle.std.specs.List.{flat_map, filter_map}
 use Rattle.std.specs.Option.{option_map}
 use Rattle.std.proofs.Math.Path.{fun_ext}
 use Rattle.contest_types.specs.Setup.{Setup}
-use Rattle.contest_types.specs.Clock.{freeze_of, is_frozen, is_thawed, is_finalized}
+use Rattle.contest_types.specs.Clock.{freeze_of, is_thawed, is_finalized}
 use Rattle.contest_types.specs.TeamPlaces.{team_places, is_public}
 use Rattle.contest_types.specs.Masks.{is_jury, mask_for}
 use Rattle.contest_types.specs.State.{FixedPart, ContestState}
-use Rattle.contest_types.specs.Sight.{SeenSubmission, sees_team, seen_of_team}
+use Rattle.contest_types.specs.Sight.{sees_team, seen_of_team}
 use Rattle.contest_types.specs.Alike.{Alike, MayBeHeld}
 use Rattle.contest_types.proofs.SightLemmas.{not_jury, team_alike}
 use Rattle.contest_types.specs.declared.audience.Audience.{Audience}
@@ -18,8 +18,6 @@ use Rattle.contest_types.specs.declared.mask.Mask.{Mask}
 use Rattle.contest_types.specs.declared.mask.Mask.TheVariants.{Full, Held}
 use Rattle.contest_types.specs.declared.objects.JudgementType.{JudgementType}
 use Rattle.contest_score.specs.declared.attempt.Attempt.{Attempt}
-use Rattle.contest_score.specs.declared.cell.Cell.{Cell}
-use Rattle.contest_score.specs.declared.row.Row.{Row}
 use Rattle.contest_score.specs.declared.solve.Solve.{Solve}
 use Rattle.contest_score.specs.declared.submission.JudgedSubmission.{JudgedSubmission}
 use Rattle.contest_score.specs.Scoring.{is_solving, cell_of_attempts}
