@@ -148,9 +148,9 @@ fn field_at_end(text: &[u8], mark: u8, digits: usize) -> Option<(&[u8], u64)>
     Some((&text[..at], value))
 }
 
-/// Writes a time at the front of the buffer as `h:mm:ss.uuu`, with a minus before it where it is below
-/// zero and no more digits of the hours than they need, and answers how many bytes that took. The
-/// rest of the buffer stays as it was.
+/// Writes a time at the front of the buffer as `h:mm:ss.uuu`, after a minus where it is below zero,
+/// with no zeros before the hours that they don't need, and answers how many bytes that took. The
+/// rest of the buffer stays as it was (Contest API 2023-06, RELTIME).
 pub fn print_reltime(time: RelTime, out: &mut [u8; 24]) -> usize
     ensures fits { result ≤ 24 }
     ensures text { take result out.new ≡ rel_time_text time }
