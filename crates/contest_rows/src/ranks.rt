@@ -25,11 +25,11 @@ submission,t3,a,0:31:00,AC
     (
         "equal scores and names go by id",
         "team,t0,Beta,,
-team,T2,Beta,,
+team,Z2,Beta,,
 submission,t2,a,0:30:00,AC
 submission,t0,b,0:30:00,AC
-submission,T2,a,0:30:00,AC
-submission,T2,b,0:30:30,WA
+submission,Z2,a,0:30:00,AC
+submission,Z2,b,0:30:30,WA
 ",
         "   1  Beta        1      30      +1/30         -1
    1  Beta        1      30          .      +1/30

@@ -68,7 +68,7 @@ const MALFORMED: [&str; 35] = [
 const UNKNOWN_REFERENCE: [&str; 5] = [
     "submission,t1,c,0:05:00,AC\n",
     "submission,t1,a,0:05:00,OK\n",
-    "submission,T1,a,0:05:00,AC\n",
+    "submission,t1,A,0:05:00,AC\n",
     "submission,t7,a,5:00:00,AC\n",
     "submission,t1,a,5:00:00,OK\n",
 ];

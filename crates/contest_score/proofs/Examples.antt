@@ -112,10 +112,10 @@ marks = record { start = Some 0; thaw = Some 20_000_000; finalized = None }
 abbrev two_teams_sent : List JudgedSubmission
 two_teams_sent = sent 0 300_000 (Some 1) ∷ sent 0 420_000 (Some 2) ∷ sent 0 659_999 (Some 0) ∷ sent 1 1_800_000 (Some 0) ∷ []
 
-abbrev row : ℕ → ℕ → ℕ → ℕ → Cell → Row
-row by rank total last c = record { team = by; rank = rank; score = record { solved = 1; total = total; last = Some (record { 0 = last }) }; cells = c ∷ [] }
+abbrev row_by : ℕ → ℕ → ℕ → ℕ → Cell → Row
+row_by by rank total last c = record { team = by; rank = rank; score = record { solved = 1; total = total; last = Some (record { 0 = last }) }; cells = c ∷ [] }
 
-two_rows : board_rows two_teams (is_public two_teams) (cell_for audience.Public two_teams marks 2_000_000 two_teams_sent) ≡ row 0 1 30 10 (cell 3 0 (Some 10) 1) ∷ row 1 2 30 30 (cell 1 0 (Some 30) 0) ∷ []
+two_rows : board_rows two_teams (is_public two_teams) (cell_for audience.Public two_teams marks 2_000_000 two_teams_sent) ≡ row_by 0 1 30 10 (cell 3 0 (Some 10) 1) ∷ row_by 1 2 30 30 (cell 1 0 (Some 30) 0) ∷ []
 two_rows = refl
 
 -- a submission at the freeze moment, 4:00:00, is frozen: to the public it is pending until the thaw

@@ -22,8 +22,8 @@ solved_cell judged minute penalties = record { judged = judged; pending = 0; sol
 abbrev open_cell : (judged pending penalties : ℕ) → Cell
 open_cell judged pending penalties = record { judged = judged; pending = pending; solved = None; penalties = penalties }
 
-abbrev row : (team rank solved total : ℕ) → Option Minute → List Cell → Row
-row team rank solved total last cells = record { team = team; rank = rank; score = record { solved = solved; total = total; last = last }; cells = cells }
+abbrev row_for : (team rank solved total : ℕ) → Option Minute → List Cell → Row
+row_for team rank solved total last cells = record { team = team; rank = rank; score = record { solved = solved; total = total; last = last }; cells = cells }
 
 -- each row's team and rank; and its team, problems solved and total
 abbrev ranks_of : List Row → List (ℕ × ℕ)
@@ -40,22 +40,22 @@ two_teams beta_at = only_first 2 1 (record empty {
 })
 
 abbrev alpha : Row
-alpha = row 0 1 1 30 (Some (record { 0 = 10 })) (solved_cell 3 10 1 ∷ [])
+alpha = row_for 0 1 1 30 (Some (record { 0 = 10 })) (solved_cell 3 10 1 ∷ [])
 
 -- both have a total of 30, and the smaller last minute stands first
-first_board : board_for audience.Public (hours 5) (two_teams (minutes 30)) ≡ alpha ∷ row 1 2 1 30 (Some (record { 0 = 30 })) (solved_cell 1 30 0 ∷ []) ∷ []
+first_board : board_for audience.Public (hours 5) (two_teams (minutes 30)) ≡ alpha ∷ row_for 1 2 1 30 (Some (record { 0 = 30 })) (solved_cell 1 30 0 ∷ []) ∷ []
 first_board = refl
 
 -- Beta's submission at the freeze is pending for the public, and for the first team
-frozen_board : board_for audience.Public (hours 5) (two_teams (hours 4)) ≡ alpha ∷ row 1 2 0 0 None (open_cell 0 1 0 ∷ []) ∷ []
+frozen_board : board_for audience.Public (hours 5) (two_teams (hours 4)) ≡ alpha ∷ row_for 1 2 0 0 None (open_cell 0 1 0 ∷ []) ∷ []
 frozen_board = refl
 
-frozen_for_other : board_for (audience.Team 1) (hours 5) (two_teams (hours 4)) ≡ alpha ∷ row 1 2 0 0 None (open_cell 0 1 0 ∷ []) ∷ []
+frozen_for_other : board_for (audience.Team 1) (hours 5) (two_teams (hours 4)) ≡ alpha ∷ row_for 1 2 0 0 None (open_cell 0 1 0 ∷ []) ∷ []
 frozen_for_other = refl
 
 -- and accepted for the jury, for Beta itself, and for all once it is thawed
 abbrev open_board : List Row
-open_board = alpha ∷ row 1 2 1 240 (Some (record { 0 = 240 })) (solved_cell 1 240 0 ∷ []) ∷ []
+open_board = alpha ∷ row_for 1 2 1 240 (Some (record { 0 = 240 })) (solved_cell 1 240 0 ∷ []) ∷ []
 
 jury_board : board_for audience.Jury (hours 5) (two_teams (hours 4)) ≡ open_board
 jury_board = refl
@@ -185,7 +185,7 @@ hidden_from_itself : ranks_for (audience.Team 4) hidden_solves ≡ (0, 1) ∷ (1
 hidden_from_itself = refl
 
 -- an empty contest: all share the first rank, in the order of the names; with no team there is no row
-empty_board : board_for audience.Public 0 (only_first 1 2 empty) ≡ row 0 1 0 0 None (no_attempts ∷ no_attempts ∷ []) ∷ []
+empty_board : board_for audience.Public 0 (only_first 1 2 empty) ≡ row_for 0 1 0 0 None (no_attempts ∷ no_attempts ∷ []) ∷ []
 empty_board = refl
 
 no_teams : board_for audience.Public 0 (only_first 0 2 empty) ≡ []
