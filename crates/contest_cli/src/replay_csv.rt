@@ -1,9 +1,10 @@
 //! A replay file, judged as it is read.
-ghost use Rattle.std.specs.Prelude.{◌≡◌, ◌≤◌, ◌+◌, ◌∷◌, ◌^◌, ◌||◌, ℕ, Bool, true, false, List, [], None, Ok, Err, OnOk, IfOk, IfErr, length};
+ghost use Rattle.std.specs.Prelude.{◌≡◌, ◌≤◌, ◌+◌, ◌∷◌, ◌^◌, ◌||◌, ℕ, Bool, true, false, List, [], None, Ok, Err, OnOk, IfOk, IfErr, IsSome, length};
 ghost use Rattle.csv.specs.Reading.{default_config, strip_bom, records};
 ghost use Rattle.csv.specs.Records.{fields_of};
 ghost use Rattle.contest_types.specs.Valid.{is_valid};
 ghost use Rattle.contest_cli.specs.ReplayedContest.{contest_of};
+ghost use Rattle.contest_cli.specs.FieldTexts.{five_of};
 ghost use Rattle.contest_cli.specs.ReplayFile.{replayed_in, going, names_contest, is_header, is_header_text, Refuses};
 ghost use Rattle.contest_cli.specs.Text.{marks_for};
 
@@ -25,11 +26,13 @@ struct Reading {
 }
 
 impl Reading {
-    /// Judges record n, where no earlier one was at fault.
+    /// Judges record n, where no earlier one was at fault. A record that can't be read never comes to
+    /// want of memory.
     fn judge(&mut self, alloc: Global, n: u64, row: &ByteRecord) -> Result<(), Refusal>
         ensures ok { OnOk result ((named : Bool) (rest : List (List (List ℕ)))
             → going self.old.so_far self.old.fault named n (fields_of row.now ∷ rest) ≡ going self.new.so_far self.new.fault (named || names_contest (fields_of row.now)) (n + 1) rest) }
         ensures err { IfErr result (λ e. e ≡ Refusal.Memory) }
+        ensures readable { IfErr result (λ e. IsSome (five_of (fields_of row.now))) }
         ensures named { self.new.named ≡ self.old.named }
     {
         if self.fault.is_some() {
