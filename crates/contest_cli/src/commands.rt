@@ -1,5 +1,5 @@
 //! The program's commands: which one the words name, and the help that tells of them.
-ghost use Rattle.std.specs.Prelude.{◌≡◌, ◌≤◌, map, string_bytes, IfOk};
+ghost use Rattle.std.specs.Prelude.{◌≡◌, ◌≤◌, map, string_bytes, IfErr, IfOk};
 ghost use Rattle.std.specs.List.{list_any};
 ghost use Rattle.contest_cli.specs.Commands.{IsReplay, NamesNone, is_help};
 ghost use Rattle.contest_cli.specs.Replay.{Replays};
@@ -36,7 +36,8 @@ pub fn start<R: Read, O: Write, E: Write>(
     out: &mut O,
     err: &mut E,
 ) -> u8
-    ensures { result ≤ 2 }
+    ensures statuses { result ≤ 2 }
+    ensures unread { IfErr args (λ _. 1 ≤ result) }
 {
     match args {
         Ok(args) => match args.skip(1).collect::<Vec<String>>(alloc) {
@@ -79,7 +80,8 @@ fn borrowed(alloc: Global, words: &[String]) -> Result<Vec<&str>, AllocError>
 
 // What is said of arguments that can't be read.
 fn refuse_arguments<E: Write>(error: &io::Error, err: &mut E) -> u8
-    ensures { result ≤ 2 }
+    ensures statuses { result ≤ 2 }
+    ensures refused { 1 ≤ result }
 {
     if error.kind() == ErrorKind::OutOfMemory {
         return Stop::Refused(Refusal::Memory).refuse(err);
