@@ -140,13 +140,13 @@ stands_from id bytes [] n place h = absurd (cc h)
 stands_from id bytes (row ∷ rows) n place h = stands_next id bytes row rows n place (bytes_eq bytes (id row)) refl (stands_from id bytes rows (n + 1) place) h
 
 pub place_within : {T : Type 0} (id : T → List ℕ) (bytes : List ℕ) (rows : List T) (place : ℕ) → place_of bytes (map id rows) ≡ Some place → place < length rows
-place_within id bytes rows place h = let s = stands_from id bytes rows 0 place h in omega (arith, s.place_is, s.within)
+place_within id bytes items place h = let s = stands_from id bytes items 0 place h in omega (arith, s.place_is, s.within)
 
 pub found_at : {T : Type 0} (id : T → List ℕ) (bytes : List ℕ) (rows : List T) (place : ℕ) (d : T) → place_of bytes (map id rows) ≡ Some place → find (λ other. bytes_eq bytes (id other)) rows ≡ Some (get_or rows place d)
-found_at id bytes rows place d h =
-    let s = stands_from id bytes rows 0 place h in
+found_at id bytes items place d h =
+    let s = stands_from id bytes items 0 place h in
     let e : s.at ≡ place = omega (arith, s.place_is) in
-    s.found d ∙ ap (λ i. Some (get_or rows i d)) e
+    s.found d ∙ ap (λ i. Some (get_or items i d)) e
 
 unfound_next : {T : Type 0} (id : T → List ℕ) (bytes : List ℕ) (row : T) (rows : List T) (n : ℕ) (b : Bool) → bytes_eq bytes (id row) ≡ b
     → (position_from (bytes_eq bytes) (n + 1) (map id rows) ≡ None → find (λ other. bytes_eq bytes (id other)) rows ≡ None)
@@ -159,7 +159,7 @@ unfound_from id bytes [] n h = refl
 unfound_from id bytes (row ∷ rows) n h = unfound_next id bytes row rows n (bytes_eq bytes (id row)) refl (unfound_from id bytes rows (n + 1)) h
 
 pub not_found : {T : Type 0} (id : T → List ℕ) (bytes : List ℕ) (rows : List T) → place_of bytes (map id rows) ≡ None → find (λ other. bytes_eq bytes (id other)) rows ≡ None
-not_found id bytes rows h = unfound_from id bytes rows 0 h
+not_found id bytes items h = unfound_from id bytes items 0 h
 
 found_next : {T : Type 0} (id : T → List ℕ) (bytes : List ℕ) (row : T) (rows : List T) (n : ℕ) (b : Bool) → bytes_eq bytes (id row) ≡ b
     → (find (λ other. bytes_eq bytes (id other)) rows ≡ None → position_from (bytes_eq bytes) (n + 1) (map id rows) ≡ None)
@@ -172,7 +172,7 @@ no_place_from id bytes [] n h = refl
 no_place_from id bytes (row ∷ rows) n h = found_next id bytes row rows n (bytes_eq bytes (id row)) refl (no_place_from id bytes rows (n + 1)) h
 
 pub no_place : {T : Type 0} (id : T → List ℕ) (bytes : List ℕ) (rows : List T) → find (λ other. bytes_eq bytes (id other)) rows ≡ None → place_of bytes (map id rows) ≡ None
-no_place id bytes rows h = no_place_from id bytes rows 0 h
+no_place id bytes items h = no_place_from id bytes items 0 h
 
 -- a text among the texts of rows
 pub any_named : {T : Type 0} (name : T → List ℕ) (text : List ℕ) (rows : List T) → list_any (λ row. bytes_eq (name row) text) rows ≡ is_among (map name rows) text
