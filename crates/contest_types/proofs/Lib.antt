@@ -2,7 +2,6 @@ pub mod PlaceLemmas
 pub mod AdditionLemmas
 pub mod SetupLemmas
 pub mod IdLemmas
-pub mod NameLemmas
 pub mod TextLemmas
 pub mod RelTimeLemmas
 pub mod Times

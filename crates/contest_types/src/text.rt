@@ -1,5 +1,5 @@
 //! What clarifications say.
-ghost use Rattle.std.specs.Prelude.{◌≡◌, IfOk, IfErr};
+ghost use Rattle.std.specs.Prelude.{◌≡◌, IfOk, IfErr, OnErr, IsTrue, IsSome};
 ghost use Rattle.contest_types.specs.ClarificationText.{is_text, text_of, text_from};
 
 use crate::Refusal;
@@ -30,10 +30,11 @@ impl Text {
     ///
     /// # Errors
     ///
-    /// Want of memory alone.
+    /// Want of memory alone, and only where there is a text.
     pub fn parse(alloc: Global, text: &str) -> Result<Option<Text>, Refusal>
         ensures value { IfOk result (λ found. found ≡ text_of text.now) }
         ensures err { IfErr result (λ e. e ≡ Refusal.Memory) }
+        ensures memory { OnErr result (IsTrue (is_text text.now)) }
     {
         if !is_text(text) {
             return Ok(None);
@@ -46,10 +47,11 @@ impl Text {
     ///
     /// # Errors
     ///
-    /// Want of memory alone.
+    /// Want of memory alone, and only where there is a text.
     pub fn from_bytes(alloc: Global, bytes: &[u8]) -> Result<Option<Text>, Refusal>
         ensures value { IfOk result (λ found. found ≡ text_from bytes.now) }
         ensures err { IfErr result (λ e. e ≡ Refusal.Memory) }
+        ensures memory { OnErr result (IsSome (text_from bytes.now)) }
     {
         match std::str::from_utf8(bytes) {
             Ok(text) => Text::parse(alloc, text),
