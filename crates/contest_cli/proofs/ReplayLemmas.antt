@@ -1,5 +1,5 @@
 -- What an input that is read to its end, or not, says of the text.
-use Rattle.std.proofs.Common.{◌≡◌, ◌≤◌, ◌<◌, ◌+◌, ◌++◌, ◌⊎◌, inl, inr, refl, ap, subst, ℕ, ℤ, List, Bool, true, false, Option, Some, None, IfSome, Result, Err, length, length-append, arith, nat_lt}
+use Rattle.std.proofs.Common.{◌≡◌, ◌≤◌, ◌<◌, ◌+◌, ◌++◌, ◌⊎◌, inl, inr, refl, ap, subst, ℕ, ℤ, List, Bool, true, false, Option, Some, None, IfSome, Result, Err, length, length-append, arith, nat_lt, string_bytes}
 use Rattle.std.proofs.lemmas.Bool.Decides.{nat_tests}
 use Rattle.std.specs.Io.KnownBytes.{Keeps}
 use Rattle.clap.specs.Walk.{Text}
@@ -9,7 +9,7 @@ use Rattle.contest_types.specs.declared.limits.TheConstants.{IMPORTED_FILE}
 use Rattle.contest_cli.specs.Asked.{Asks}
 use Rattle.contest_cli.specs.Input.{ReadsAll, TakesFront}
 use Rattle.contest_cli.specs.Replay.{replay_of, Gives, StopsBy, Replays, stop_of, status_of, line_of}
-use Rattle.contest_cli.specs.Output.{AppendsFront}
+use Rattle.contest_types.specs.Streams.{Stream, Fails, Tells}
 use Rattle.contest_cli.specs.Text.{board_of}
 use Rattle.contest_cli.specs.declared.input.InputFault.{InputFault}
 use Rattle.contest_cli.specs.declared.input.InputFault.TheVariants as fault
@@ -60,36 +60,37 @@ large_file jury thawed at (Some left) (Some rest) t =
     rw (over IMPORTED_FILE (length left) (is_longer left t.0 rest IMPORTED_FILE t.2 t.1)) refl
 
 -- what a fault of the input stops by
-pub fault_stops : (words : List Text) (jury thawed : Bool) (at : Option ℤ) (a b : Option (List ℕ)) (f : InputFault)
-    → Asks words jury thawed at → (f ≡ fault.TooLarge → TakesFront a b (IMPORTED_FILE + 1)) → StopsBy words a (stop_of f)
-fault_stops words jury thawed at a b fault.File asks large = (jury, thawed, at, asks)
-fault_stops words jury thawed at a b fault.TooLarge asks large =
-    inr (jury, thawed, at, asks, large_file jury thawed at a b (large refl))
-fault_stops words jury thawed at a b fault.Memory asks large = inl refl
+pub fault_stops : (words : List Text) (jury thawed : Bool) (at : Option ℤ) (old new : Stream) (f : InputFault)
+    → Asks words jury thawed at → (f ≡ fault.TooLarge → TakesFront old.bytes new.bytes (IMPORTED_FILE + 1))
+    → (f ≡ fault.File → Fails old new) → StopsBy words old new (stop_of f)
+fault_stops words jury thawed at old new fault.File asks large failed = ((jury, thawed, at, asks), failed refl)
+fault_stops words jury thawed at old new fault.TooLarge asks large failed =
+    inr (jury, thawed, at, asks, large_file jury thawed at old.bytes new.bytes (large refl))
+fault_stops words jury thawed at old new fault.Memory asks large failed = inl refl
 
 keeps_same : (a : Option (List ℕ)) → Keeps a a
 keeps_same None = tt
 keeps_same (Some bytes) = refl
 
 -- where there is no text
-pub stopped : (words : List Text) (input out err_old err_new : Option (List ℕ)) (stop : Stop) (status : ℕ)
-    → StopsBy words input stop → status ≡ status_of stop → AppendsFront err_old err_new (line_of stop)
-    → Replays words input out out err_old err_new status
-stopped words input out err_old err_new (Words text) status stops is told = record {
+pub stopped : (words : List Text) (in_old in_new out err_old err_new : Stream) (stop : Stop) (status : ℕ)
+    → StopsBy words in_old in_new stop → status ≡ status_of stop → Tells err_old err_new (line_of stop)
+    → Replays words in_old in_new out out err_old err_new status
+stopped words in_old in_new out err_old err_new (Words text) status stops is told = record {
   statuses = omega (arith, is);
   done = λ e. absurd (omega (arith, is, e));
   refused = λ e. absurd (omega (arith, is, e));
-  faulty = λ e. (stops, keeps_same out);
+  faulty = λ e. (stops, keeps_same out.bytes, string_bytes text, told);
 }
-stopped words input out err_old err_new (Refused r) status stops is told = record {
+stopped words in_old in_new out err_old err_new (Refused r) status stops is told = record {
   statuses = omega (arith, is);
   done = λ e. absurd (omega (arith, is, e));
-  refused = λ e. (Refused r, refl, stops, told, inl (keeps_same out));
+  refused = λ e. (Refused r, refl, told, inl (stops, keeps_same out.bytes));
   faulty = λ e. absurd (omega (arith, is, e));
 }
-stopped words input out err_old err_new File status stops is told = record {
+stopped words in_old in_new out err_old err_new File status stops is told = record {
   statuses = omega (arith, is);
   done = λ e. absurd (omega (arith, is, e));
-  refused = λ e. (File, refl, stops, told, inl (keeps_same out));
+  refused = λ e. (File, refl, told, inl (stops, keeps_same out.bytes));
   faulty = λ e. absurd (omega (arith, is, e));
 }

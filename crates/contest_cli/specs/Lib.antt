@@ -10,7 +10,6 @@ pub mod CellText
 pub mod BoardText
 pub mod Words
 pub mod Input
-pub mod Output
 pub mod Lines
 pub mod Asked
 pub mod Text

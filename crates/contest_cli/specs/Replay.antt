@@ -5,7 +5,7 @@ use Rattle.clap.specs.Walk.{Text}
 use Rattle.contest_types.specs.declared.refusal.Refusal.{Refusal}
 use Rattle.contest_types.specs.declared.refusal.Refusal.TheVariants.{BodyTooLarge, Memory}
 use Rattle.contest_cli.specs.Asked.{Asks, HasFault}
-use Rattle.contest_cli.specs.Output.{AppendsFront}
+use Rattle.contest_types.specs.Streams.{Stream, Fails, Tells, AppendsFront}
 use Rattle.contest_cli.specs.Lines.{refusal_line}
 use Rattle.contest_cli.specs.Text.{board_of}
 use Rattle.contest_types.specs.declared.limits.TheConstants.{IMPORTED_FILE}
@@ -29,11 +29,11 @@ Gives words input given =
 abbrev pub Faultless : List Text → Type 0
 Faultless words = (jury : Bool) × (thawed : Bool) × (at : Option ℤ) × Asks words jury thawed at
 
--- why there is no text
-abbrev pub StopsBy : List Text → Option (List ℕ) → Stop → Type 0
-StopsBy words input (Words text) = HasFault words
-StopsBy words input (Refused r) = (r ≡ Memory) ⊎ Gives words input (Err r)
-StopsBy words input File = Faultless words
+-- why there is no text: the words, memory or what the input holds is refused, or the reader failed
+abbrev pub StopsBy : List Text → Stream → Stream → Stop → Type 0
+StopsBy words old new (Words text) = HasFault words
+StopsBy words old new (Refused r) = (r ≡ Memory) ⊎ Gives words old.bytes (Err r)
+StopsBy words old new File = Faultless words × Fails old new
 
 -- the line that tells of it
 abbrev pub line_of : Stop → List ℕ
@@ -61,16 +61,22 @@ IsWords File = ⊥
 abbrev pub IsWordsOrMemory : Stop → Type 0
 IsWordsOrMemory stop = IsMemory stop ⊎ IsWords stop
 
--- how `replay` ends by its status: 0 with the whole text on `out`; 1 with the line of the first fault,
--- of want of memory or of a stream that failed on `err`, and nothing on `out`, or a front of the text
--- where `out` failed; 2 where the words have a fault. The line on `err` is cut where `err` fails.
-pub record Replays (words : List Text) (input out_old out_new err_old err_new : Option (List ℕ)) (status : ℕ) : Type 0 where
+-- there is a text, and a front of it is out, for `out` failed
+abbrev pub CutsOff : List Text → Option (List ℕ) → Stream → Stream → Type 0
+CutsOff words input out_old out_new =
+    Fails out_old out_new × (text : List ℕ) × Gives words input (Ok text) × AppendsFront out_old.bytes out_new.bytes text
+
+-- how `replay` ends, by its status: 0 with the whole text on `out`; 1 with a line on `err` of the first
+-- fault, of want of memory or of a stream that failed; 2 where the words have a fault
+pub record Replays (words : List Text) (in_old in_new out_old out_new err_old err_new : Stream) (status : ℕ) : Type 0 where
   pub statuses : status ≤ 2
-  pub done : status ≡ 0 → (text : List ℕ) × Gives words input (Ok text) × Appends out_old out_new text × Keeps err_old err_new
-  pub refused : status ≡ 1 → (stop : Stop) × (status_of stop ≡ 1) × StopsBy words input stop
-      × AppendsFront err_old err_new (line_of stop)
-      × (Keeps out_old out_new ⊎ ((stop ≡ File) × (text : List ℕ) × Gives words input (Ok text) × AppendsFront out_old out_new text))
-  pub faulty : status ≡ 2 → HasFault words × Keeps out_old out_new
+  pub done : status ≡ 0 → (text : List ℕ) × Gives words in_old.bytes (Ok text)
+      × Appends out_old.bytes out_new.bytes text × Keeps err_old.bytes err_new.bytes
+  pub refused : status ≡ 1 → (stop : Stop) × (status_of stop ≡ 1) × Tells err_old err_new (line_of stop)
+      × ((StopsBy words in_old in_new stop × Keeps out_old.bytes out_new.bytes)
+        ⊎ ((stop ≡ File) × CutsOff words in_old.bytes out_old out_new))
+  pub faulty : status ≡ 2 → HasFault words × Keeps out_old.bytes out_new.bytes
+      × (text : List ℕ) × Tells err_old err_new text
 
 -- what a fault of the input stops by
 abbrev pub stop_of : InputFault → Stop

@@ -1,6 +1,7 @@
 //! The program's commands: which one the words name, and the help that tells of them.
 ghost use Rattle.std.specs.Prelude.{◌≡◌, ◌≤◌, map, string_bytes, IfErr, IfOk};
 ghost use Rattle.std.specs.List.{list_any};
+ghost use Rattle.contest_types.specs.Streams.{stream};
 ghost use Rattle.contest_cli.specs.Commands.{IsReplay, NamesNone, is_help};
 ghost use Rattle.contest_cli.specs.Replay.{Replays};
 
@@ -8,7 +9,7 @@ use crate::output::write_whole;
 use crate::replaying::replay;
 use crate::stop::Stop;
 use crate::words::replay_command;
-use contest_types::Refusal;
+use contest_types::{Counted, Refusal};
 use std::alloc::{AllocError, Global};
 use std::env::Args;
 use std::io::{self, ErrorKind, Read, Write};
@@ -29,22 +30,25 @@ Example: desk replay --at 1:30:00 < contest.csv
 ";
 
 /// Runs the program by its arguments, of which the first is its own name. Answers the exit status.
-pub fn start<R: Read, O: Write, E: Write>(
+pub fn start<R: Read + Drop, O: Write + Drop, E: Write + Drop>(
     alloc: Global,
     args: io::Result<Args>,
-    reader: &mut R,
-    out: &mut O,
-    err: &mut E,
+    reader: R,
+    out: O,
+    err: E,
 ) -> u8
     ensures statuses { result ≤ 2 }
     ensures unread { IfErr args (λ _. 1 ≤ result) }
 {
+    let mut reader = Counted::new(reader);
+    let mut out = Counted::new(out);
+    let mut err = Counted::new(err);
     match args {
         Ok(args) => match args.skip(1).collect::<Vec<String>>(alloc) {
-            Ok(words) => run_owned(alloc, &words, reader, out, err),
-            Err(AllocError) => Stop::Refused(Refusal::Memory).refuse(err),
+            Ok(words) => run_owned(alloc, &words, &mut reader, &mut out, &mut err),
+            Err(AllocError) => Stop::Refused(Refusal::Memory).refuse(&mut err),
         },
-        Err(error) => refuse_arguments(&error, err),
+        Err(error) => refuse_arguments(&error, &mut err),
     }
 }
 
@@ -52,13 +56,16 @@ pub fn start<R: Read, O: Write, E: Write>(
 fn run_owned<R: Read, O: Write, E: Write>(
     alloc: Global,
     words: &[String],
-    reader: &mut R,
-    out: &mut O,
-    err: &mut E,
+    reader: &mut Counted<R>,
+    out: &mut Counted<O>,
+    err: &mut Counted<E>,
 ) -> u8
     ensures statuses { result ≤ 2 }
     ensures replay { IsReplay (map string_bytes words.now)
-        → Replays (map string_bytes words.now) (R.remaining reader.old) (O.contents out.old) (O.contents out.new) (E.contents err.old) (E.contents err.new) result }
+        → Replays (map string_bytes words.now)
+            (stream R.remaining reader.old) (stream R.remaining reader.new)
+            (stream O.contents out.old) (stream O.contents out.new)
+            (stream E.contents err.old) (stream E.contents err.new) result }
     ensures unknown { NamesNone (map string_bytes words.now) → 1 ≤ result }
 {
     match borrowed(alloc, words) {
@@ -79,7 +86,7 @@ fn borrowed(alloc: Global, words: &[String]) -> Result<Vec<&str>, AllocError>
 }
 
 // What is said of arguments that can't be read.
-fn refuse_arguments<E: Write>(error: &io::Error, err: &mut E) -> u8
+fn refuse_arguments<E: Write>(error: &io::Error, err: &mut Counted<E>) -> u8
     ensures statuses { result ≤ 2 }
     ensures refused { 1 ≤ result }
 {
@@ -96,13 +103,16 @@ fn refuse_arguments<E: Write>(error: &io::Error, err: &mut E) -> u8
 pub fn run<R: Read, O: Write, E: Write>(
     alloc: Global,
     words: &[&str],
-    reader: &mut R,
-    out: &mut O,
-    err: &mut E,
+    reader: &mut Counted<R>,
+    out: &mut Counted<O>,
+    err: &mut Counted<E>,
 ) -> u8
     ensures statuses { result ≤ 2 }
     ensures replay { IsReplay (map (λ s. s.now) words.now)
-        → Replays (map (λ s. s.now) words.now) (R.remaining reader.old) (O.contents out.old) (O.contents out.new) (E.contents err.old) (E.contents err.new) result }
+        → Replays (map (λ s. s.now) words.now)
+            (stream R.remaining reader.old) (stream R.remaining reader.new)
+            (stream O.contents out.old) (stream O.contents out.new)
+            (stream E.contents err.old) (stream E.contents err.new) result }
     ensures unknown { NamesNone (map (λ s. s.now) words.now) → 1 ≤ result }
 {
     if words.is_empty() {
@@ -136,7 +146,7 @@ fn is_help(option: &str) -> bool
 }
 
 // Writes a text that was asked for.
-fn show<O: Write, E: Write>(text: &str, out: &mut O, err: &mut E) -> u8
+fn show<O: Write, E: Write>(text: &str, out: &mut Counted<O>, err: &mut Counted<E>) -> u8
     ensures { result ≤ 2 }
 {
     match write_whole(out, text.as_bytes()) {
@@ -146,7 +156,7 @@ fn show<O: Write, E: Write>(text: &str, out: &mut O, err: &mut E) -> u8
 }
 
 // Writes the help of `replay`.
-fn show_replay_help<O: Write, E: Write>(alloc: Global, out: &mut O, err: &mut E) -> u8
+fn show_replay_help<O: Write, E: Write>(alloc: Global, out: &mut Counted<O>, err: &mut Counted<E>) -> u8
     ensures { result ≤ 2 }
 {
     match replay_help(alloc) {
@@ -162,7 +172,7 @@ fn replay_help(alloc: Global) -> Result<String, AllocError> {
 }
 
 // What is said of a command that there isn't.
-fn refuse_command<E: Write>(alloc: Global, name: &str, err: &mut E) -> u8
+fn refuse_command<E: Write>(alloc: Global, name: &str, err: &mut Counted<E>) -> u8
     ensures statuses { result ≤ 2 }
     ensures refused { 1 ≤ result }
 {

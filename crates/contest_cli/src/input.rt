@@ -1,8 +1,10 @@
 //! Reading a stream to its end, up to a limit.
 ghost use Rattle.std.specs.Prelude.{◌≡◌, ◌≤◌, ◌<◌, ◌+◌, ◌^◌, IfOk, IfErr, OnErr, length};
 ghost use Rattle.std.specs.Io.KnownBytes.{ReadConsumes};
+ghost use Rattle.contest_types.specs.Streams.{Fails, stream};
 ghost use Rattle.contest_cli.specs.Input.{ReadsAll, TakesFront, TakesUpTo};
 
+use contest_types::Counted;
 use std::alloc::{AllocError, Global};
 use std::io::{ErrorKind, Read};
 
@@ -38,14 +40,15 @@ impl From<AllocError> for InputFault {
 /// where a read fails, and `Memory` where a growth is refused; what was read until then is gone.
 pub(crate) fn read_limited<R: Read>(
     alloc: Global,
-    reader: &mut R,
+    reader: &mut Counted<R>,
     limit: usize,
 ) -> Result<Vec<u8>, InputFault>
     requires { limit + 1 < 2 ^ 64 }
-    ensures ok { IfOk result (λ v. ReadsAll (R.remaining reader.old) (R.remaining reader.new) limit v.items) }
+    ensures ok { IfOk result (λ v. ReadsAll (R.remaining reader.old.inner) (R.remaining reader.new.inner) limit v.items) }
     ensures too_large { result ≡ Err InputFault.TooLarge
-        → TakesFront (R.remaining reader.old) (R.remaining reader.new) (limit + 1) }
-    ensures err { OnErr result (TakesUpTo (R.remaining reader.old) (R.remaining reader.new) (limit + 1)) }
+        → TakesFront (R.remaining reader.old.inner) (R.remaining reader.new.inner) (limit + 1) }
+    ensures err { OnErr result (TakesUpTo (R.remaining reader.old.inner) (R.remaining reader.new.inner) (limit + 1)) }
+    ensures failed { result ≡ Err InputFault.File → Fails (stream R.remaining reader.old) (stream R.remaining reader.new) }
 {
     match zeros(alloc, PIECE) {
         Ok(mut piece) => read_by(alloc, reader, limit, &mut piece),
@@ -63,16 +66,17 @@ pub(crate) fn zeros(alloc: Global, count: usize) -> Result<Vec<u8>, AllocError>
 // `read_limited`, where each read asks for no more than `piece` can hold.
 fn read_by<R: Read>(
     alloc: Global,
-    reader: &mut R,
+    reader: &mut Counted<R>,
     limit: usize,
     piece: &mut [u8],
 ) -> Result<Vec<u8>, InputFault>
     requires room { 0 < length piece.old }
     requires limit { limit + 1 < 2 ^ 64 }
-    ensures ok { IfOk result (λ v. ReadsAll (R.remaining reader.old) (R.remaining reader.new) limit v.items) }
+    ensures ok { IfOk result (λ v. ReadsAll (R.remaining reader.old.inner) (R.remaining reader.new.inner) limit v.items) }
     ensures too_large { result ≡ Err InputFault.TooLarge
-        → TakesFront (R.remaining reader.old) (R.remaining reader.new) (limit + 1) }
-    ensures err { OnErr result (TakesUpTo (R.remaining reader.old) (R.remaining reader.new) (limit + 1)) }
+        → TakesFront (R.remaining reader.old.inner) (R.remaining reader.new.inner) (limit + 1) }
+    ensures err { OnErr result (TakesUpTo (R.remaining reader.old.inner) (R.remaining reader.new.inner) (limit + 1)) }
+    ensures failed { result ≡ Err InputFault.File → Fails (stream R.remaining reader.old) (stream R.remaining reader.new) }
 {
     let mut bytes = Vec::new(alloc);
     let mut retries = RETRIES;
@@ -90,13 +94,15 @@ fn read_by<R: Read>(
 // One read. An interrupted one is tried again as often as `retries` says, which counts down. The
 // error is `File`.
 fn read_piece<R: Read>(
-    reader: &mut R,
+    reader: &mut Counted<R>,
     piece: &mut [u8],
     retries: &mut u32,
 ) -> Result<usize, InputFault>
     ensures bound { IfOk result (λ count. count ≤ length piece.new) }
-    ensures bytes { ReadConsumes (R.remaining reader.old) (R.remaining reader.new) result piece.new }
+    ensures bytes { ReadConsumes (R.remaining reader.old.inner) (R.remaining reader.new.inner) result piece.new }
     ensures fault { IfErr result (λ fault. fault ≡ InputFault.File) }
+    ensures failed { OnErr result (Fails (stream R.remaining reader.old) (stream R.remaining reader.new)) }
+    ensures count { reader.old.faults ≤ reader.new.faults }
 {
     loop {
         match reader.read(piece) {

@@ -23,6 +23,7 @@ mod visibility;
 mod words;
 
 pub use commands::{run, start};
+pub use contest_types::Counted;
 pub use replaying::replay;
 
 #[cfg(test)]

@@ -1,8 +1,9 @@
 //! Writing to a stream whose bytes are all known before the first one goes out.
 ghost use Rattle.std.specs.Prelude.{OnOk, OnErr};
 ghost use Rattle.std.specs.Io.KnownBytes.{Appends};
-ghost use Rattle.contest_cli.specs.Output.{AppendsFront};
+ghost use Rattle.contest_types.specs.Streams.{AppendsFront, Fails, stream};
 
+use contest_types::Counted;
 use std::io::Write;
 
 /// A stream that took not all of the bytes, or couldn't be flushed.
@@ -11,16 +12,20 @@ pub(crate) struct OutputFault;
 
 /// Writes all the bytes, by calls of `write` alone, and flushes. An error of any kind, also an
 /// interrupted call, and a write that takes nothing are a fault; a front of the bytes is out then.
-pub(crate) fn write_whole<W: Write>(out: &mut W, bytes: &[u8]) -> Result<(), OutputFault>
-    ensures ok { OnOk result (Appends (W.contents out.old) (W.contents out.new) bytes.now) }
-    ensures err { OnErr result (AppendsFront (W.contents out.old) (W.contents out.new) bytes.now) }
+pub(crate) fn write_whole<W: Write>(out: &mut Counted<W>, bytes: &[u8]) -> Result<(), OutputFault>
+    ensures ok { OnOk result (Appends (W.contents out.old.inner) (W.contents out.new.inner) bytes.now) }
+    ensures err { OnErr result (AppendsFront (W.contents out.old.inner) (W.contents out.new.inner) bytes.now) }
+    ensures fault { OnErr result (Fails (stream W.contents out.old) (stream W.contents out.new)) }
 {
     let mut sent = 0;
     while sent < bytes.len() {
-        match out.write(&bytes[sent..]) {
-            Ok(0) | Err(_) => return Err(OutputFault),
-            Ok(count) => sent += count,
+        let Ok(count) = out.write(&bytes[sent..]) else {
+            return Err(OutputFault);
+        };
+        if count == 0 {
+            return Err(OutputFault);
         }
+        sent += count;
     }
     match out.flush() {
         Ok(()) => Ok(()),

@@ -1,5 +1,6 @@
 //! The command `replay`: a contest read from a stream, its board written as text.
 ghost use Rattle.std.specs.Prelude.{◌⊎◌, ℤ, Ok, IfOk, IfErr, IfSome, IfNone, map, option_map, string_bytes};
+ghost use Rattle.contest_types.specs.Streams.{stream};
 ghost use Rattle.contest_cli.specs.Asked.{IsContestTime, ShowsTime, ShowsNone};
 ghost use Rattle.contest_cli.specs.Replay.{Gives, StopsBy, Replays, IsMemory, IsWords};
 
@@ -8,7 +9,7 @@ use crate::output::write_whole;
 use crate::stop::Stop;
 use crate::text::replay_text;
 use crate::words::{Options, read_words};
-use contest_types::RelTime;
+use contest_types::{Counted, RelTime};
 use contest_types::limits::IMPORTED_FILE;
 use std::alloc::{AllocError, Global};
 use std::io::{Read, Write};
@@ -19,11 +20,14 @@ use std::io::{Read, Write};
 pub fn replay<R: Read, O: Write, E: Write>(
     alloc: Global,
     words: &[&str],
-    reader: &mut R,
-    out: &mut O,
-    err: &mut E,
+    reader: &mut Counted<R>,
+    out: &mut Counted<O>,
+    err: &mut Counted<E>,
 ) -> u8
-    ensures { Replays (map (λ s. s.now) words.now) (R.remaining reader.old) (O.contents out.old) (O.contents out.new) (E.contents err.old) (E.contents err.new) result }
+    ensures { Replays (map (λ s. s.now) words.now)
+        (stream R.remaining reader.old) (stream R.remaining reader.new)
+        (stream O.contents out.old) (stream O.contents out.new)
+        (stream E.contents err.old) (stream E.contents err.new) result }
 {
     match board_text(alloc, words, reader) {
         Ok(text) => match write_whole(out, text.as_bytes()) {
@@ -36,9 +40,9 @@ pub fn replay<R: Read, O: Write, E: Write>(
 
 // The text of the board that the words ask for, or the first fault of the words, of the stream or of
 // what it holds.
-fn board_text<R: Read>(alloc: Global, words: &[&str], reader: &mut R) -> Result<String, Stop>
-    ensures ok { IfOk result (λ text. Gives (map (λ s. s.now) words.now) (R.remaining reader.old) (Ok (string_bytes text))) }
-    ensures err { IfErr result (StopsBy (map (λ s. s.now) words.now) (R.remaining reader.old)) }
+fn board_text<R: Read>(alloc: Global, words: &[&str], reader: &mut Counted<R>) -> Result<String, Stop>
+    ensures ok { IfOk result (λ text. Gives (map (λ s. s.now) words.now) (R.remaining reader.old.inner) (Ok (string_bytes text))) }
+    ensures err { IfErr result (StopsBy (map (λ s. s.now) words.now) (stream R.remaining reader.old) (stream R.remaining reader.new)) }
 {
     let options = match read_words(alloc, words) {
         Ok(options) => options,

@@ -2,14 +2,14 @@
 ghost use Rattle.std.specs.Prelude.{◌≡◌, OnOk, OnErr};
 ghost use Rattle.std.specs.Io.KnownBytes.{Appends};
 ghost use Rattle.clap.specs.Values.{kind_of};
-ghost use Rattle.contest_cli.specs.Output.{AppendsFront};
+ghost use Rattle.contest_types.specs.Streams.{AppendsFront, Fails, Tells, stream};
 ghost use Rattle.contest_cli.specs.Replay.{line_of, status_of, IsMemory, IsWordsOrMemory};
 
 use crate::input::InputFault;
 use crate::lines::refusal_line;
 use crate::output::{OutputFault, write_whole};
 use clap::error::ErrorKind;
-use contest_types::Refusal;
+use contest_types::{Counted, Refusal};
 use std::alloc::{AllocError, Global};
 use std::io::Write;
 
@@ -40,9 +40,9 @@ impl Stop {
     }
 
     /// Tells `err` of it, as far as `err` takes it, and answers the program's exit status.
-    pub(crate) fn refuse<E: Write>(&self, err: &mut E) -> u8
+    pub(crate) fn refuse<E: Write>(&self, err: &mut Counted<E>) -> u8
         ensures status { result ≡ status_of self.now }
-        ensures told { AppendsFront (E.contents err.old) (E.contents err.new) (line_of self.now) }
+        ensures told { Tells (stream E.contents err.old) (stream E.contents err.new) (line_of self.now) }
     {
         let _ = self.tell(err);
         match self {
@@ -52,9 +52,10 @@ impl Stop {
     }
 
     /// Writes the line that tells of it.
-    pub(crate) fn tell<E: Write>(&self, err: &mut E) -> Result<(), OutputFault>
-        ensures ok { OnOk result (Appends (E.contents err.old) (E.contents err.new) (line_of self.now)) }
-        ensures err { OnErr result (AppendsFront (E.contents err.old) (E.contents err.new) (line_of self.now)) }
+    pub(crate) fn tell<E: Write>(&self, err: &mut Counted<E>) -> Result<(), OutputFault>
+        ensures ok { OnOk result (Appends (E.contents err.old.inner) (E.contents err.new.inner) (line_of self.now)) }
+        ensures err { OnErr result (AppendsFront (E.contents err.old.inner) (E.contents err.new.inner) (line_of self.now)) }
+        ensures fault { OnErr result (Fails (stream E.contents err.old) (stream E.contents err.new)) }
     {
         match self {
             Stop::Words(text) => write_whole(err, text.as_bytes()),

@@ -4,7 +4,7 @@ use crate::input::{InputFault, read_limited, zeros};
 use crate::output::write_whole;
 use crate::replay_csv::read_replay_csv;
 use crate::visibility::{seen_verdict, sees_submission};
-use contest_types::{Audience, Marks, Moment, Rows, Settings, Submission};
+use contest_types::{Audience, Counted, Marks, Moment, Rows, Settings, Submission};
 use std::alloc::Global;
 use std::cmp::min;
 use std::io::{self, ErrorKind, Read, Write};
@@ -58,11 +58,11 @@ impl Write for Sink {
 #[test]
 fn tries_interrupted_reads_again(rt: HostRuntime) -> Result<(), Fail> {
     for (interrupts, wanted) in [(1_000, None), (1_001, Some(InputFault::File))] {
-        let mut source = Source {
+        let mut source = Counted::new(Source {
             interrupts,
             bytes: b"abc",
             fails: false,
-        };
+        });
         let fault = read_limited(rt.alloc(), &mut source, 10).err();
         assert_eq!(rt; fault, wanted, "{interrupts} interrupts");
     }
@@ -71,11 +71,11 @@ fn tries_interrupted_reads_again(rt: HostRuntime) -> Result<(), Fail> {
 
 #[test]
 fn fails_where_a_read_fails(rt: HostRuntime) -> Result<(), Fail> {
-    let mut source = Source {
+    let mut source = Counted::new(Source {
         interrupts: 0,
         bytes: b"abc",
         fails: true,
-    };
+    });
     let fault = read_limited(rt.alloc(), &mut source, 10).err();
     assert_eq!(rt; fault, Some(InputFault::File));
     Ok(())
@@ -85,10 +85,10 @@ fn fails_where_a_read_fails(rt: HostRuntime) -> Result<(), Fail> {
 fn keeps_to_the_limit(rt: HostRuntime) -> Result<(), Fail> {
     let bytes = zeros(rt.alloc(), 70_000)?;
     for (limit, wanted) in [(70_000u32, None), (69_999, Some(InputFault::TooLarge))] {
-        let mut left = bytes.as_slice();
+        let mut left = Counted::new(bytes.as_slice());
         let fault = read_limited(rt.alloc(), &mut left, limit as usize).err();
         assert_eq!(rt; fault, wanted, "limit {limit}");
-        assert!(rt; left.is_empty());
+        assert!(rt; left.into_inner().is_empty());
     }
     Ok(())
 }
@@ -98,14 +98,14 @@ fn writes_a_front_where_a_write_fails(rt: HostRuntime) -> Result<(), Fail> {
     let text = b"refused: File\n";
     for room in 0..=text.len() {
         for fails in [true, false] {
-            let mut sink = Sink {
+            let mut sink = Counted::new(Sink {
                 taken: Vec::new(rt.alloc()),
                 room,
                 fails,
-            };
+            });
             let written = write_whole(&mut sink, text);
             assert_eq!(rt; written.is_ok(), room == text.len(), "room {room}");
-            assert_eq!(rt; sink.taken.as_slice(), &text[..room]);
+            assert_eq!(rt; sink.into_inner().taken.as_slice(), &text[..room]);
         }
     }
     Ok(())
@@ -150,9 +150,12 @@ fn tells_faults_of_words(rt: HostRuntime) -> Result<(), Fail> {
         (&["replay", "--at", "0:07:00"], 1, "refused: E1 Malformed\n"),
     ];
     for (words, status, text) in rows {
-        let (mut out, mut err) = (Vec::new(rt.alloc()), Vec::new(rt.alloc()));
-        let answer = run(rt.alloc(), words, &mut b"".as_slice(), &mut out, &mut err);
+        let mut reader = Counted::new(b"".as_slice());
+        let mut out = Counted::new(Vec::new(rt.alloc()));
+        let mut err = Counted::new(Vec::new(rt.alloc()));
+        let answer = run(rt.alloc(), words, &mut reader, &mut out, &mut err);
         assert_eq!(rt; answer, status, "at {text}");
+        let (out, err) = (out.into_inner(), err.into_inner());
         assert!(rt;
             out.is_empty() && err.starts_with(text.as_bytes()),
             "at {text}"

@@ -1,8 +1,7 @@
 //! The greatest numbers of rows and bytes, and one more.
 
 use crate::streams::take_piece;
-use crate::support::{HEAD, SETTINGS, assert_prints, assert_refuses, run, text_of};
-use contest_cli::replay;
+use crate::support::{HEAD, SETTINGS, assert_prints, assert_refuses, replay, run, text_of};
 use std::alloc::{AllocError, Global};
 use std::io;
 use std::io::Read;

@@ -2,8 +2,7 @@
 
 ghost use Rattle.std.specs.Prelude.{◌≤◌, length};
 
-use crate::support::{FIRST, FIRST_BOARD, HEAD, LAST, text_of};
-use contest_cli::replay;
+use crate::support::{FIRST, FIRST_BOARD, HEAD, LAST, replay, text_of};
 use std::io;
 use std::io::{Read, Write};
 use std::test::Fail;

@@ -1,7 +1,8 @@
 //! The files that the tests share, and what they ask of the command.
 
-use contest_cli::replay;
+use contest_cli::Counted;
 use std::alloc::{AllocError, Global};
+use std::io::{Read, Write};
 use std::process::Abort;
 
 /// The header, the demo contest and its judgement types: four records.
@@ -58,6 +59,20 @@ pub fn words_of(alloc: Global, options: &str) -> Result<Vec<&str>, AllocError> {
         }
     }
     Ok(words)
+}
+
+/// Runs the command over streams whose failures nobody counts.
+pub fn replay<R: Read, O: Write, E: Write>(
+    alloc: Global,
+    words: &[&str],
+    reader: &mut R,
+    out: &mut O,
+    err: &mut E,
+) -> u8 {
+    let mut reader = Counted::new(reader);
+    let mut out = Counted::new(out);
+    let mut err = Counted::new(err);
+    contest_cli::replay(alloc, words, &mut reader, &mut out, &mut err)
 }
 
 /// What the command gives for a file.

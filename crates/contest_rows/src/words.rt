@@ -1,8 +1,7 @@
 //! Command lines that are refused, and that their fault comes before any other.
 
 use crate::streams::Broken;
-use crate::support::{HEAD, assert_prints, run, text_of, words_of};
-use contest_cli::replay;
+use crate::support::{HEAD, assert_prints, replay, run, text_of, words_of};
 use std::test::Fail;
 
 const REFUSED: [&str; 17] = [

@@ -3,6 +3,7 @@ pub mod AdditionLemmas
 pub mod SetupLemmas
 pub mod IdLemmas
 pub mod TextLemmas
+pub mod StreamLemmas
 pub mod RelTimeLemmas
 pub mod Times
 pub mod Printed

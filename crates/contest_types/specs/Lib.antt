@@ -4,6 +4,7 @@ pub mod ClarificationText
 pub mod RelTimeText
 pub mod RelTimeRead
 pub mod MomentText
+pub mod Streams
 pub mod Refusals
 pub mod Places
 pub mod Additions

@@ -6,9 +6,6 @@ use std::process::ExitCode;
 
 fn main(rt: HostRuntime) -> ExitCode {
     let args = env::args(&rt);
-    let mut reader = rt.stdin();
-    let mut out = rt.stdout();
-    let mut err = rt.stderr();
-    let status = contest_cli::start(rt.alloc(), args, &mut reader, &mut out, &mut err);
+    let status = contest_cli::start(rt.alloc(), args, rt.stdin(), rt.stdout(), rt.stderr());
     ExitCode::from(status)
 }

@@ -6,4 +6,4 @@ use Rattle.contest_cli.proofs.commands.run_owned.Goals as goal
 
 pub returns-in-Err-clause-replay : goal.returns-in-Err-clause-replay
 returns-in-Err-clause-replay g c = λ h.
-    stopped (map string_bytes c.args.words.now) _ _ _ _ (Refused Memory) _ (inl refl) c.refuse.ensures.status c.refuse.ensures.told
+    stopped (map string_bytes c.args.words.now) _ _ _ _ _ (Refused Memory) _ (inl refl) c.refuse.ensures.status c.refuse.ensures.told

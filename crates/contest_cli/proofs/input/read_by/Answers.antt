@@ -24,6 +24,6 @@ returns-in_err-extend_from_slice-clause-err g c =
     let last = take c.in_ok-count.count c.read_piece.new.piece in
     let taken = consumes_both _ _ _ bytes last c.loop-bytes.invariant.taken c.in_ok-count.ensures.bytes.0 in
     let short : length (bytes ++ last) ≤ c.args.limit + 1 = grind (arith, common_steps, c.in_ok-count.ensures.bound) in
-    let front : TakesUpTo (g.R.Read.remaining c.args.reader.now) (g.R.Read.remaining c.read_piece.new.reader) (c.args.limit + 1) =
+    let front : TakesUpTo (g.R.Read.remaining c.args.reader.now.inner) (g.R.Read.remaining c.read_piece.new.reader.inner) (c.args.limit + 1) =
     (bytes ++ last, short, taken) in
     on_err_always _ front

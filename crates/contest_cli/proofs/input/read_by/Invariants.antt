@@ -5,8 +5,9 @@ use Rattle.contest_cli.proofs.input.read_by.Given as goal
 abbrev pub invariant-loop-bytes : goal.invariant-loop-bytes
 invariant-loop-bytes g l = record {
   limit : l.limit ≡ l.fn.limit;
+  count : l.fn.reader.faults ≤ l.reader.faults;
   within : length l.bytes.items ≤ l.limit + 1;
-  taken : Consumes (g.R.Read.remaining l.fn.reader) (g.R.Read.remaining l.reader) l.bytes.items;
+  taken : Consumes (g.R.Read.remaining l.fn.reader.inner) (g.R.Read.remaining l.reader.inner) l.bytes.items;
 }
 
 abbrev pub decreases-loop-bytes : goal.decreases-loop-bytes

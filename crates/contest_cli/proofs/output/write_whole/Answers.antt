@@ -1,6 +1,7 @@
 use Rattle.std.proofs.Common.{◌≡◌, ◌++◌, ◌+◌, ◌-◌, ◌∙◌, sym, ap, ℕ, List, Option, Some, None, take, drop, length, arith, append_assoc, take-add, length-drop}
 use Rattle.std.proofs.lemmas.List.{take_all}
 use Rattle.std.specs.Io.KnownBytes.{Appends}
+use Rattle.contest_types.proofs.StreamLemmas.{some_taken}
 use Rattle.contest_cli.proofs.output.write_whole.Goals as goal
 
 joins : (a b c : Option (List ℕ)) (xs : List ℕ) (i n : ℕ) → Appends a b (take i xs) → Appends b c (take n (drop i xs)) → Appends a c (take (i + n) xs)
@@ -20,6 +21,7 @@ loop-sent-preserved g c =
     let b = e.bytes in
     let n = e.bound in
     record {
+      calm = some_taken c.in-Ok.count _ _ _ c.if-count-eq0.false e.counted ∙ c.loop-sent.invariant.calm;
       within = grind (arith, length-drop, take_all, r, n, c.loop-sent-test.true);
       out = joins _ _ _ c.args.bytes.now c.loop-sent.sent c.in-Ok.count c.loop-sent.invariant.out (rw r at b);
     }

@@ -25,4 +25,4 @@ returns-clause-err g c =
     let o = c.in-Ok.options in
     let asks : Asks words o.jury o.thawed c.in_ok-at.at = search rules in
     rw c.from.ensures (fault_stops words o.jury o.thawed c.in_ok-at.at _ _ c.in-Err-read_limited.fault asks
-    (λ e. c.in-Err-read_limited.ensures.too_large (ap Err e)))
+    (λ e. c.in-Err-read_limited.ensures.too_large (ap Err e)) (λ e. c.in-Err-read_limited.ensures.failed (ap Err e)))
