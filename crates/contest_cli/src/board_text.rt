@@ -10,12 +10,12 @@ ghost use Rattle.contest_cli.specs.BoardText.{numbered_id, who_text, contest_tim
 
 use crate::cell_text::write_cell;
 use crate::columns::{push_left, push_right};
-use crate::visibility::phase;
 use contest_score::{Board, Cell, Row, problem_order};
 use contest_types::{
     Audience, Marks, Moment, Phase, Refusal, RelTime, Settings, freeze_of, is_finalized,
     is_freezing, is_thawed, print_reltime,
 };
+use contest_view::phase;
 use std::alloc::{AllocError, Global};
 use unicode_width::UnicodeWidthStr;
 

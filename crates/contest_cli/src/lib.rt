@@ -19,7 +19,6 @@ mod replaying;
 mod stop;
 mod team_so_far;
 mod text;
-mod visibility;
 mod words;
 
 pub use commands::{run, start};

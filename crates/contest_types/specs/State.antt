@@ -3,6 +3,7 @@
 use Rattle.std.specs.Prelude.{ℕ, Bool, true, false, ◌&&◌, ◌==◌, List, [], ◌∷◌, ◌++◌, filter, map, Option, Some, if◌then◌else◌}
 use Rattle.std.specs.List.{enumerate_from}
 use Rattle.contest_types.specs.Setup.{Setup}
+use Rattle.contest_types.specs.declared.fixed.Fixed.{Fixed}
 use Rattle.contest_types.specs.declared.marks.Marks.{Marks}
 use Rattle.contest_types.specs.declared.account.Account.{Account}
 use Rattle.contest_types.specs.declared.objects.JudgementType.{JudgementType}
@@ -22,10 +23,8 @@ use Rattle.contest_types.specs.declared.rejudging.Member.{Member}
 use Rattle.contest_types.specs.declared.rejudging.MemberState.{MemberState}
 
 -- what every caller may know: the settings, the accounts and the marks of the clock
-pub record FixedPart : Type 0 where
-  pub settings : Setup
-  pub accounts : List Account
-  pub marks : Marks
+abbrev pub FixedPart : Type 0
+FixedPart = Fixed
 
 -- a contest: its fixed part, and each list in the order in which its rows were accepted
 pub record ContestState : Type 0 where

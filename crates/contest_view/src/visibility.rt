@@ -12,7 +12,7 @@ use contest_types::{
 
 /// Where the contest stands at a moment: before its start, running, or ended from its end on. It
 /// takes no memory.
-pub(crate) fn phase(marks: &Marks, settings: &Settings, now: Moment) -> Phase
+pub fn phase(marks: &Marks, settings: &Settings, now: Moment) -> Phase
     ensures { result ≡ phase_at settings.now marks.now now }
 {
     let start = match marks.start {
@@ -40,7 +40,7 @@ fn has_come(moment: Option<u64>, now: Moment) -> bool
 
 /// Whether a caller sees a team's submissions: the jury sees all, a team its own, and anyone those
 /// of a team that isn't hidden (DOMjudge manual, "Scoreboard"). It takes no memory.
-pub(crate) fn sees_submission(
+pub fn sees_submission(
     audience: Audience,
     settings: &Settings,
     submission: &Submission,
@@ -63,7 +63,7 @@ fn is_public(settings: &Settings, team: usize) -> bool
 /// The verdict that a caller sees now on a submission, of the one that was released last: the place
 /// of its judgement type, from 0. None where nothing was released, where the submission isn't seen,
 /// or where it is frozen and its verdicts are held back from the caller. It takes no memory.
-pub(crate) fn seen_verdict(
+pub fn seen_verdict(
     audience: Audience,
     settings: &Settings,
     marks: &Marks,
