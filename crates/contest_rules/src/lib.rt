@@ -2,6 +2,7 @@
 #![tactic(auto)]
 
 mod decision;
+pub mod laws;
 mod submitting;
 
 pub use decision::Decision;

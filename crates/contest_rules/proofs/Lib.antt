@@ -1,0 +1,2 @@
+pub mod SubmittingLemmas
+pub mod TakenLemmas

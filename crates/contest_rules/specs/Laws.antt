@@ -1,0 +1,31 @@
+-- What holds of the decisions, whatever the contest. Each is the contract of a function of src/laws.rt.
+use Rattle.std.specs.Prelude.{◌≡◌, ◌<◌, ◌≤◌, ◌+◌, ℕ, true, length}
+use Rattle.contest_types.specs.State.{ContestState, submissions_of, NewSubmission}
+use Rattle.contest_types.specs.Valid.{is_valid}
+use Rattle.contest_types.specs.Addable.{is_addable}
+use Rattle.contest_types.specs.Alike.{Alike}
+use Rattle.contest_types.specs.declared.limits.TheConstants.{POSTED_FILE}
+use Rattle.contest_types.specs.declared.audience.Audience.TheVariants as audience
+use Rattle.contest_types.specs.declared.submission.Submission.{Submission}
+use Rattle.contest_rules.specs.declared.decision.Decision.{Decision}
+use Rattle.contest_rules.specs.declared.decision.Decision.TheVariants.{Add}
+use Rattle.contest_rules.specs.declared.submitting.WantedSubmission.{WantedSubmission}
+use Rattle.contest_rules.specs.Submitting.{submit}
+
+-- what becomes of a submission of the team at a place
+abbrev pub submitted : ContestState → (now team : ℕ) → WantedSubmission → Decision Submission
+submitted x now team w = submit x.fixed now team (submissions_of team x.submissions) w
+
+-- a submission that is taken from a team that is there, with a file within its limit, may be added to
+-- a valid contest
+abbrev pub SubmittedIsAddable : Type 0
+SubmittedIsAddable =
+    (x : ContestState) (now team : ℕ) (w : WantedSubmission) (s : Submission) → is_valid x ≡ true
+    → team < length x.fixed.settings.teams → length w.file ≤ POSTED_FILE
+    → submitted x now team w ≡ Add s → is_addable x (NewSubmission s) ≡ true
+
+-- contests that are alike for a team decide its submissions alike
+abbrev pub AlikeSubmitAlike : Type 0
+AlikeSubmitAlike =
+    (x y : ContestState) (now team : ℕ) (w : WantedSubmission) → Alike (audience.Team (team + 1)) x y
+    → submitted x now team w ≡ submitted y now team w

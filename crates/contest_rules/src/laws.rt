@@ -1,0 +1,13 @@
+//! Laws of the decisions: functions that do nothing, and whose contracts say what holds of every
+//! contest.
+ghost use Rattle.contest_rules.specs.Laws.{AlikeSubmitAlike, SubmittedIsAddable};
+
+/// A submission that is taken keeps a valid contest valid.
+pub fn submitted_is_addable()
+    ensures { SubmittedIsAddable }
+{}
+
+/// Nothing that a team can't learn decides what becomes of its submissions.
+pub fn alike_submit_alike()
+    ensures { AlikeSubmitAlike }
+{}
