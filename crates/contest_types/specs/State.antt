@@ -4,6 +4,8 @@ use Rattle.std.specs.Prelude.{ℕ, Bool, true, false, ◌&&◌, ◌==◌, List, 
 use Rattle.std.specs.List.{enumerate_from}
 use Rattle.contest_types.specs.Setup.{Setup}
 use Rattle.contest_types.specs.declared.fixed.Fixed.{Fixed}
+pub use Rattle.contest_types.specs.declared.entry.Entry.{Entry}
+pub use Rattle.contest_types.specs.declared.entry.Entry.TheVariants.{NewSubmission, NewProposal, NewRelease, NewClarification, NewRejudging, SetMember, SetRejudging, SetStart, SetThaw, SetFinalized, NewType, NewLanguage, NewProblem, NewGroup, NewTeam, NewAccount}
 use Rattle.contest_types.specs.declared.marks.Marks.{Marks}
 use Rattle.contest_types.specs.declared.account.Account.{Account}
 use Rattle.contest_types.specs.declared.objects.JudgementType.{JudgementType}
@@ -55,26 +57,6 @@ same_addressee _ _ = false
 -- the clarifications of one addressee
 abbrev pub clarifications_to : Addressee → List Clarification → List Clarification
 clarifications_to addressee = filter (λ c. same_addressee c.addressee addressee)
-
--- everything that a command or an import may add or change
-pub data Entry : Type 0 where
-  NewSubmission : Submission → Entry
-  NewProposal : Proposal → Entry
-  NewRelease : Release → Entry
-  NewClarification : Clarification → Entry
-  NewRejudging : Rejudging → Entry
-  -- the rejudging with this number, and its member at this place
-  SetMember : (rejudging place : ℕ) → MemberState → Entry
-  SetRejudging : (rejudging : ℕ) → RejudgingState → Entry
-  SetStart : Option ℕ → Entry
-  SetThaw : ℕ → Entry
-  SetFinalized : ℕ → Entry
-  NewType : JudgementType → Entry
-  NewLanguage : Language → Entry
-  NewProblem : Problem → Entry
-  NewGroup : Group → Entry
-  NewTeam : Team → Entry
-  NewAccount : Account → Entry
 
 -- the rows, counted from a first number, with the one that has this number changed
 abbrev pub changed_at : {X : Type 0} → (first at : ℕ) → (X → X) → List X → List X
