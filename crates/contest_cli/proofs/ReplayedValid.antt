@@ -12,7 +12,8 @@ use Rattle.std.proofs.lemmas.List.Folds.{list_all-append, list_all-map}
 use Rattle.contest_types.specs.Setup.{Setup, IsValid, is_valid_head, has_valid_freeze, has_valid_medals}
 use Rattle.contest_types.specs.MomentText.{latest}
 use Rattle.contest_types.specs.Series.{never_fall}
-use Rattle.contest_types.specs.State.{add, releases_on, NewSubmission, submissions_of as rows_of}
+use Rattle.contest_types.specs.State.{add, releases_on, submissions_of as rows_of}
+use Rattle.contest_types.specs.declared.entry.Entry.TheVariants.{NewSubmission}
 use Rattle.contest_types.specs.ValidFixed.{has_valid_settings}
 use Rattle.contest_types.specs.ValidSubmissions.{is_valid_submission, has_submission}
 use Rattle.contest_types.specs.Valid.{is_valid}

@@ -13,7 +13,8 @@ use Rattle.std.proofs.lemmas.Option.{slice_get-map}
 use Rattle.contest_types.specs.Clock.{reached, end_of}
 use Rattle.contest_types.specs.Places.{place_of, is_among}
 use Rattle.contest_types.specs.Series.{count_up, never_fall, is_new_key}
-use Rattle.contest_types.specs.State.{FixedPart, ContestState, submissions_of, NewSubmission}
+use Rattle.contest_types.specs.State.{FixedPart, ContestState, submissions_of}
+use Rattle.contest_types.specs.declared.entry.Entry.TheVariants.{NewSubmission}
 use Rattle.contest_types.specs.Valid.{is_valid}
 use Rattle.contest_types.specs.ValidSubmissions.{is_valid_submission, of_one_team, are_valid_submissions}
 use Rattle.contest_types.specs.Addable.{is_addable, is_next_submission}

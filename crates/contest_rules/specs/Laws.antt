@@ -1,6 +1,7 @@
 -- What holds of the decisions, whatever the contest. Each is the contract of a function of src/laws.rt.
 use Rattle.std.specs.Prelude.{◌≡◌, ◌<◌, ◌≤◌, ◌+◌, ℕ, true, length}
-use Rattle.contest_types.specs.State.{ContestState, submissions_of, NewSubmission}
+use Rattle.contest_types.specs.State.{ContestState, submissions_of}
+use Rattle.contest_types.specs.declared.entry.Entry.TheVariants.{NewSubmission}
 use Rattle.contest_types.specs.Valid.{is_valid}
 use Rattle.contest_types.specs.Addable.{is_addable}
 use Rattle.contest_types.specs.Alike.{Alike}
