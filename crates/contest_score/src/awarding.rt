@@ -28,13 +28,19 @@ fn all_awards(
     Ok(awards)
 }
 
-/// The awards of a board and of the solves of its teams (Contest API 2023-06, awards), to teams
-/// that solved a problem: `winner` for the first rank; `gold-medal`, `silver-medal` and
-/// `bronze-medal` for so many ranks each, one kind after the other, so that a tie over the last
-/// gold ranks leaves fewer silver ones; `first-to-solve-<problem id>` for the earliest solve, to the
-/// millisecond; `group-winner-<group id>` for the group's teams of least rank. They stand in this
-/// order, the problems as on the board and the groups by id; an award that no team has isn't listed.
-/// The board, the solves or both may be empty.
+/// The awards of a board and of the solves of its teams (Contest API 2023-06, awards). They go to
+/// teams that solved a problem:
+///
+/// - `winner`: those of rank 1;
+/// - `gold-medal`, `silver-medal`, `bronze-medal`: so many ranks each, one kind after the other, so
+///   that a tie over the last gold rank leaves fewer ranks for silver (the standard leaves this
+///   open);
+/// - `first-to-solve-<problem id>`: those whose solve is the earliest, to the millisecond;
+/// - `group-winner-<group id>`: the group's teams of least rank.
+///
+/// They stand in this order, the problems as on the board and the groups by id. The teams of each
+/// stand in the order of the board. An award that no team has isn't listed. The board, the solves
+/// or both may be empty.
 ///
 /// # Errors
 ///
