@@ -1,5 +1,5 @@
 -- What a sort by keys leaves is the places in order.
-use Rattle.std.proofs.Common.{◌≡◌, ℕ, ◌+◌, ◌<◌, true, false, List, [], ◌∷◌, length, get_or, refl, sym, ap, ◌∙◌, arith, Ordering, map, All}
+use Rattle.std.proofs.Common.{◌≡◌, ℕ, ◌+◌, ◌<◌, true, false, List, [], ◌∷◌, length, get_or, refl, sym, ap, ◌∙◌, arith, Ordering, map, take, All}
 use Rattle.std.specs.List.{range_with_len, IsDistinct}
 use Rattle.std.specs.List.Sorted.{IsPermutation, IsSorted, IsStrictlyIncreasing}
 use Rattle.std.specs.Cmp.{IsTotalOrder}
@@ -7,6 +7,7 @@ use Rattle.std.specs.Ordering.{is_lt, nat_cmp, eq_by_cmp, ordering_reverse}
 use Rattle.std.specs.declared.cmp.Ordering.TheVariants.{Less, Equal, Greater}
 use Rattle.std.proofs.lemmas.List.Sorted.{sorted_far, ranks_by, IsPermutation-map, All-permutation}
 use Rattle.std.proofs.lemmas.List.{get_or-map, length-map}
+use Rattle.std.proofs.lemmas.List.Elements.{All-map, All-take, All-weaker}
 use Rattle.std.proofs.lemmas.List.FromFn.{get_or-range_with_len, length-range_with_len}
 use Rattle.std.proofs.lemmas.Map.Keys.{IsDistinct-IsPermutation, IsDistinct-from_sorted, sorted_from_strictly_increasing, apart_from_distinct}
 use Rattle.std.proofs.lemmas.Cmp.{tied_itself, nat_cmp_total, eq_by_cmp_equiv}
@@ -58,3 +59,8 @@ sorted_keys oc place good r f keys ks p all up rise =
     let moved = IsPermutation-map place keys ks p in
     let apart = IsDistinct-IsPermutation (eq_by_cmp nat_cmp) (eq_by_cmp_equiv nat_cmp_total).symm (map place keys) (map place ks) moved (apart_from_rising _ rise) in
     in_order_is r (map place keys) (map place ks) moved (ascends oc place good r f ks (All-permutation good keys ks p all) up apart)
+
+-- the places of sorted keys are within their bound
+pub all_within : {K : Type 0} (place : K → ℕ) (good : K → Type 0) (bound : ℕ) → ((k : K) → good k → place k < bound) → (keys ks : List K) → IsPermutation keys ks → All good keys → (n : ℕ) (order : List ℕ) → order ≡ map place (take n ks) → All (λ p. p < bound) order
+all_within place good bound h keys ks p told n order e =
+    rw e (All-map (λ p. p < bound) place (take n ks) (All-take (λ k. place k < bound) n ks (All-weaker good (λ k. place k < bound) h ks (All-permutation good keys ks p told))))

@@ -8,6 +8,10 @@ pub mod ProblemOrder
 pub mod Ranks
 pub mod Placed
 pub mod BoardOrder
+pub mod AwardLists
+pub mod FirstSolves
+pub mod LeastRanks
+pub mod GroupOrder
 pub mod MaskLemmas
 mod Examples
 mod ExamplesBoard

@@ -20,7 +20,7 @@ use Rattle.contest_score.specs.Masks.{mask_for, is_by, attempt_under, attempts_u
 use Rattle.contest_score.proofs.CellSteps.{cell_more, cell_room}
 
 -- one place of a list by places is set
-set_by_places : {X : Type 0} (f g : ℕ → X) (n i : ℕ) (v : X) → i < n → g i ≡ v → ((k : ℕ) → k ≢ i → g k ≡ f k) → set (map f (range_with_len 0 n)) i v ≡ map g (range_with_len 0 n)
+pub set_by_places : {X : Type 0} (f g : ℕ → X) (n i : ℕ) (v : X) → i < n → g i ≡ v → ((k : ℕ) → k ≢ i → g k ≡ f k) → set (map f (range_with_len 0 n)) i v ≡ map g (range_with_len 0 n)
 set_by_places {X} f g n i v l same others =
     let whole : length (map f (range_with_len 0 n)) ≡ n = length-map-range_with_len f 0 n in
     let at = λ (k : ℕ) (m : k < n). (let r : get_or (set (map f (range_with_len 0 n)) i v) k v ≡ g k = elim (cases_eq k i) [
@@ -66,7 +66,7 @@ cell_with_other who s marks now us u team problem h =
 by_itself : (u : JudgedSubmission) → is_by u.team u.problem u ≡ true
 by_itself u = rw (eq-eqb u.team u.team refl, eq-eqb u.problem u.problem refl) refl
 
-not_equal : (m n : ℕ) → (b : Bool) → eqb m n ≡ b → n ≢ m → b ≡ false
+pub not_equal : (m n : ℕ) → (b : Bool) → eqb m n ≡ b → n ≢ m → b ≡ false
 not_equal m n true e off = absurd (off (sym (eqb-true m n e)))
 not_equal m n false e off = refl
 

@@ -10,16 +10,11 @@ use Rattle.contest_types.specs.Masks.{is_jury}
 use Rattle.contest_types.specs.State.{ContestState}
 use Rattle.contest_types.specs.declared.audience.Audience.{Audience}
 use Rattle.contest_types.specs.declared.audience.Audience.TheVariants.{Jury}
+pub use Rattle.contest_score.specs.declared.award.Award.{Award}
 use Rattle.contest_score.specs.declared.row.Row.{Row}
 use Rattle.contest_score.specs.declared.solve.Solve.{Solve}
 use Rattle.contest_score.specs.Ranking.{in_order, problem_order, problem_id_at}
 use Rattle.contest_score.specs.Contest.{board_for, solves_of}
-
--- an award, and the places of the teams that have it, in the order of the board
-pub record Award : Type 0 where
-  pub id : List ℕ
-  pub citation : List ℕ
-  pub teams : List ℕ
 
 -- only a team that solved a problem wins anything
 abbrev pub winners : List Row → List Row
@@ -80,10 +75,14 @@ group_winner s rows group =
 abbrev pub group_order : Setup → List ℕ
 group_order s = in_order (λ g h. slice_cmp nat_cmp (group_id_at s g) (group_id_at s h)) (range_with_len 0 (length s.groups))
 
--- the awards of a board and of the solves of its teams; one that no team has isn't listed
+-- an award that no team has isn't listed
+abbrev pub listed : List Award → List Award
+listed awards = filter (λ (w : Award). nat_lt 0 (length w.teams)) awards
+
+-- the awards of a board and of the solves of its teams
 abbrev pub awards_of : Setup → List Row → List Solve → List Award
 awards_of s rows solves =
-    filter (λ (w : Award). nat_lt 0 (length w.teams))
+    listed
     (winner rows ∷ medals s rows ++ map (first_to_solve s rows solves) (problem_order s) ++ map (group_winner s rows) (group_order s))
 
 -- the jury is shown the awards once the contest is finalized, all others once it is thawed too, or if

@@ -1,10 +1,13 @@
 -- What the sorts of the board go by.
-use Rattle.std.specs.Prelude.{◌≡◌, ℕ, ◌+◌, ◌<◌, List, length}
+use Rattle.std.specs.Prelude.{◌≡◌, ℕ, ◌+◌, ◌<◌, List, [], length, slice_get}
+use Rattle.std.specs.Option.{option_map_or}
 use Rattle.std.specs.Ordering.{nat_cmp, ordering_then}
 use Rattle.std.specs.declared.cmp.Ordering.{Ordering}
+use Rattle.contest_types.specs.declared.objects.Group.{Group}
 use Rattle.contest_types.specs.declared.objects.Problem.{Problem}
 use Rattle.contest_types.specs.Setup.{Setup}
 use Rattle.contest_score.specs.declared.cell.Cell.{Cell}
+use Rattle.contest_score.specs.declared.group_awards.GroupKey.{GroupKey}
 use Rattle.contest_score.specs.declared.order.ProblemKey.{ProblemKey}
 use Rattle.contest_score.specs.declared.standings.Standing.{Standing}
 use Rattle.contest_score.specs.declared.row.Row.{Row}
@@ -15,6 +18,11 @@ pub record TellsProblem (ps : List Problem) (k : ProblemKey) : Type 0 where
   pub within : k.place < length ps
   pub ordinal : k.ordinal ≡ ordinal_at ps k.place
   pub id : k.id.now ≡ problem_id_at ps k.place
+
+-- the key is that of the group at its place
+pub record TellsGroup (gs : List Group) (k : GroupKey) : Type 0 where
+  pub within : k.place < length gs
+  pub id : k.id.now ≡ option_map_or (λ g. g.id) (slice_get gs k.place) []
 
 -- the standing is that of the team at its place
 pub record TellsTeam (s : Setup) (cells : ℕ → ℕ → Cell) (k : Standing) : Type 0 where

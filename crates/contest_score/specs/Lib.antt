@@ -6,4 +6,5 @@ pub mod Masks
 pub mod Counting
 pub mod Contest
 pub mod Awards
+pub mod AwardSteps
 pub mod Laws

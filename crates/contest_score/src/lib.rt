@@ -3,11 +3,18 @@
 #![tactic(auto)]
 
 mod attempt;
+mod award;
+mod award_list;
+mod awarding;
 mod cell;
 mod cells;
 mod counting;
+mod criterion;
+mod first_solves;
+mod group_awards;
 pub mod laws;
 mod order;
+mod ranked_awards;
 mod ranking;
 mod row;
 mod score;
@@ -19,6 +26,9 @@ mod submission;
 mod table;
 
 pub use attempt::{Attempt, Verdict};
+pub use award::{Award, AwardText};
+pub use award_list::Awards;
+pub use awarding::awards;
 pub use cell::{Cell, cell_of};
 pub use cells::Cells;
 pub use contest_types::{Mask, mask_for, verdict_under};

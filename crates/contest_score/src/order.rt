@@ -49,6 +49,7 @@ fn problem_keys<'a>(
 pub fn problem_order(alloc: Global, settings: &Settings) -> Result<Vec<usize>, AllocError>
     ensures order { IfOk result (λ v. v.items ≡ problems_in_order settings.now) }
     ensures few { IfOk result (λ v. length v.items ≤ PROBLEMS) }
+    ensures there { IfOk result (λ v. All (λ place. place < length settings.now.problems) v.items) }
 {
     let mut keys = problem_keys(alloc, settings.problems())?;
     keys.sort_unstable();

@@ -1,6 +1,8 @@
 ghost use Rattle.std.specs.Prelude.{◌↔◌, IsTrue};
 ghost use Rattle.contest_score.specs.Scoring.{NotBefore};
 
+mod awarding;
+
 use crate::{
     Attempt, Cell, Cells, JudgedSubmission, PlainCells, Verdict, are_admitted, board, cell_of,
     plain_cells, problem_order,

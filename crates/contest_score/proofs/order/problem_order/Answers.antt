@@ -1,4 +1,7 @@
-use Rattle.std.proofs.Common.{◌∙◌}
+use Rattle.std.proofs.Common.{◌∙◌, length}
+use Rattle.contest_score.specs.declared.order.ProblemKey.{ProblemKey}
+use Rattle.contest_score.specs.Keys.{TellsProblem}
+use Rattle.contest_score.proofs.KeyOrder.{all_within}
 use Rattle.contest_score.proofs.ProblemOrder.{problems_sorted, few_problems}
 use Rattle.contest_score.proofs.order.problem_order.Goals as goal
 
@@ -10,3 +13,7 @@ returns-clause-order c =
 pub returns-clause-few : goal.returns-clause-few
 returns-clause-few c =
     few_problems c.args.settings.now c.problems.ensures.valid c.in_ok-keys.keys.items c.sort_unstable.new.self.items c.sort_unstable.ensures.permutation (rw c.problems.ensures.list at c.in_ok-keys.ensures.places) c.loop-key.key-index c.loop-key.order.items (rw c.deref-key-items.ensures.value at c.loop-key.invariant)
+
+pub returns-clause-there : goal.returns-clause-there
+returns-clause-there c =
+    all_within (λ (k : ProblemKey). k.place) (TellsProblem c.args.settings.now.problems) (length c.args.settings.now.problems) (λ k t. t.within) c.in_ok-keys.keys.items c.sort_unstable.new.self.items c.sort_unstable.ensures.permutation (rw c.problems.ensures.list at c.in_ok-keys.ensures.told) c.loop-key.key-index c.loop-key.order.items (rw c.deref-key-items.ensures.value at c.loop-key.invariant)
