@@ -1,5 +1,6 @@
 //! Relative times: lengths of time, and their texts.
 ghost use Rattle.std.specs.Prelude.{◌≡◌, ◌≢◌, ◌+◌, ◌-◌, ◌*◌, ◌/◌, ◌%◌, ◌<◌, ◌≤◌, ◌∷◌, ◌++◌, ◌↔◌, ◌==◌, ℕ, ℤ, List, [], Bool, Option, Some, None, SomeIff, IsTrue, IsFalse, ◌⊎◌, MatchOption, IfSome, IfNone, length, pos, neg_ℤ, drop, take, false, slice_index, unsigned_abs};
+ghost use Rattle.std.specs.Str.{IsUtf8};
 ghost use Rattle.std.specs.Str.Parse.{IsNumeral, digits_value};
 ghost use Rattle.contest_types.specs.RelTimeRead.{reltime_of};
 ghost use Rattle.contest_types.specs.RelTimeText.{farthest, AreDigits, Field, IsSplit, IsClock, IsRelTimeText, sign, rel_time_text, clock_text};
@@ -152,6 +153,16 @@ fn field_at_end(text: &[u8], mark: u8, digits: usize) -> Option<(&[u8], u64)>
 /// with no zeros before the hours that they don't need, and answers how many bytes that took. The
 /// rest of the buffer stays as it was (Contest API 2023-06, RELTIME).
 pub fn print_reltime(time: RelTime, out: &mut [u8; 24]) -> usize
+    ensures fits { result ≤ 24 }
+    ensures text { take result out.new ≡ rel_time_text time }
+    ensures utf8 { IsUtf8 (take result out.new) }
+    ensures rest { drop result out.new ≡ drop result out.old }
+{
+    write_reltime(time, out)
+}
+
+fn write_reltime(time: RelTime, out: &mut [u8; 24]) -> usize
+    ensures near { unsigned_abs time ≤ farthest }
     ensures fits { result ≤ 24 }
     ensures text { take result out.new ≡ rel_time_text time }
     ensures rest { drop result out.new ≡ drop result out.old }

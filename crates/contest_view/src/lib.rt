@@ -1,7 +1,10 @@
-//! What an audience is shown of a contest.
+//! What an audience is shown of a contest: who sees what, and the JSON values that are served.
 #![tactic(auto)]
 
+mod members;
+mod submission_object;
 mod visibility;
 
 pub use contest_types::{Audience, Phase};
+pub use submission_object::submission_value;
 pub use visibility::{phase, seen_verdict, sees_submission};

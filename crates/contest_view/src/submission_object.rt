@@ -1,0 +1,182 @@
+//! Submissions as they are served.
+ghost use Rattle.std.specs.Prelude.{◌≡◌, ◌++◌, IfOk, None, Some, codes, if◌then◌else◌, option_map, string_bytes};
+ghost use Rattle.std.specs.Option.{option_and_then};
+ghost use Rattle.std.specs.Fmt.{decimal};
+ghost use Rattle.serde_json.specs.Data.{object, string};
+ghost use Rattle.serde_json.specs.View.{view};
+ghost use Rattle.contest_types.specs.Sight.{program_for};
+ghost use Rattle.contest_types.specs.TeamPlaces.{team_id_at};
+ghost use Rattle.contest_view.specs.Objects.{contest_time_data, file_array, files_data, files_path, language_id_at, problem_id_at, submission_data, submission_id, submission_members};
+
+use crate::members::{moment_value, put_text, put_where, reltime_value};
+use contest_types::{Audience, Fixed, Moment, Name, Settings, Submission, knows_all_of};
+use serde_json::{Map, Value, json, put};
+use std::alloc::{AllocError, Global};
+
+/// The values of a submission's members.
+#[derive(Drop)]
+struct Members<'a> {
+    contest_time: Value,
+    entry_point: Option<Value>,
+    files: Option<Value>,
+    id: &'a str,
+    language: &'a str,
+    problem: &'a str,
+    team: &'a str,
+    time: Value,
+}
+
+/// The JSON value of a submission that an audience sees (Contest API 2023-06, submission object):
+/// `contest_time`, `id`, `language_id`, `problem_id`, `team_id` and `time`; for the team itself and
+/// the jury also `files`, and `entry_point` where one was given.
+///
+/// # Errors
+///
+/// Want of memory alone.
+pub fn submission_value(
+    alloc: Global,
+    fixed: &Fixed,
+    audience: Audience,
+    submission: &Submission,
+) -> Result<Value, AllocError>
+    ensures { IfOk result (λ v. view v ≡ submission_data fixed.now submission.now.team submission.now.number submission.now.time
+        submission.now.problem submission.now.language (program_for audience submission.now)) }
+{
+    let settings = &fixed.settings;
+    let shown = knows_all_of(audience, submission.team);
+    let id = submission_id(alloc, submission.team, submission.number)?;
+    let members = Members {
+        contest_time: contest_time_value(alloc, fixed.marks.start, submission.time)?,
+        entry_point: entry_point_where(alloc, shown, &submission.entry_point)?,
+        files: files_where(alloc, shown, settings, id.as_str())?,
+        id: id.as_str(),
+        language: language_id(settings, submission.language),
+        problem: problem_id(settings, submission.problem),
+        team: team_id(settings, submission.team),
+        time: moment_value(alloc, submission.time)?,
+    };
+    object_of(alloc, members)
+}
+
+/// The object with these members.
+#[tactic(auto, using(crate::proofs::ObjectLemmas::members_in_order))]
+fn object_of(alloc: Global, shown: Members<'_>) -> Result<Value, AllocError>
+    ensures { IfOk result (λ v. view v ≡ object (submission_members (view shown.entry.contest_time) (option_map view shown.entry.entry_point)
+        (option_map view shown.entry.files) shown.entry.id.now shown.entry.language.now shown.entry.problem.now shown.entry.team.now (view shown.entry.time))) }
+{
+    let mut members = Map::new(alloc);
+    put(&mut members, alloc, "contest_time", shown.contest_time)?;
+    put_where(&mut members, alloc, "entry_point", shown.entry_point)?;
+    put_where(&mut members, alloc, "files", shown.files)?;
+    put_text(&mut members, alloc, "id", shown.id)?;
+    put_text(&mut members, alloc, "language_id", shown.language)?;
+    put_text(&mut members, alloc, "problem_id", shown.problem)?;
+    put_text(&mut members, alloc, "team_id", shown.team)?;
+    put(&mut members, alloc, "time", shown.time)?;
+    Ok(Value::Object(members))
+}
+
+/// The id of a submission: `s<team number>-<number>`, teams numbered from 1 (own).
+pub fn submission_id(alloc: Global, team: usize, number: usize) -> Result<String, AllocError>
+    ensures { IfOk result (λ id. string_bytes id ≡ submission_id team number) }
+{
+    numbered_id(alloc, team as u128 + 1, number)
+}
+
+fn numbered_id(alloc: Global, team_number: u128, number: usize) -> Result<String, AllocError>
+    ensures { IfOk result (λ id. string_bytes id ≡ codes "s" ++ (decimal team_number ++ (codes "-" ++ decimal number))) }
+{
+    format!(in alloc; "s{team_number}-{number}")
+}
+
+// The time since the start.
+fn contest_time_value(
+    alloc: Global,
+    start: Option<Moment>,
+    time: Moment,
+) -> Result<Value, AllocError>
+    ensures { IfOk result (λ v. view v ≡ contest_time_data start time) }
+{
+    match start {
+        Some(start) => reltime_value(alloc, start, time),
+        None => Ok(Value::Null),
+    }
+}
+
+// The entry point, where one was given and is shown.
+fn entry_point_where(
+    alloc: Global,
+    shown: bool,
+    entry_point: &Option<Name>,
+) -> Result<Option<Value>, AllocError>
+    ensures { IfOk result (λ v. option_map view v ≡ (if shown then option_map string entry_point.now else None)) }
+{
+    if !shown {
+        return Ok(None);
+    }
+    match entry_point {
+        Some(entry_point) => Ok(Some(Value::try_from_str(alloc, entry_point.as_str())?)),
+        None => Ok(None),
+    }
+}
+
+// The array of the one file, where it is shown.
+fn files_where(
+    alloc: Global,
+    shown: bool,
+    settings: &Settings,
+    id: &str,
+) -> Result<Option<Value>, AllocError>
+    ensures { IfOk result (λ v. option_map view v ≡ (if shown then Some (files_data settings.now.head.id id.now) else None)) }
+{
+    if !shown {
+        return Ok(None);
+    }
+    Ok(Some(files_value(alloc, settings.head().id.as_str(), id)?))
+}
+
+fn files_value(alloc: Global, contest: &str, id: &str) -> Result<Value, AllocError>
+    ensures { IfOk result (λ v. view v ≡ files_data contest.now id.now) }
+{
+    let path = files_path(alloc, contest, id)?;
+    file_array(alloc, path.as_str())
+}
+
+fn files_path(alloc: Global, contest: &str, id: &str) -> Result<String, AllocError>
+    ensures { IfOk result (λ path. string_bytes path ≡ files_path contest.now id.now) }
+{
+    format!(in alloc; "contests/{contest}/submissions/{id}/files")
+}
+
+fn file_array(alloc: Global, href: &str) -> Result<Value, AllocError>
+    ensures { IfOk result (λ v. view v ≡ file_array href.now) }
+{
+    json!(in alloc; [{"href": href, "mime": "application/zip"}])
+}
+
+fn problem_id(settings: &Settings, place: usize) -> &str
+    ensures { result.now ≡ problem_id_at settings.now place }
+{
+    match settings.problems().get(place) {
+        Some(problem) => problem.id.as_str(),
+        None => "",
+    }
+}
+
+fn language_id(settings: &Settings, place: usize) -> &str
+    ensures { result.now ≡ language_id_at settings.now place }
+{
+    match settings.languages().get(place) {
+        Some(language) => language.id.as_str(),
+        None => "",
+    }
+}
+
+fn team_id(settings: &Settings, place: usize) -> &str
+    ensures { result.now ≡ team_id_at settings.now place }
+{
+    match settings.teams().get(place) {
+        Some(team) => team.id.as_str(),
+        None => "",
+    }
+}
