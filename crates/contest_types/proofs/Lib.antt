@@ -5,7 +5,10 @@ pub mod IdLemmas
 pub mod TextLemmas
 pub mod StreamLemmas
 pub mod RelTimeLemmas
+pub mod DateCounts
 pub mod Times
+pub mod MomentLemmas
+mod ExamplesMoments
 pub mod Printed
 pub mod RelTimeReading
 pub mod OrderLemmas

@@ -3,6 +3,7 @@ pub mod NameText
 pub mod ClarificationText
 pub mod RelTimeText
 pub mod RelTimeRead
+pub mod Calendar
 pub mod MomentText
 pub mod Streams
 pub mod Refusals

@@ -43,7 +43,7 @@ pub use id::{Id, ids_are_ascii, is_id};
 pub use marks::Marks;
 pub use mask::{Mask, knows_all_of, mask_for, verdict_under};
 pub use minute::Minute;
-pub use moment::{Moment, one_moment, one_text, print_time};
+pub use moment::{Moment, one_moment, one_text, print_time, text_is_counted};
 pub use name::Name;
 pub use objects::{Group, JudgementType, Language, Problem, Team};
 pub use proposal::{Proposal, Proposer};

@@ -1,7 +1,7 @@
 //! Moments, and their texts.
 ghost use Rattle.std.specs.Prelude.{◌≡◌, ◌*◌, ◌≤◌, ◌≤ℤ◌, ◌∷◌, ◌++◌, ℕ, List, [], Ok, IfOk, IfSome, IfNone, IsOk, pos, length, SomeIff};
 ghost use Rattle.jiff.specs.Words.{civil_nanos};
-ghost use Rattle.contest_types.specs.MomentText.{latest, IsMomentText, ShowsMoment, time_text};
+ghost use Rattle.contest_types.specs.MomentText.{latest, IsMomentText, ShowsMoment, moment_text, time_text};
 
 use crate::Refusal;
 use crate::limits::LAST_MOMENT;
@@ -82,7 +82,8 @@ impl Moment {
 /// What a clock in UTC shows at a moment, to the millisecond, as `yyyy-mm-ddThh:mm:ss.uuu+00:00`
 /// (Contest API 2023-06, TIME).
 pub fn print_time(moment: Moment) -> [u8; 29]
-    ensures { ShowsMoment result moment }
+    ensures shows { ShowsMoment result moment }
+    ensures text { result ≡ moment_text moment }
 {
     let instant = instant_of(moment.milliseconds);
     let text = temporal::DateTimePrinter::new()
@@ -106,6 +107,11 @@ fn instant_of(milliseconds: u64) -> Timestamp
 /// A moment has one text.
 pub fn one_text()
     ensures { (a b : List ℕ) (m : ℕ) → ShowsMoment a m → ShowsMoment b m → a ≡ b }
+{}
+
+/// That text is a function of the moment, by counting the years, months and days that have begun.
+pub fn text_is_counted()
+    ensures { (text : List ℕ) (m : ℕ) → ShowsMoment text m → text ≡ moment_text m }
 {}
 
 /// A text shows one moment at most, when it is read and when it is printed: so two moments never
