@@ -7,7 +7,8 @@ use Rattle.jiff_core.specs.Calendar.{days_from_civil, days_in_month}
 abbrev pub has_come : ℕ → ℕ → ℕ → ℕ → Bool
 has_come today year month day = int_le (days_from_civil (pos year) month day) (pos today)
 
--- 1970, and one more for each later year that has begun: of 365 days at least, so no more than these
+-- 1970, and one more for each later year that has begun. A year has at least 365 days, so at most
+-- today / 365 of them have.
 unfoldable pub year_of : ℕ → ℕ
 year_of today = 1970 + count_by (λ year. has_come today year 1 1) (range_with_len 1971 (today / 365))
 
