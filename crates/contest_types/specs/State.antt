@@ -1,18 +1,12 @@
 -- A contest as whole lists, and what each change makes of it (own; the rows are those of the Contest
 -- API 2023-06). Places count from 0, numbers and rounds from 1.
-use Rattle.std.specs.Prelude.{ℕ, Bool, true, false, ◌&&◌, ◌==◌, List, [], ◌∷◌, ◌++◌, filter, map, Option, Some, if◌then◌else◌}
+use Rattle.std.specs.Prelude.{ℕ, Bool, true, false, ◌&&◌, ◌==◌, List, [], ◌∷◌, ◌++◌, filter, map, Some, if◌then◌else◌}
 use Rattle.std.specs.List.{enumerate_from}
 use Rattle.contest_types.specs.Setup.{Setup}
 use Rattle.contest_types.specs.declared.fixed.Fixed.{Fixed}
 pub use Rattle.contest_types.specs.declared.entry.Entry.{Entry}
 pub use Rattle.contest_types.specs.declared.entry.Entry.TheVariants.{NewSubmission, NewProposal, NewRelease, NewClarification, NewRejudging, SetMember, SetRejudging, SetStart, SetThaw, SetFinalized, NewType, NewLanguage, NewProblem, NewGroup, NewTeam, NewAccount}
 use Rattle.contest_types.specs.declared.marks.Marks.{Marks}
-use Rattle.contest_types.specs.declared.account.Account.{Account}
-use Rattle.contest_types.specs.declared.objects.JudgementType.{JudgementType}
-use Rattle.contest_types.specs.declared.objects.Language.{Language}
-use Rattle.contest_types.specs.declared.objects.Problem.{Problem}
-use Rattle.contest_types.specs.declared.objects.Group.{Group}
-use Rattle.contest_types.specs.declared.objects.Team.{Team}
 use Rattle.contest_types.specs.declared.submission.Submission.{Submission}
 use Rattle.contest_types.specs.declared.submission.Release.{Release}
 use Rattle.contest_types.specs.declared.proposal.Proposal.{Proposal}
@@ -20,7 +14,6 @@ use Rattle.contest_types.specs.declared.clarification.Clarification.{Clarificati
 use Rattle.contest_types.specs.declared.clarification.Addressee.{Addressee}
 use Rattle.contest_types.specs.declared.clarification.Addressee.TheVariants.{All as ToAll, Team as ToTeam}
 use Rattle.contest_types.specs.declared.rejudging.Rejudging.{Rejudging}
-use Rattle.contest_types.specs.declared.rejudging.RejudgingState.{RejudgingState}
 use Rattle.contest_types.specs.declared.rejudging.Member.{Member}
 use Rattle.contest_types.specs.declared.rejudging.MemberState.{MemberState}
 
