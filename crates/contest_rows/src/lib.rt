@@ -16,6 +16,12 @@ mod reading;
 #[cfg(test)]
 mod refusals;
 #[cfg(test)]
+mod small_columns;
+#[cfg(test)]
+mod small_contests;
+#[cfg(test)]
+mod small_moments;
+#[cfg(test)]
 mod streams;
 #[cfg(test)]
 mod support;
