@@ -79,7 +79,7 @@ fn is_same(row: &Row, plain: &PlainRow, rank: usize) -> bool {
 }
 
 /// Asserts that the board has the plain rows, each at its place.
-fn assert_boards_agree(
+fn assert_board_agrees(
     rt: &impl Abort,
     contest: &MadeContest,
     board: &Board,
@@ -88,11 +88,10 @@ fn assert_boards_agree(
 ) {
     assert_eq!(rt; board.rows().len(), rows.len(), "contest {number}");
     for row in rows {
-        let rank = plain_rank(rows, row);
         let place = plain_place(contest, rows, row);
         let is_there = match board.rows().get(place) {
             None => false,
-            Some(there) => is_same(there, row, rank),
+            Some(there) => is_same(there, row, plain_rank(rows, row)),
         };
         assert!(rt; is_there, "contest {number}, row {place}");
     }
@@ -117,6 +116,20 @@ fn has_close_finish(rows: &[PlainRow]) -> bool {
     })
 }
 
+/// Scores a contest twice, and answers whether it has a tie and whether it has a close finish.
+fn score_twice(
+    rt: &(impl Abort + AllocGlobal),
+    contest: &MadeContest,
+    number: u32,
+) -> Result<(bool, bool), Fail> {
+    let cells = scored_cells(rt.alloc(), contest)?;
+    assert_cells_agree(rt, contest, &cells, number)?;
+    let rows = plain_rows(rt.alloc(), contest)?;
+    let board = board(rt.alloc(), &contest.settings, &cells)?;
+    assert_board_agrees(rt, contest, &board, &rows, number);
+    Ok((has_tie(&rows), has_close_finish(&rows)))
+}
+
 #[test]
 fn cells_and_boards_are_the_plain_ones(rt: HostRuntime) -> Result<(), Fail> {
     let mut dice = Dice::new(2026);
@@ -124,13 +137,9 @@ fn cells_and_boards_are_the_plain_ones(rt: HostRuntime) -> Result<(), Fail> {
     let mut close_finishes: u32 = 0;
     for number in 0..500 {
         let contest = make_contest(rt.alloc(), &mut dice)?;
-        let cells = scored_cells(rt.alloc(), &contest)?;
-        assert_cells_agree(&rt, &contest, &cells, number)?;
-        let board = board(rt.alloc(), &contest.settings, &cells)?;
-        let rows = plain_rows(rt.alloc(), &contest)?;
-        assert_boards_agree(&rt, &contest, &board, &rows, number);
-        ties = ties.saturating_add(u32::from(has_tie(&rows)));
-        close_finishes = close_finishes.saturating_add(u32::from(has_close_finish(&rows)));
+        let (tie, close_finish) = score_twice(&rt, &contest, number)?;
+        ties = ties.saturating_add(u32::from(tie));
+        close_finishes = close_finishes.saturating_add(u32::from(close_finish));
     }
     assert!(rt; ties >= 50, "{ties} contests with teams that tie");
     assert!(rt;
