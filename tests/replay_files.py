@@ -325,6 +325,8 @@ def words_for(rng, plan):
         text = reltime(rng, max(0, mark + rng.choice([-1, 0, 0, 1])))
         options.append(rng.choice([["--at", text], [f"--at={text}"]]))
     rng.shuffle(options)
+    if rng.random() < 0.05:
+        options.append(["--"])
     return ["replay"] + [word for option in options for word in option]
 
 
@@ -332,7 +334,8 @@ WRONG_WORDS = [
     ["--at"], ["--at", "5:00"], ["--at", ""], ["--at=-0:00:00.001"], ["--at=-1:00:00"], ["--at=0:60:00"],
     ["--at=70380768:00:00"], ["--jury", "--jury"], ["--thawed", "--thawed"],
     ["--at", "0:01:00", "--at", "0:01:00"], ["--jury=true"], ["--thawed="], ["--public"], ["jury"],
-    ["file.csv"], ["--at", "--jury"], ["--JURY"], ["--thaw"],
+    ["file.csv"], ["--at", "--jury"], ["--JURY"], ["--thaw"], ["--", "--jury"], ["--", "--"], ["--", ""],
+    ["--at", "--"], ["--at=--"], ["-"], ["-j"], [""], ["replay"], ["--at=0:01:00", "0:02:00"], ["--at 0:01:00"],
 ]
 ODD_WORDS = [["--at=-0:00:00"], ["--at=000:00:00"], ["--at=70380767:59:59.999"]]
 
