@@ -4,11 +4,13 @@
     compare.py [--program PATH] [--seed N] [--cases N] [--keep FOLDER] [--no-large]
 
 The boards in examples/ come first: both sides must print them. Then come the files of the seed, and
-at last a few large ones. Status, standard output and standard error must be equal byte for byte;
-where the words are refused (status 2) standard error is the program's own, and must only say
-something. Prints the first cases that differ, keeps their files in FOLDER (one of its own for each
-case: `file.csv`, `words`, and what each side gave), and ends with the line `N passed, M failed`. The
-exit status is 0 where M is 0.
+at last a few large ones. Every second file of the seed has a fault, and the kinds of faults come in
+turn. Status, standard output and standard error must be equal byte for byte; where the words are
+refused (status 2) standard error is the program's own, and must only say something.
+
+Prints how often each answer came, and at which records. Prints the first cases that differ, keeps
+their files in FOLDER (one of its own for each case: `file.csv`, `words`, and what each side gave), and
+ends with the line `N passed, M failed`. The exit status is 0 where M is 0 and each kind of fault came.
 """
 
 import argparse
@@ -26,6 +28,11 @@ import second_opinion
 
 ROOT = pathlib.Path(__file__).resolve().parent.parent
 SHOWN = 10  # cases that differ and are kept
+ATTEMPTS = 200  # files that are made until one has the fault that is wanted
+CAUSES = ["Malformed", "UnknownReference", "KeyReused", "TableFull", "NotOpen"]
+TURNS = [f"refused: E22 ImportRow {cause}" for cause in CAUSES] + ["refused: E1 Malformed", "wrong words"]
+TOO_LARGE = "refused: E6 BodyTooLarge"
+TOO_LARGE_TURN = 50  # one of so many faulty files is too large
 
 
 def run_program(program, words, data):
@@ -56,19 +63,27 @@ def keep(folder, title, words, data, wanted, given):
             print(f"  {what}: wanted {left!r:.300}\n  {what}: given  {right!r:.300}")
 
 
+def told(answer):
+    """What an answer tells, without the number of the record, and that number where there is one."""
+    status, _, err = answer
+    if status != 1:
+        return ("wrong words" if status == 2 else "done"), None
+    words = err.decode().split()
+    numbers = [int(word) for word in words if word.isdigit()]
+    return " ".join(word for word in words if not word.isdigit()), numbers[0] if numbers else None
+
+
 class Tally:
     """Counts what agreed and what didn't, and keeps the first cases that didn't."""
 
     def __init__(self, folder):
         self.folder = folder
         self.passed = self.failed = 0
-        self.statuses = {}
+        self.records = {}  # what was told: the records that it named, one for each case
 
     def note(self, title, words, data, wanted, given):
-        told = wanted[2].decode(errors="replace").strip()
-        told = " ".join(word for word in told.split() if not word.isdigit())  # without the record's number
-        told = "done" if wanted[0] == 0 else "wrong words" if wanted[0] == 2 else told
-        self.statuses[told] = self.statuses.get(told, 0) + 1
+        what, record = told(wanted)
+        self.records.setdefault(what, []).append(record)
         if agree(wanted, given):
             self.passed += 1
             return
@@ -88,16 +103,30 @@ def compare_examples(options, tally):
         tally.note(f"example {board.stem}", words, data, wanted, run_program(options.program, words, data))
 
 
+def made_case(seed, index):
+    """The words and the bytes of a case, and what the second opinion gives. Each odd case is refused."""
+    if index % 2 == 0:
+        words, data = replay_files.case(seed, index)
+        return words, data, second_opinion.replay(words, data)
+    number = index // 2
+    kind = TOO_LARGE if number % TOO_LARGE_TURN == 0 else TURNS[number % len(TURNS)]
+    for attempt in range(ATTEMPTS):
+        words, data = replay_files.faulty_case(seed, index, attempt, kind)
+        wanted = second_opinion.replay(words, data)
+        if told(wanted)[0] == kind:
+            return words, data, wanted
+    sys.exit(f"case {seed} {index}: none of {ATTEMPTS} files has the fault '{kind}'")
+
+
 def compare_made(options, tally):
-    """The files of the seed; the program runs beside the second opinion."""
+    """The files of the seed; programs run side by side."""
 
     def one(index):
-        words, data = replay_files.case(options.seed, index)
-        return index, words, data, run_program(options.program, words, data)
+        words, data, wanted = made_case(options.seed, index)
+        return index, words, data, wanted, run_program(options.program, words, data)
 
     with ThreadPoolExecutor(options.jobs) as pool:
-        for index, words, data, given in pool.map(one, range(options.cases)):
-            wanted = second_opinion.replay(words, data)
+        for index, words, data, wanted, given in pool.map(one, range(options.cases)):
             tally.note(f"case {options.seed} {index}", words, data, wanted, given)
 
 
@@ -107,11 +136,18 @@ def compare_large(options, tally):
         tally.note(title, words, data, second_opinion.replay(words, data), given)
 
 
+def spread(records):
+    """Which records were named, and how many different ones."""
+    if records[0] is None:
+        return ""
+    return f" at {len(set(records))} different records, {min(records)} to {max(records)}"
+
+
 def main():
     parser = argparse.ArgumentParser(description=__doc__, formatter_class=argparse.RawDescriptionHelpFormatter)
     parser.add_argument("--program", default=str(ROOT / "crates/desk/out/desk"))
     parser.add_argument("--seed", type=int, default=1)
-    parser.add_argument("--cases", type=int, default=4000)
+    parser.add_argument("--cases", type=int, default=6000)
     parser.add_argument("--keep", type=pathlib.Path, default=ROOT / "tests/out/differing")
     parser.add_argument("--jobs", type=int, default=2, help="programs that run side by side")
     parser.add_argument("--no-large", action="store_true", help="leave out the files of 16 MiB")
@@ -123,11 +159,14 @@ def main():
     compare_made(options, tally)
     if not options.no_large:
         compare_large(options, tally)
-    for told, count in sorted(tally.statuses.items(), key=lambda item: -item[1]):
-        print(f"{count:7}  {told}")
+    for what, records in sorted(tally.records.items(), key=lambda item: -len(item[1])):
+        print(f"{len(records):7}  {what}{spread(records)}")
+    missing = [kind for kind in TURNS + [TOO_LARGE] if kind not in tally.records]
+    if missing:
+        print(f"no case was {', '.join(missing)}: take more cases")
     print(f"{time.monotonic() - start:.1f} s, seed {options.seed}")
     print(f"{tally.passed} passed, {tally.failed} failed")
-    return 1 if tally.failed else 0
+    return 1 if tally.failed or missing else 0
 
 
 if __name__ == "__main__":

@@ -1,8 +1,7 @@
 """Replay files and command lines made from a seed, for tests/compare.py.
 
-A case is made from its seed and its number alone. Cases with an even number hold a file without a
-fault; the others get at least one change that is meant to be a fault (some changes turn out to be
-harmless, which is as good a case).
+A case is made from its seed and its number alone. `case` makes files without a fault, and some with
+any changes at all; `faulty_case` makes one whose first fault is meant to be of a chosen kind.
 
 Names come from a fixed list whose widths second_opinion.columns knows, and changes of single bytes
 neither make nor touch a character outside ASCII, so that a name is never of unknown width.
@@ -11,6 +10,7 @@ neither make nor touch a character outside ASCII, so that a name is never of unk
 import random
 
 HEADER = [b"kind", b"id", b"f1", b"f2", b"f3"]
+FILE_LIMIT = 16_777_216  # bytes
 NAMES = [
     "Alpha", "Beta", "Gamma", "A", "Bits, Bytes & Co", 'The "Quoted"', "  spaced  ", "Zoë", "Ångström",
     "e\u0301tude", "東京大学", "清华大学", "서울대학교", "ﾃｽﾄ", "ＦＵＬＬ", "Привет", "🎉 party", "ñandú",
@@ -325,6 +325,8 @@ def words_for(rng, plan):
         text = reltime(rng, max(0, mark + rng.choice([-1, 0, 0, 1])))
         options.append(rng.choice([["--at", text], [f"--at={text}"]]))
     rng.shuffle(options)
+    if rng.random() < 0.05:
+        options.append(["--"])
     return ["replay"] + [word for option in options for word in option]
 
 
@@ -332,21 +334,116 @@ WRONG_WORDS = [
     ["--at"], ["--at", "5:00"], ["--at", ""], ["--at=-0:00:00.001"], ["--at=-1:00:00"], ["--at=0:60:00"],
     ["--at=70380768:00:00"], ["--jury", "--jury"], ["--thawed", "--thawed"],
     ["--at", "0:01:00", "--at", "0:01:00"], ["--jury=true"], ["--thawed="], ["--public"], ["jury"],
-    ["file.csv"], ["--at", "--jury"], ["--JURY"], ["--thaw"],
+    ["file.csv"], ["--at", "--jury"], ["--JURY"], ["--thaw"], ["--", "--jury"], ["--", "--"], ["--", ""],
+    ["--at", "--"], ["--at=--"], ["-"], ["-j"], [""], ["replay"], ["--at=0:01:00", "0:02:00"], ["--at 0:01:00"],
 ]
 ODD_WORDS = [["--at=-0:00:00"], ["--at=000:00:00"], ["--at=70380767:59:59.999"]]
+
+
+# --- Files with a fault of a chosen kind -----------------------------------------------------------
+# Each takes the records of a contest without a fault and puts one in, where the contest has room for
+# it. Which kind a file's first fault is, is for second_opinion.py to say.
+
+
+def name_what_is_missing(rng, rows):
+    """A submission of a team, at a problem or with a type that isn't there, or stands further down."""
+    submissions = rows_of(rows, b"submission")
+    if not submissions:
+        return
+    row = rng.choice(submissions)
+    if rng.random() < 0.5:
+        row[rng.choice([1, 2, 4])] = rng.choice([b"nobody", b"T1", row[1], row[2]])
+    else:
+        rows.remove(row)
+        rows.insert(rng.randrange(1, len(rows) + 1), row)
+    if rng.random() < 0.2:
+        row[3] = rng.choice(LATE_TIMES)
+
+
+def reuse_key(rng, rows):
+    """A type, problem or team again with other content, or a problem with another one's label."""
+    definitions = [row for row in rows if row[0] in (b"type", b"problem", b"team")]
+    if not definitions:
+        return
+    row = list(rng.choice(definitions))
+    other = {b"type": b"false", b"problem": b"12345", b"team": b"true"}[row[0]]
+    if rng.random() < 0.5:
+        row[2] = b"Another name"
+    elif row[0] == b"problem" and rng.random() < 0.5:
+        row[1] = b"another-id"
+    else:
+        row[3 if row[0] != b"problem" else 4] = other
+    rows.insert(rng.randrange(1, len(rows) + 1), row)
+
+
+def open_another(rng, rows):
+    """A second contest record, or the first one not in front."""
+    row = rows_of(rows, b"contest")[0]
+    if rng.random() < 0.5:
+        rows.remove(row)
+    rows.insert(rng.randrange(1, len(rows) + 1), list(row))
+
+
+def lose_contest(rng, rows):
+    """No contest record of five fields; other records may be at fault as well."""
+    row = rows_of(rows, b"contest")[0]
+    change = rng.choice(["drop", "longer", "shorter", "renamed"])
+    if change == "drop":
+        rows.remove(row)
+    elif change == "longer":
+        row.append(b"")
+    elif change == "shorter":
+        del row[4]
+    else:
+        row[0] = rng.choice(BAD_KINDS)
+    if rows and rng.random() < 0.5:
+        rng.choice(rows)[0] = rng.choice(BAD_KINDS)
+
+
+MALFORMED = [spoil_field, spoil_field, spoil_field, spoil_kind, spoil_count, open_another]
+MAKERS = {
+    "refused: E22 ImportRow Malformed": MALFORMED,
+    "refused: E22 ImportRow UnknownReference": [name_what_is_missing],
+    "refused: E22 ImportRow KeyReused": [reuse_key, reuse_key, take_label],
+    "refused: E22 ImportRow TableFull": [overfill],
+    "refused: E22 ImportRow NotOpen": [spoil_time],
+    "refused: E1 Malformed": [lose_contest],
+    "refused: E6 BodyTooLarge": MALFORMED,
+    "wrong words": MALFORMED,
+}
+
+
+def faulty_case(seed, index, attempt, kind):
+    """The words and the bytes of a case that is meant to have this fault, which takes some attempts."""
+    rng = random.Random(f"{seed}/{index}/{attempt}")
+    plan = Plan(rng)
+    rows = plan.rows()
+    words = words_for(rng, plan)
+    if kind not in ("refused: E6 BodyTooLarge", "wrong words") or rng.random() < 0.5:
+        rng.choice(MAKERS[kind])(rng, rows)
+    data = spell(rng, [HEADER] + rows)
+    if kind == "refused: E1 Malformed" and rng.random() < 0.5:
+        data = spoil_start(rng, spell(rng, [HEADER] + plan.rows()))
+    if kind == "refused: E6 BodyTooLarge":
+        filling = rng.choice([b"\n", b"\r\n", b"x", b",", b'"', b"\xff"])
+        missing = max(0, FILE_LIMIT + rng.choice([1, 2, 1000]) - len(data))
+        data += (filling * (missing // len(filling) + 1))[:missing]
+    if kind == "wrong words":
+        words = words + rng.choice(WRONG_WORDS)
+    return words, data
 
 
 # --- A case ----------------------------------------------------------------------------------------
 
 
 def case(seed, index):
-    """The words and the file's bytes of one case."""
+    """The words and the file's bytes of a case: most are without a fault, and every fourth one gets
+    changes of any kind, which may be faults, several of them, or harmless."""
     rng = random.Random(f"{seed}/{index}")
     plan = Plan(rng)
     rows = plan.rows()
     words = words_for(rng, plan)
-    if index % 2 == 0:
+    if index % 4 != 0:
         return words, spell(rng, [HEADER] + rows)
     if rng.random() < 0.05:
         words = ["replay"] + rng.choice(WRONG_WORDS + ODD_WORDS)
@@ -373,12 +470,11 @@ def large_cases():
     def padded(text, size):
         return ["replay"], text + b"\n" * (size - len(text))
 
-    limit = 16_777_216
-    yield "exactly at the limit", *padded(head, limit)
-    yield "a byte over the limit", *padded(head, limit + 1)
-    yield "at the limit with its byte order mark", *padded(mark + head, limit)
-    yield "over the limit by its byte order mark", *padded(mark + head, limit + 3)
-    yield "over the limit and with a fault", *padded(bad, limit + 1)
+    yield "exactly at the limit", *padded(head, FILE_LIMIT)
+    yield "a byte over the limit", *padded(head, FILE_LIMIT + 1)
+    yield "at the limit with its byte order mark", *padded(mark + head, FILE_LIMIT)
+    yield "over the limit by its byte order mark", *padded(mark + head, FILE_LIMIT + 3)
+    yield "over the limit and with a fault", *padded(bad, FILE_LIMIT + 1)
     zeros = b"problem,a,A,A," + b"0" * 100_000 + b"\n"
     yield "zeros as hours", ["replay", "--at", "0" * 5000 + ":30:00"], head + zeros
     yield "one long field", ["replay"], head + b'team,t2,"' + b"x" * 3_000_000 + b'",,\n'

@@ -408,6 +408,8 @@ def read_words(words):
         raise WrongWords
     given = {}
     rest = list(words[1:])
+    if rest[-1:] == ["--"]:  # the end of the options; nothing may stand after it
+        rest.pop()
     while rest:
         option, equals, value = rest.pop(0).partition("=")
         if option not in ("--jury", "--thawed", "--at") or option in given:

@@ -10,11 +10,23 @@ mod examples;
 #[cfg(test)]
 mod limits;
 #[cfg(test)]
+mod made_contest;
+#[cfg(test)]
+mod plain_scoring;
+#[cfg(test)]
 mod ranks;
 #[cfg(test)]
 mod reading;
 #[cfg(test)]
 mod refusals;
+#[cfg(test)]
+mod scored_twice;
+#[cfg(test)]
+mod small_columns;
+#[cfg(test)]
+mod small_contests;
+#[cfg(test)]
+mod small_moments;
 #[cfg(test)]
 mod streams;
 #[cfg(test)]
