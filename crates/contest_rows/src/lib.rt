@@ -30,6 +30,8 @@ mod small_moments;
 #[cfg(test)]
 mod streams;
 #[cfg(test)]
+mod submitting;
+#[cfg(test)]
 mod support;
 #[cfg(test)]
 mod words;
