@@ -1,5 +1,5 @@
 //! The text board.
-ghost use Rattle.std.specs.Prelude.{◌≡◌, ◌++◌, ◌-ℤ◌, pos, OnOk, IfOk, IfErr, string_bytes};
+ghost use Rattle.std.specs.Prelude.{◌≡◌, ◌++◌, OnOk, IfOk, IfErr, string_bytes};
 ghost use Rattle.std.specs.Fmt.{decimal};
 ghost use Rattle.std.specs.List.{flat_map};
 ghost use Rattle.contest_types.specs.RelTimeText.{rel_time_text};
@@ -111,25 +111,14 @@ fn push_contest_time(out: &mut String, start: Option<Moment>, now: Moment) -> Re
     ensures { OnOk result (string_bytes out.new ≡ string_bytes out.old ++ contest_time start now) }
 {
     match start {
-        Some(start) => push_reltime(out, time_since(start, now)),
+        Some(start) => push_reltime(out, RelTime::between(start, now)),
         None => out.push_str("-"),
-    }
-}
-
-/// The time from one moment to another.
-fn time_since(start: Moment, now: Moment) -> RelTime
-    ensures { result ≡ pos now -ℤ pos start }
-{
-    match RelTime::from_milliseconds(now.milliseconds() as i64 - start.milliseconds() as i64) {
-        Some(time) => time,
-        None => unreachable!(),
     }
 }
 
 fn push_reltime(out: &mut String, time: RelTime) -> Result<(), AllocError>
     ensures { OnOk result (string_bytes out.new ≡ string_bytes out.old ++ rel_time_text time) }
 {
-    let _ = time.milliseconds();
     let mut buffer = [0; 24];
     let length = print_reltime(time, &mut buffer);
     match std::str::from_utf8(&buffer[..length]) {

@@ -1,5 +1,5 @@
 //! Relative times: lengths of time, and their texts.
-ghost use Rattle.std.specs.Prelude.{◌≡◌, ◌≢◌, ◌+◌, ◌-◌, ◌*◌, ◌/◌, ◌%◌, ◌<◌, ◌≤◌, ◌∷◌, ◌++◌, ◌↔◌, ◌==◌, ℕ, ℤ, List, [], Bool, Option, Some, None, SomeIff, IsTrue, IsFalse, ◌⊎◌, MatchOption, IfSome, IfNone, length, pos, neg_ℤ, drop, take, false, slice_index, unsigned_abs};
+ghost use Rattle.std.specs.Prelude.{◌≡◌, ◌≢◌, ◌+◌, ◌-◌, ◌-ℤ◌, ◌*◌, ◌/◌, ◌%◌, ◌<◌, ◌≤◌, ◌∷◌, ◌++◌, ◌↔◌, ◌==◌, ℕ, ℤ, List, [], Bool, Option, Some, None, SomeIff, IsTrue, IsFalse, ◌⊎◌, MatchOption, IfSome, IfNone, length, pos, neg_ℤ, drop, take, false, slice_index, unsigned_abs};
 ghost use Rattle.std.specs.Str.{IsUtf8};
 ghost use Rattle.std.specs.Str.Parse.{IsNumeral, digits_value};
 ghost use Rattle.contest_types.specs.RelTimeRead.{reltime_of};
@@ -7,6 +7,7 @@ ghost use Rattle.contest_types.specs.RelTimeText.{farthest, AreDigits, Field, Is
 
 use crate::backwards::Backwards;
 use crate::decimal::decimal_number;
+use crate::Moment;
 use crate::limits::LAST_MOMENT;
 use std::marker::Model;
 
@@ -60,6 +61,16 @@ impl RelTime {
             Some(RelTime { milliseconds })
         } else {
             None
+        }
+    }
+
+    /// The time from one moment to another, below zero where that is earlier.
+    pub fn between(start: Moment, end: Moment) -> RelTime
+        ensures { result ≡ pos end -ℤ pos start }
+    {
+        match RelTime::from_milliseconds(end.milliseconds() as i64 - start.milliseconds() as i64) {
+            Some(time) => time,
+            None => unreachable!(),
         }
     }
 

@@ -57,18 +57,9 @@ pub(crate) fn reltime_value(alloc: Global, start: Moment, time: Moment) -> Resul
     ensures { IfOk result (λ v. view v ≡ string (rel_time_text (pos time -ℤ pos start))) }
 {
     let mut buffer = [0; 24];
-    let length = print_reltime(time_since(start, time), &mut buffer);
+    let length = print_reltime(RelTime::between(start, time), &mut buffer);
     match std::str::from_utf8(&buffer[..length]) {
         Ok(text) => Value::try_from_str(alloc, text),
         Err(_) => unreachable!(),
-    }
-}
-
-fn time_since(start: Moment, time: Moment) -> RelTime
-    ensures { result ≡ pos time -ℤ pos start }
-{
-    match RelTime::from_milliseconds(time.milliseconds() as i64 - start.milliseconds() as i64) {
-        Some(time) => time,
-        None => unreachable!(),
     }
 }
