@@ -1,12 +1,14 @@
 //! Small contests whose boards were worked out by hand: the order of rows and columns, and their
 //! widths.
 
-use crate::support::assert_prints;
+use crate::support::{Worked, assert_prints};
 use std::test::Fail;
 
-#[test]
-fn equal_teams_stand_by_the_bytes_of_their_names(rt: HostRuntime) -> Result<(), Fail> {
-    let file = "kind,id,f1,f2,f3
+const CONTESTS: [Worked; 11] = [
+    Worked {
+        shows: "equal teams stand by the bytes of their names",
+        options: "",
+        file: "kind,id,f1,f2,f3
 contest,c,Name Cup,1:00:00,
 problem,p,P,Only,0
 team,t1,Á,,
@@ -15,8 +17,8 @@ team,t3,Ba,,
 team,t4,B,,
 team,t5,9,,
 team,t6,10,,
-";
-    let board = "Name Cup
+",
+        board: "Name Cup
 Public board, contest time 1:00:00.000, ended
 Rank  Team  Solved    Time          P
    1  10         0       0          .
@@ -25,14 +27,12 @@ Rank  Team  Solved    Time          P
    1  Ba         0       0          .
    1  a          0       0          .
    1  Á          0       0          .
-";
-    assert_prints(&rt, "six names", "", file.as_bytes(), board)?;
-    Ok(())
-}
-
-#[test]
-fn equal_names_stand_by_the_bytes_of_their_ids(rt: HostRuntime) -> Result<(), Fail> {
-    let file = "kind,id,f1,f2,f3
+",
+    },
+    Worked {
+        shows: "equal names stand by the bytes of their ids",
+        options: "",
+        file: "kind,id,f1,f2,f3
 contest,c,Namesake Cup,1:00:00,
 type,WA,wrong,false,true
 problem,p,P,Only,0
@@ -47,8 +47,8 @@ submission,T3,p,0:03:00,
 submission,t10,p,0:04:00,WA
 submission,_t,p,0:05:00,WA
 submission,_t,p,0:06:00,
-";
-    let board = "Namesake Cup
+",
+        board: "Namesake Cup
 Public board, contest time 1:00:00.000, ended
 Rank  Team  Solved    Time          P
    1  Same       0       0          .
@@ -56,14 +56,12 @@ Rank  Team  Solved    Time          P
    1  Same       0       0       -1?1
    1  Same       0       0         -1
    1  Same       0       0         ?1
-";
-    assert_prints(&rt, ".x, T3, _t, t10, t2", "", file.as_bytes(), board)?;
-    Ok(())
-}
-
-#[test]
-fn problems_stand_by_ordinal_and_then_by_id(rt: HostRuntime) -> Result<(), Fail> {
-    let file = "kind,id,f1,f2,f3
+",
+    },
+    Worked {
+        shows: "problems stand by ordinal and then by id",
+        options: "",
+        file: "kind,id,f1,f2,f3
 contest,c,Order Cup,1:00:00,
 type,AC,right,true,false
 problem,b,W,Ten,10
@@ -75,19 +73,17 @@ submission,t1,b,0:01:00,AC
 submission,t1,a,0:02:00,AC
 submission,t1,C,0:03:00,AC
 submission,t1,z,0:04:00,AC
-";
-    let board = "Order Cup
+",
+        board: "Order Cup
 Public board, contest time 1:00:00.000, ended
 Rank  Team  Solved    Time          Z          Y          X          W
    1  Quad       4      10       +1/4       +1/3       +1/2       +1/1
-";
-    assert_prints(&rt, "ordinals 2, 9, 9, 10", "", file.as_bytes(), board)?;
-    Ok(())
-}
-
-#[test]
-fn names_are_measured_in_columns(rt: HostRuntime) -> Result<(), Fail> {
-    let file = "kind,id,f1,f2,f3
+",
+    },
+    Worked {
+        shows: "names are measured in columns",
+        options: "",
+        file: "kind,id,f1,f2,f3
 contest,c,幅,1:00:00,
 problem,p,題,Width,0
 team,t1,ｱｲ,,
@@ -95,8 +91,8 @@ team,t2,Ａ,,
 team,t3,한국,,
 team,t4,日本語,,
 team,t5,e\u{301},,
-";
-    let board = "幅
+",
+        board: "幅
 Public board, contest time 1:00:00.000, ended
 Rank  Team    Solved    Time         題
    1  e\u{301}            0       0          .
@@ -104,14 +100,12 @@ Rank  Team    Solved    Time         題
    1  한국         0       0          .
    1  Ａ           0       0          .
    1  ｱｲ           0       0          .
-";
-    assert_prints(&rt, "one to six columns", "", file.as_bytes(), board)?;
-    Ok(())
-}
-
-#[test]
-fn a_label_wider_than_its_column_stands_whole(rt: HostRuntime) -> Result<(), Fail> {
-    let file = "kind,id,f1,f2,f3
+",
+    },
+    Worked {
+        shows: "a label wider than its column stands whole",
+        options: "",
+        file: "kind,id,f1,f2,f3
 contest,c,Label Cup,1:00:00,
 type,AC,right,true,false
 problem,p,Nine char,Nine,0
@@ -123,19 +117,17 @@ submission,t1,p,0:01:00,AC
 submission,t1,q,0:02:00,AC
 submission,t1,r,0:03:00,AC
 submission,t1,s,0:04:00,AC
-";
-    let board = "Label Cup
+",
+        board: "Label Cup
 Public board, contest time 1:00:00.000, ended
 Rank  Team  Solved    Time  Nine char  Ten chars.  題目題目題          S
    1  Mint       4      10       +1/1       +1/2       +1/3       +1/4
-";
-    assert_prints(&rt, "nine, ten and ten", "", file.as_bytes(), board)?;
-    Ok(())
-}
-
-#[test]
-fn a_cell_wider_than_its_column_stands_whole(rt: HostRuntime) -> Result<(), Fail> {
-    let file = "kind,id,f1,f2,f3
+",
+    },
+    Worked {
+        shows: "a cell wider than its column stands whole",
+        options: "",
+        file: "kind,id,f1,f2,f3
 contest,c,Wide Cup,1000:00:00,
 type,AC,right,true,false
 problem,a,A,First,0
@@ -144,19 +136,17 @@ team,t1,Slug,,
 submission,t1,a,999:59:00,
 submission,t1,a,999:59:59.999,AC
 submission,t1,b,0:10:00,
-";
-    let board = "Wide Cup
+",
+        board: "Wide Cup
 Public board, contest time 1000:00:00.000, ended
 Rank  Team  Solved    Time          A          B
    1  Slug       1   59999  +1/59999?1         ?1
-";
-    assert_prints(&rt, "ten columns", "", file.as_bytes(), board)?;
-    Ok(())
-}
-
-#[test]
-fn a_hidden_team_takes_no_rank(rt: HostRuntime) -> Result<(), Fail> {
-    let file = "kind,id,f1,f2,f3
+",
+    },
+    Worked {
+        shows: "a hidden team takes no rank",
+        options: "--jury",
+        file: "kind,id,f1,f2,f3
 contest,c,Hidden Cup,1:00:00,
 type,AC,right,true,false
 problem,a,A,Only,0
@@ -166,26 +156,18 @@ team,t3,Away,,
 submission,t1,a,0:01:00,AC
 submission,t2,a,0:05:00,AC
 submission,t3,a,0:06:00,AC
-";
-    let board = "Hidden Cup
+",
+        board: "Hidden Cup
 Jury board, contest time 1:00:00.000, ended
 Rank  Team  Solved    Time          A
    1  Home       1       5       +1/5
    2  Away       1       6       +1/6
-";
-    assert_prints(
-        &rt,
-        "hidden from the jury",
-        "--jury",
-        file.as_bytes(),
-        board,
-    )?;
-    Ok(())
-}
-
-#[test]
-fn minutes_may_have_five_digits(rt: HostRuntime) -> Result<(), Fail> {
-    let file = "kind,id,f1,f2,f3
+",
+    },
+    Worked {
+        shows: "minutes may have five digits",
+        options: "",
+        file: "kind,id,f1,f2,f3
 contest,c,Long Cup,1000:00:00,
 type,AC,right,true,false
 problem,a,A,First,0
@@ -195,60 +177,62 @@ team,t1,Marathon,,
 submission,t1,a,1:40:00,AC
 submission,t1,b,16:40:00,AC
 submission,t1,c,999:59:59.999,AC
-";
-    let board = "Long Cup
+",
+        board: "Long Cup
 Public board, contest time 1000:00:00.000, ended
 Rank  Team      Solved    Time          A          B          C
    1  Marathon       3   61099     +1/100    +1/1000   +1/59999
-";
-    assert_prints(&rt, "100, 1000 and 59999", "", file.as_bytes(), board)?;
-    Ok(())
-}
-
-#[test]
-fn without_problems_the_heading_ends_after_time(rt: HostRuntime) -> Result<(), Fail> {
-    let file = "kind,id,f1,f2,f3
+",
+    },
+    Worked {
+        shows: "without problems the heading ends after time",
+        options: "",
+        file: "kind,id,f1,f2,f3
 contest,c,Bare Cup,1:00:00,
 type,AC,right,true,false
 team,t1,Two,,
 team,t2,One,,
-";
-    let board = "Bare Cup
+",
+        board: "Bare Cup
 Public board, contest time 1:00:00.000, ended
 Rank  Team  Solved    Time
    1  One        0       0
    1  Two        0       0
-";
-    assert_prints(&rt, "no problems", "", file.as_bytes(), board)?;
-    Ok(())
-}
-
-#[test]
-fn with_hidden_teams_alone_the_heading_stands_alone(rt: HostRuntime) -> Result<(), Fail> {
-    let file = "kind,id,f1,f2,f3
+",
+    },
+    Worked {
+        shows: "with hidden teams alone the heading stands alone",
+        options: "",
+        file: "kind,id,f1,f2,f3
 contest,c,Ghost Cup,1:00:00,
 type,AC,right,true,false
 problem,a,A,Only,0
 team,t1,Invisible,true,
 submission,t1,a,0:01:00,AC
-";
-    let board = "Ghost Cup
+",
+        board: "Ghost Cup
 Public board, contest time 1:00:00.000, ended
 Rank  Team  Solved    Time          A
-";
-    assert_prints(&rt, "no shown team", "", file.as_bytes(), board)?;
-    Ok(())
-}
-
-#[test]
-fn a_contest_may_be_empty(rt: HostRuntime) -> Result<(), Fail> {
-    let file = "kind,id,f1,f2,f3
+",
+    },
+    Worked {
+        shows: "a contest may be empty",
+        options: "",
+        file: "kind,id,f1,f2,f3
 contest,c,Empty Cup,0:30:00,0:10:00
-";
-    let board = "Empty Cup
+",
+        board: "Empty Cup
 Public board, contest time 0:30:00.000, frozen
 Rank  Team  Solved    Time
-";
-    assert_prints(&rt, "nothing", "", file.as_bytes(), board)?;
+",
+    },
+];
+
+#[test]
+fn prints_the_boards_worked_by_hand(rt: HostRuntime) -> Result<(), Fail> {
+    for worked in &CONTESTS {
+        let file = worked.file.as_bytes();
+        assert_prints(&rt, worked.shows, worked.options, file, worked.board)?;
+    }
     Ok(())
 }

@@ -1,12 +1,14 @@
 //! Small contests whose boards were worked out by hand: which attempts count, what they cost, and
 //! who stands where. None of them has a freeze.
 
-use crate::support::assert_prints;
+use crate::support::{Worked, assert_prints};
 use std::test::Fail;
 
-#[test]
-fn equal_solved_and_total_go_by_the_last_minute(rt: HostRuntime) -> Result<(), Fail> {
-    let file = "kind,id,f1,f2,f3
+const CONTESTS: [Worked; 17] = [
+    Worked {
+        shows: "equal solved and total go by the last minute",
+        options: "",
+        file: "kind,id,f1,f2,f3
 contest,trees,Tree Cup,2:00:00,
 type,AC,right,true,false
 type,WA,wrong,false,true
@@ -22,21 +24,19 @@ submission,2,q,0:40:00,AC
 submission,3,p,0:05:00,AC
 submission,3,q,0:30:00,WA
 submission,3,q,0:35:00,AC
-";
-    let board = "Tree Cup
+",
+        board: "Tree Cup
 Public board, contest time 2:00:00.000, ended
 Rank  Team   Solved    Time          P          Q
    1  Cedar       2      60       +1/5      +2/35
    2  Birch       2      60      +1/20      +1/40
    3  Ash         2      60      +1/10      +1/50
-";
-    assert_prints(&rt, "last minutes differ", "", file.as_bytes(), board)?;
-    Ok(())
-}
-
-#[test]
-fn equal_teams_share_a_rank_and_the_next_is_skipped(rt: HostRuntime) -> Result<(), Fail> {
-    let file = "kind,id,f1,f2,f3
+",
+    },
+    Worked {
+        shows: "equal teams share a rank and the next is skipped",
+        options: "",
+        file: "kind,id,f1,f2,f3
 contest,c,Grove Cup,2:00:00,
 type,AC,right,true,false
 type,WA,wrong,false,true
@@ -52,22 +52,20 @@ submission,t2,y,0:30:59,AC
 submission,t3,x,0:29:00,WA
 submission,t3,x,0:30:00,AC
 submission,t4,x,0:10:00,AC
-";
-    let board = "Grove Cup
+",
+        board: "Grove Cup
 Public board, contest time 2:00:00.000, ended
 Rank  Team  Solved    Time          X          Y
    1  Oak        1      10      +1/10          .
    2  Elm        1      50      +2/30          .
    2  Fir        1      50          .      +2/30
    4  Yew        1      50      +1/50          .
-";
-    assert_prints(&rt, "two at rank 2", "", file.as_bytes(), board)?;
-    Ok(())
-}
-
-#[test]
-fn three_equal_teams_behind_a_leader(rt: HostRuntime) -> Result<(), Fail> {
-    let file = "kind,id,f1,f2,f3
+",
+    },
+    Worked {
+        shows: "three equal teams behind a leader",
+        options: "",
+        file: "kind,id,f1,f2,f3
 contest,c,Three Cup,1:00:00,
 type,AC,right,true,false
 problem,a,A,First,1
@@ -89,8 +87,8 @@ submission,t4,b,0:16:00,AC
 submission,t5,a,0:30:00,AC
 submission,t5,b,0:40:00,AC
 submission,t5,c,0:50:00,AC
-";
-    let board = "Three Cup
+",
+        board: "Three Cup
 Public board, contest time 1:00:00.000, ended
 Rank  Team  Solved    Time          A          B          C
    1  Zeno       3     120      +1/30      +1/40      +1/50
@@ -98,14 +96,12 @@ Rank  Team  Solved    Time          A          B          C
    2  Cleo       2      30      +1/20      +1/10          .
    2  Dora       2      30      +1/10      +1/20          .
    5  Abel       2      31      +1/15      +1/16          .
-";
-    assert_prints(&rt, "three at rank 2", "", file.as_bytes(), board)?;
-    Ok(())
-}
-
-#[test]
-fn more_problems_beat_less_time(rt: HostRuntime) -> Result<(), Fail> {
-    let file = "kind,id,f1,f2,f3
+",
+    },
+    Worked {
+        shows: "more problems beat less time",
+        options: "",
+        file: "kind,id,f1,f2,f3
 contest,c,Count Cup,5:00:00,
 type,AC,right,true,false
 type,WA,wrong,false,true
@@ -117,20 +113,18 @@ submission,fast,a,0:00:00,AC
 submission,slow,a,4:59:59.999,WA
 submission,slow,a,4:59:59.999,AC
 submission,slow,b,4:59:59.999,AC
-";
-    let board = "Count Cup
+",
+        board: "Count Cup
 Public board, contest time 5:00:00.000, ended
 Rank  Team  Solved    Time          A          B
    1  Slow       2     618     +2/299     +1/299
    2  Fast       1       0       +1/0          .
-";
-    assert_prints(&rt, "618 minutes and none", "", file.as_bytes(), board)?;
-    Ok(())
-}
-
-#[test]
-fn the_last_minute_is_the_greatest_of_all_columns(rt: HostRuntime) -> Result<(), Fail> {
-    let file = "kind,id,f1,f2,f3
+",
+    },
+    Worked {
+        shows: "the last minute is the greatest of all columns",
+        options: "",
+        file: "kind,id,f1,f2,f3
 contest,c,Greatest Cup,1:00:00,
 type,AC,right,true,false
 type,WA,wrong,false,true
@@ -144,20 +138,18 @@ submission,t1,a,0:50:00,AC
 submission,t2,a,0:25:00,AC
 submission,t2,b,0:35:00,AC
 submission,t2,c,0:55:00,WA
-";
-    let board = "Greatest Cup
+",
+        board: "Greatest Cup
 Public board, contest time 1:00:00.000, ended
 Rank  Team  Solved    Time          A          B          C
    1  Bee        2      60      +1/25      +1/35         -1
    2  Ant        2      60      +1/50      +1/10          .
-";
-    assert_prints(&rt, "last minutes 35 and 50", "", file.as_bytes(), board)?;
-    Ok(())
-}
-
-#[test]
-fn wrong_answers_after_the_accepted_one_cost_nothing(rt: HostRuntime) -> Result<(), Fail> {
-    let file = "kind,id,f1,f2,f3
+",
+    },
+    Worked {
+        shows: "wrong answers after the accepted one cost nothing",
+        options: "",
+        file: "kind,id,f1,f2,f3
 contest,c,After Cup,1:00:00,
 type,AC,right,true,false
 type,WA,wrong,false,true
@@ -169,20 +161,18 @@ submission,t2,a,0:06:00,AC
 submission,t2,a,0:07:00,WA
 submission,t2,a,0:08:00,WA
 submission,t1,a,0:27:00,AC
-";
-    let board = "After Cup
+",
+        board: "After Cup
 Public board, contest time 1:00:00.000, ended
 Rank  Team  Solved    Time          A
    1  Zulu       1      26       +2/6
    2  Able       1      27      +1/27
-";
-    assert_prints(&rt, "two wrong answers late", "", file.as_bytes(), board)?;
-    Ok(())
-}
-
-#[test]
-fn wrong_answers_at_an_unsolved_problem_cost_nothing(rt: HostRuntime) -> Result<(), Fail> {
-    let file = "kind,id,f1,f2,f3
+",
+    },
+    Worked {
+        shows: "wrong answers at an unsolved problem cost nothing",
+        options: "",
+        file: "kind,id,f1,f2,f3
 contest,c,Unsolved Cup,1:00:00,
 type,AC,right,true,false
 type,WA,wrong,false,true
@@ -195,20 +185,18 @@ submission,t1,b,0:02:00,WA
 submission,t1,a,0:12:00,AC
 submission,t1,b,0:13:00,WA
 submission,t2,a,0:12:00,AC
-";
-    let board = "Unsolved Cup
+",
+        board: "Unsolved Cup
 Public board, contest time 1:00:00.000, ended
 Rank  Team  Solved    Time          A          B
    1  Calm       1      12      +1/12          .
    1  Wild       1      12      +1/12         -3
-";
-    assert_prints(&rt, "three wrong answers at B", "", file.as_bytes(), board)?;
-    Ok(())
-}
-
-#[test]
-fn compile_errors_are_judged_and_cost_nothing(rt: HostRuntime) -> Result<(), Fail> {
-    let file = "kind,id,f1,f2,f3
+",
+    },
+    Worked {
+        shows: "compile errors are judged and cost nothing",
+        options: "",
+        file: "kind,id,f1,f2,f3
 contest,c,Compile Cup,1:00:00,
 type,AC,right,true,false
 type,CE,compile error,false,false
@@ -221,21 +209,19 @@ submission,t3,a,0:01:30,CE
 submission,t1,a,0:02:00,CE
 submission,t2,a,0:09:00,AC
 submission,t1,a,0:09:00,AC
-";
-    let board = "Compile Cup
+",
+        board: "Compile Cup
 Public board, contest time 1:00:00.000, ended
 Rank  Team   Solved    Time          A
    1  Once        1       9       +1/9
    1  Twice       1       9       +3/9
    3  Never       0       0         -1
-";
-    assert_prints(&rt, "two compile errors", "", file.as_bytes(), board)?;
-    Ok(())
-}
-
-#[test]
-fn a_penalised_type_that_solves_costs_nothing_itself(rt: HostRuntime) -> Result<(), Fail> {
-    let file = "kind,id,f1,f2,f3
+",
+    },
+    Worked {
+        shows: "a penalised type that solves costs nothing itself",
+        options: "",
+        file: "kind,id,f1,f2,f3
 contest,c,Lucky Cup,1:00:00,
 type,OK,late but right,true,true
 type,WA,wrong,false,true
@@ -247,19 +233,17 @@ submission,t1,a,0:04:00,OK
 submission,t1,b,0:05:00,WA
 submission,t1,b,0:06:00,WA
 submission,t1,b,0:07:00,OK
-";
-    let board = "Lucky Cup
+",
+        board: "Lucky Cup
 Public board, contest time 1:00:00.000, ended
 Rank  Team   Solved    Time          A          B
    1  Seven       2      50       +1/3       +3/7
-";
-    assert_prints(&rt, "3, and 7 and twice 20", "", file.as_bytes(), board)?;
-    Ok(())
-}
-
-#[test]
-fn pending_attempts_before_the_accepted_one_stay(rt: HostRuntime) -> Result<(), Fail> {
-    let file = "kind,id,f1,f2,f3
+",
+    },
+    Worked {
+        shows: "pending attempts before the accepted one stay",
+        options: "",
+        file: "kind,id,f1,f2,f3
 contest,c,Waiting Cup,1:00:00,
 type,AC,right,true,false
 type,WA,wrong,false,true
@@ -271,20 +255,18 @@ submission,t2,a,0:02:00,WA
 submission,t2,a,0:03:00,
 submission,t2,a,0:08:00,AC
 submission,t1,a,0:28:00,AC
-";
-    let board = "Waiting Cup
+",
+        board: "Waiting Cup
 Public board, contest time 1:00:00.000, ended
 Rank  Team  Solved    Time          A
    1  Toad       1      28     +2/8?2
    2  Hare       1      28      +1/28
-";
-    assert_prints(&rt, "two pending, one wrong", "", file.as_bytes(), board)?;
-    Ok(())
-}
-
-#[test]
-fn pending_attempts_after_the_accepted_one_do_not_count(rt: HostRuntime) -> Result<(), Fail> {
-    let file = "kind,id,f1,f2,f3
+",
+    },
+    Worked {
+        shows: "pending attempts after the accepted one do not count",
+        options: "",
+        file: "kind,id,f1,f2,f3
 contest,c,Settled Cup,1:00:00,
 type,AC,right,true,false
 problem,a,A,Solved,0
@@ -294,19 +276,17 @@ submission,t1,a,0:03:00,AC
 submission,t1,a,0:04:00,
 submission,t1,b,0:05:00,
 submission,t1,b,0:06:00,
-";
-    let board = "Settled Cup
+",
+        board: "Settled Cup
 Public board, contest time 1:00:00.000, ended
 Rank  Team  Solved    Time          A          B
    1  Mole       1       3       +1/3         ?2
-";
-    assert_prints(&rt, "one pending late", "", file.as_bytes(), board)?;
-    Ok(())
-}
-
-#[test]
-fn a_second_accepted_attempt_changes_nothing(rt: HostRuntime) -> Result<(), Fail> {
-    let file = "kind,id,f1,f2,f3
+",
+    },
+    Worked {
+        shows: "a second accepted attempt changes nothing",
+        options: "",
+        file: "kind,id,f1,f2,f3
 contest,c,Again Cup,1:00:00,
 type,AC,right,true,false
 type,OK,right as well,true,false
@@ -318,20 +298,18 @@ submission,t1,a,0:40:00,AC
 submission,t1,a,0:50:00,OK
 submission,t2,a,0:11:00,OK
 submission,t2,a,0:12:00,AC
-";
-    let board = "Again Cup
+",
+        board: "Again Cup
 Public board, contest time 1:00:00.000, ended
 Rank  Team  Solved    Time          A
    1  Lynx       1      10      +1/10
    2  Boar       1      11      +1/11
-";
-    assert_prints(&rt, "accepted three times", "", file.as_bytes(), board)?;
-    Ok(())
-}
-
-#[test]
-fn earlier_times_are_raised_to_the_teams_last(rt: HostRuntime) -> Result<(), Fail> {
-    let file = "kind,id,f1,f2,f3
+",
+    },
+    Worked {
+        shows: "earlier times are raised to the teams last",
+        options: "",
+        file: "kind,id,f1,f2,f3
 contest,c,Raised Cup,1:00:00,
 type,AC,right,true,false
 type,WA,wrong,false,true
@@ -345,20 +323,18 @@ submission,t1,b,0:10:00,AC
 submission,t1,c,0:15:00,AC
 submission,t2,a,0:10:00,AC
 submission,t1,a,0:25:00,AC
-";
-    let board = "Raised Cup
+",
+        board: "Raised Cup
 Public board, contest time 1:00:00.000, ended
 Rank  Team   Solved    Time          A          B          C
    1  River       3      85      +2/25      +1/20      +1/20
    2  Stone       1      10      +1/10          .          .
-";
-    assert_prints(&rt, "10 and 15 raised to 20", "", file.as_bytes(), board)?;
-    Ok(())
-}
-
-#[test]
-fn minutes_are_rounded_down(rt: HostRuntime) -> Result<(), Fail> {
-    let file = "kind,id,f1,f2,f3
+",
+    },
+    Worked {
+        shows: "minutes are rounded down",
+        options: "",
+        file: "kind,id,f1,f2,f3
 contest,c,Minute Cup,0:10:00,
 type,AC,right,true,false
 problem,a,A,Only,0
@@ -368,21 +344,19 @@ team,t3,Dawn,,
 submission,t1,a,0:01:00.000,AC
 submission,t2,a,0:00:59.999,AC
 submission,t3,a,0:00:00,AC
-";
-    let board = "Minute Cup
+",
+        board: "Minute Cup
 Public board, contest time 0:10:00.000, ended
 Rank  Team  Solved    Time          A
    1  Dawn       1       0       +1/0
    1  Dusk       1       0       +1/0
    3  Noon       1       1       +1/1
-";
-    assert_prints(&rt, "minutes 0, 0 and 1", "", file.as_bytes(), board)?;
-    Ok(())
-}
-
-#[test]
-fn without_types_every_attempt_is_pending(rt: HostRuntime) -> Result<(), Fail> {
-    let file = "kind,id,f1,f2,f3
+",
+    },
+    Worked {
+        shows: "without types every attempt is pending",
+        options: "",
+        file: "kind,id,f1,f2,f3
 contest,c,Silent Cup,1:00:00,
 problem,a,A,First,0
 problem,b,B,Second,1
@@ -392,20 +366,18 @@ submission,t1,a,0:01:00,
 submission,t1,a,0:02:00,
 submission,t1,a,0:03:00,
 submission,t2,b,0:04:00,
-";
-    let board = "Silent Cup
+",
+        board: "Silent Cup
 Public board, contest time 1:00:00.000, ended
 Rank  Team  Solved    Time          A          B
    1  Bat        0       0          .         ?1
    1  Owl        0       0         ?3          .
-";
-    assert_prints(&rt, "no verdicts", "", file.as_bytes(), board)?;
-    Ok(())
-}
-
-#[test]
-fn a_team_without_attempts_shares_the_last_rank(rt: HostRuntime) -> Result<(), Fail> {
-    let file = "kind,id,f1,f2,f3
+",
+    },
+    Worked {
+        shows: "a team without attempts shares the last rank",
+        options: "",
+        file: "kind,id,f1,f2,f3
 contest,c,Quiet Cup,1:00:00,
 type,AC,right,true,false
 type,WA,wrong,false,true
@@ -418,22 +390,20 @@ team,t4,Swan,,
 submission,t2,a,0:10:00,WA
 submission,t3,b,0:20:00,
 submission,t4,b,0:59:00,AC
-";
-    let board = "Quiet Cup
+",
+        board: "Quiet Cup
 Public board, contest time 1:00:00.000, ended
 Rank  Team  Solved    Time          A          B
    1  Swan       1      59          .      +1/59
    2  Crow       0       0          .         ?1
    2  Kite       0       0         -1          .
    2  Wren       0       0          .          .
-";
-    assert_prints(&rt, "nothing solved", "", file.as_bytes(), board)?;
-    Ok(())
-}
-
-#[test]
-fn records_of_all_kinds_may_be_mixed(rt: HostRuntime) -> Result<(), Fail> {
-    let file = "kind,id,f1,f2,f3
+",
+    },
+    Worked {
+        shows: "records of all kinds may be mixed",
+        options: "",
+        file: "kind,id,f1,f2,f3
 contest,c,Mixed Cup,3:00:00,
 team,t1,Iris,,
 problem,b,B,Second,2
@@ -449,13 +419,21 @@ submission,t2,b,2:00:00,AC
 submission,t1,b,1:40:00,AC
 submission,t2,a,2:10:00,AC
 submission,t1,a,1:50:00,WA
-";
-    let board = "Mixed Cup
+",
+        board: "Mixed Cup
 Public board, contest time 3:00:00.000, ended
 Rank  Team  Solved    Time          A          B
    1  Rose       2     270     +2/130   +1/120?1
    2  Iris       1     120         -2     +2/100
-";
-    assert_prints(&rt, "definitions come late", "", file.as_bytes(), board)?;
+",
+    },
+];
+
+#[test]
+fn prints_the_boards_worked_by_hand(rt: HostRuntime) -> Result<(), Fail> {
+    for worked in &CONTESTS {
+        let file = worked.file.as_bytes();
+        assert_prints(&rt, worked.shows, worked.options, file, worked.board)?;
+    }
     Ok(())
 }

@@ -42,6 +42,19 @@ team,t3,Gamma,,
 team,t9,Staff,true,
 ";
 
+/// A file whose board was worked out by hand.
+#[derive(Clone, Copy)]
+pub struct Worked {
+    /// What it is there to show.
+    pub shows: &'static str,
+    /// The options, separated by single spaces.
+    pub options: &'static str,
+    /// The file.
+    pub file: &'static str,
+    /// The board that it must print.
+    pub board: &'static str,
+}
+
 /// What a call gave: its status, and what it wrote to standard output and to standard error.
 #[derive(Drop)]
 pub struct Answer {
