@@ -1,16 +1,16 @@
-//! A team submits: the worked examples of keys, times and refusals, through the rules, a store in
-//! memory and the value that is served.
+//! A team submits: the worked examples of keys and refusals, and the value that is served.
+
+ghost use Rattle.std.specs.Prelude.{◌≤◌};
 
 use crate::support::text_of;
 use contest_rules::{Decision, WantedSubmission, decide_submission};
-use contest_store::{MemoryRecords, Records};
 use contest_types::{
-    ContestHead, Entry, Fixed, Id, Language, Marks, Medals, Moment, Name, Problem, Refusal, Rows,
-    Settings, Submission, Team, TimeSpan,
+    ContestHead, Fixed, Id, Language, Marks, Medals, Moment, Name, Problem, Rows, Settings,
+    Submission, Team, TimeSpan,
 };
 use contest_view::{Audience, submission_value};
 use std::alloc::Global;
-use std::rc::Rc;
+use std::process::Abort;
 use std::test::Fail;
 
 /// 2024-03-02T09:00:00Z.
@@ -64,37 +64,50 @@ fn language(alloc: Global, text: &str, entry_point_required: bool) -> Result<Lan
     })
 }
 
-/// The demo contest with one problem and one team.
-fn settings(alloc: Global) -> Result<Settings, Fail> {
-    let mut settings = Settings::new(alloc, head(alloc)?)?;
-    settings.add_language(alloc, language(alloc, "cpp", false)?)?;
-    settings.add_language(alloc, language(alloc, "java", true)?)?;
-    let problem = Problem {
+fn apples(alloc: Global) -> Result<Problem, Fail> {
+    Ok(Problem {
         id: id(alloc, "a")?,
         label: name(alloc, "A")?,
         name: name(alloc, "Apples")?,
         ordinal: 0,
-    };
-    settings.add_problem(alloc, problem)?;
-    let team = Team {
+    })
+}
+
+fn alpha(alloc: Global) -> Result<Team, Fail> {
+    Ok(Team {
         id: id(alloc, "t1")?,
         name: name(alloc, "Alpha")?,
         groups: Rows::new(alloc),
         hidden: false,
-    };
-    settings.add_team(alloc, team)?;
+    })
+}
+
+/// Two languages, one problem and one team.
+fn fill(alloc: Global, settings: &mut Settings) -> Result<(), Fail> {
+    settings.add_language(alloc, language(alloc, "cpp", false)?)?;
+    settings.add_language(alloc, language(alloc, "java", true)?)?;
+    settings.add_problem(alloc, apples(alloc)?)?;
+    settings.add_team(alloc, alpha(alloc)?)?;
+    Ok(())
+}
+
+fn settings(alloc: Global) -> Result<Settings, Fail> {
+    let mut settings = Settings::new(alloc, head(alloc)?)?;
+    fill(alloc, &mut settings)?;
     Ok(settings)
 }
 
+/// The demo contest, which begins at nine o'clock.
 fn demo(alloc: Global) -> Result<Fixed, Fail> {
+    let marks = Marks {
+        start: Some(after(0)?),
+        thaw: None,
+        finalized: None,
+    };
     Ok(Fixed {
         settings: settings(alloc)?,
         accounts: Rows::new(alloc),
-        marks: Marks {
-            start: Some(after(0)?),
-            thaw: None,
-            finalized: None,
-        },
+        marks,
     })
 }
 
@@ -132,56 +145,78 @@ fn first(alloc: Global, fixed: &Fixed) -> Result<Submission, Fail> {
     }
 }
 
-#[test]
-fn decides_in_the_stated_order(rt: HostRuntime) -> Result<(), Fail> {
+/// What became of a request, as its minute, its problem, its language, its file and its key say.
+fn answer(
+    alloc: Global,
+    fixed: &Fixed,
+    own: &[Submission],
+    minutes: u32,
+    wanted: WantedSubmission,
+) -> Result<&'static str, Fail>
+    requires { minutes ≤ 600 }
+{
+    let now = after(minutes * 60_000)?;
+    Ok(told(decide_submission(fixed, own, now, 0, wanted)))
+}
+
+fn assert_decides(
+    rt: &(impl Abort + AllocGlobal),
+    fixed: &Fixed,
+    own: &[Submission],
+) -> Result<(), Fail> {
     let alloc = rt.alloc();
-    let fixed = demo(alloc)?;
-    let own = [first(alloc, &fixed)?];
-    for (problem, language, data, key, minutes, answer) in [
-        ("a", "cpp", b"abc", Some("k1"), 330, "stands"),
-        ("a", "cpp", b"abd", Some("k1"), 330, "KeyReused"),
-        ("z", "java", b"abc", Some("k1"), 330, "UnknownReference"),
-        ("a", "java", b"abc", Some("k1"), 330, "EntryPointMissing"),
-        ("a", "cpp", b"abc", Some("k2"), 300, "NotOpen"),
-        ("a", "cpp", b"abc", None, 299, "added"),
-    ] {
-        let wanted = wanted(alloc, problem, language, data, key)?;
-        let decision = decide_submission(&fixed, &own, after(minutes * 60_000)?, 0, wanted);
-        assert_eq!(rt; told(decision), answer, "{problem} {language} at {minutes}");
-    }
+    let same = wanted(alloc, "a", "cpp", b"abc", Some("k1"))?;
+    assert_eq!(rt; answer(alloc, fixed, own, 330, same)?, "stands");
+    let other = wanted(alloc, "a", "cpp", b"abd", Some("k1"))?;
+    assert_eq!(rt; answer(alloc, fixed, own, 330, other)?, "KeyReused");
+    let unknown = wanted(alloc, "z", "java", b"abc", Some("k1"))?;
+    assert_eq!(rt; answer(alloc, fixed, own, 330, unknown)?, "UnknownReference");
+    Ok(())
+}
+
+fn assert_keeps_the_clock(
+    rt: &(impl Abort + AllocGlobal),
+    fixed: &Fixed,
+    own: &[Submission],
+) -> Result<(), Fail> {
+    let alloc = rt.alloc();
+    let java = wanted(alloc, "a", "java", b"abc", None)?;
+    assert_eq!(rt; answer(alloc, fixed, own, 330, java)?, "EntryPointMissing");
+    let late = wanted(alloc, "a", "cpp", b"abc", Some("k2"))?;
+    assert_eq!(rt; answer(alloc, fixed, own, 300, late)?, "NotOpen");
+    let last = wanted(alloc, "a", "cpp", b"abc", None)?;
+    assert_eq!(rt; answer(alloc, fixed, own, 299, last)?, "added");
+    Ok(())
+}
+
+fn assert_served(
+    rt: &(impl Abort + AllocGlobal),
+    fixed: &Fixed,
+    submission: &Submission,
+    audience: Audience,
+    text: &str,
+) -> Result<(), Fail> {
+    let value = submission_value(rt.alloc(), fixed, audience, submission)?;
+    let bytes = value.to_vec(rt.alloc())?;
+    assert_eq!(rt; text_of(&bytes), text);
+    Ok(())
+}
+
+const OWN: &str = "{\"contest_time\":\"0:05:00.000\",\"files\":[{\"href\":\"contests/demo/submissions/s1-1/files\",\"mime\":\"application/zip\"}],\"id\":\"s1-1\",\"language_id\":\"cpp\",\"problem_id\":\"a\",\"team_id\":\"t1\",\"time\":\"2024-03-02T09:05:00.000+00:00\"}";
+
+const OTHERS: &str = "{\"contest_time\":\"0:05:00.000\",\"id\":\"s1-1\",\"language_id\":\"cpp\",\"problem_id\":\"a\",\"team_id\":\"t1\",\"time\":\"2024-03-02T09:05:00.000+00:00\"}";
+
+fn assert_submits(rt: &(impl Abort + AllocGlobal), fixed: &Fixed) -> Result<(), Fail> {
+    let own = [first(rt.alloc(), fixed)?];
+    assert_decides(rt, fixed, &own)?;
+    assert_keeps_the_clock(rt, fixed, &own)?;
+    assert_served(rt, fixed, &own[0], Audience::Team(1), OWN)?;
+    assert_served(rt, fixed, &own[0], Audience::Public, OTHERS)?;
     Ok(())
 }
 
 #[test]
-fn counts_as_of_the_last_where_that_is_later(rt: HostRuntime) -> Result<(), Fail> {
-    let alloc = rt.alloc();
-    let fixed = demo(alloc)?;
-    let own = [first(alloc, &fixed)?];
-    let wanted = wanted(alloc, "a", "cpp", b"", None)?;
-    match decide_submission(&fixed, &own, after(299_000)?, 0, wanted) {
-        Decision::Add(second) => {
-            assert_eq!(rt; second.number, 2);
-            assert_eq!(rt; second.time, own[0].time);
-        }
-        _ => assert!(rt; false, "the second submission isn't taken"),
-    }
-    Ok(())
-}
-
-#[test]
-fn keeps_and_serves_a_submission(rt: HostRuntime) -> Result<(), Fail> {
-    let alloc = rt.alloc();
-    let fixed = demo(alloc)?;
-    let submission = first(alloc, &fixed)?;
-    let own = submission_value(alloc, &fixed, Audience::Team(1), &submission)?.to_vec(alloc)?;
-    assert_eq!(rt;
-        text_of(&own),
-        "{\"contest_time\":\"0:05:00.000\",\"files\":[{\"href\":\"contests/demo/submissions/s1-1/files\",\"mime\":\"application/zip\"}],\"id\":\"s1-1\",\"language_id\":\"cpp\",\"problem_id\":\"a\",\"team_id\":\"t1\",\"time\":\"2024-03-02T09:05:00.000+00:00\"}"
-    );
-    let public = submission_value(alloc, &fixed, Audience::Public, &submission)?.to_vec(alloc)?;
-    assert_eq!(rt;
-        text_of(&public),
-        "{\"contest_time\":\"0:05:00.000\",\"id\":\"s1-1\",\"language_id\":\"cpp\",\"problem_id\":\"a\",\"team_id\":\"t1\",\"time\":\"2024-03-02T09:05:00.000+00:00\"}"
-    );
-    Ok(())
+fn submits(rt: HostRuntime) -> Result<(), Fail> {
+    let fixed = demo(rt.alloc())?;
+    assert_submits(&rt, &fixed)
 }
