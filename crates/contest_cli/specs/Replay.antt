@@ -74,7 +74,7 @@ pub record Replays (words : List Text) (in_old in_new out_old out_new err_old er
       × Appends out_old.bytes out_new.bytes text × Keeps err_old.bytes err_new.bytes
   pub refused : status ≡ 1 → (stop : Stop) × (status_of stop ≡ 1) × Tells err_old err_new (line_of stop)
       × ((StopsBy words in_old in_new stop × Keeps out_old.bytes out_new.bytes)
-        ⊎ ((stop ≡ File) × CutsOff words in_old.bytes out_old out_new))
+      ⊎ ((stop ≡ File) × CutsOff words in_old.bytes out_old out_new))
   pub faulty : status ≡ 2 → HasFault words × Keeps out_old.bytes out_new.bytes
       × (text : List ℕ) × Tells err_old err_new text
 

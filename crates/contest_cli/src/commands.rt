@@ -63,9 +63,9 @@ fn run_owned<R: Read, O: Write, E: Write>(
     ensures statuses { result ≤ 2 }
     ensures replay { IsReplay (map string_bytes words.now)
         → Replays (map string_bytes words.now)
-            (stream R.remaining reader.old) (stream R.remaining reader.new)
-            (stream O.contents out.old) (stream O.contents out.new)
-            (stream E.contents err.old) (stream E.contents err.new) result }
+        (stream R.remaining reader.old) (stream R.remaining reader.new)
+        (stream O.contents out.old) (stream O.contents out.new)
+        (stream E.contents err.old) (stream E.contents err.new) result }
     ensures unknown { NamesNone (map string_bytes words.now) → 1 ≤ result }
 {
     match borrowed(alloc, words) {
@@ -110,9 +110,9 @@ pub fn run<R: Read, O: Write, E: Write>(
     ensures statuses { result ≤ 2 }
     ensures replay { IsReplay (map (λ s. s.now) words.now)
         → Replays (map (λ s. s.now) words.now)
-            (stream R.remaining reader.old) (stream R.remaining reader.new)
-            (stream O.contents out.old) (stream O.contents out.new)
-            (stream E.contents err.old) (stream E.contents err.new) result }
+        (stream R.remaining reader.old) (stream R.remaining reader.new)
+        (stream O.contents out.old) (stream O.contents out.new)
+        (stream E.contents err.old) (stream E.contents err.new) result }
     ensures unknown { NamesNone (map (λ s. s.now) words.now) → 1 ≤ result }
 {
     if words.is_empty() {
@@ -156,7 +156,11 @@ fn show<O: Write, E: Write>(text: &str, out: &mut Counted<O>, err: &mut Counted<
 }
 
 // Writes the help of `replay`.
-fn show_replay_help<O: Write, E: Write>(alloc: Global, out: &mut Counted<O>, err: &mut Counted<E>) -> u8
+fn show_replay_help<O: Write, E: Write>(
+    alloc: Global,
+    out: &mut Counted<O>,
+    err: &mut Counted<E>,
+) -> u8
     ensures { result ≤ 2 }
 {
     match replay_help(alloc) {

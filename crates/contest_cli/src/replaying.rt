@@ -9,8 +9,8 @@ use crate::output::write_whole;
 use crate::stop::Stop;
 use crate::text::replay_text;
 use crate::words::{Options, read_words};
-use contest_types::{Counted, RelTime};
 use contest_types::limits::IMPORTED_FILE;
+use contest_types::{Counted, RelTime};
 use std::alloc::{AllocError, Global};
 use std::io::{Read, Write};
 
@@ -40,7 +40,11 @@ pub fn replay<R: Read, O: Write, E: Write>(
 
 // The text of the board that the words ask for, or the first fault of the words, of the stream or of
 // what it holds.
-fn board_text<R: Read>(alloc: Global, words: &[&str], reader: &mut Counted<R>) -> Result<String, Stop>
+fn board_text<R: Read>(
+    alloc: Global,
+    words: &[&str],
+    reader: &mut Counted<R>,
+) -> Result<String, Stop>
     ensures ok { IfOk result (λ text. Gives (map (λ s. s.now) words.now) (R.remaining reader.old.inner) (Ok (string_bytes text))) }
     ensures err { IfErr result (StopsBy (map (λ s. s.now) words.now) (stream R.remaining reader.old) (stream R.remaining reader.new)) }
 {

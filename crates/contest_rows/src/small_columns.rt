@@ -37,13 +37,13 @@ contest,c,Namesake Cup,1:00:00,
 type,WA,wrong,false,true
 problem,p,P,Only,0
 team,t2,Same,,
-team,T3,Same,,
+team,S3,Same,,
 team,t10,Same,,
 team,_t,Same,,
 team,.x,Same,,
 submission,t2,p,0:01:00,
-submission,T3,p,0:02:00,
-submission,T3,p,0:03:00,
+submission,S3,p,0:02:00,
+submission,S3,p,0:03:00,
 submission,t10,p,0:04:00,WA
 submission,_t,p,0:05:00,WA
 submission,_t,p,0:06:00,

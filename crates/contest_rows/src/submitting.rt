@@ -111,7 +111,13 @@ fn demo(alloc: Global) -> Result<Fixed, Fail> {
     })
 }
 
-fn wanted(alloc: Global, problem: &str, language: &str, data: &[u8], key: Option<&str>) -> Result<WantedSubmission, Fail> {
+fn wanted(
+    alloc: Global,
+    problem: &str,
+    language: &str,
+    data: &[u8],
+    key: Option<&str>,
+) -> Result<WantedSubmission, Fail> {
     let mut file = Vec::new(alloc);
     file.extend_from_slice(data)?;
     let key = match key {
@@ -170,7 +176,10 @@ fn assert_decides(
     let other = wanted(alloc, "a", "cpp", b"abd", Some("k1"))?;
     assert_eq!(rt; answer(alloc, fixed, own, 330, other)?, "KeyReused");
     let unknown = wanted(alloc, "z", "java", b"abc", Some("k1"))?;
-    assert_eq!(rt; answer(alloc, fixed, own, 330, unknown)?, "UnknownReference");
+    assert_eq!(rt;
+        answer(alloc, fixed, own, 330, unknown)?,
+        "UnknownReference"
+    );
     Ok(())
 }
 
@@ -202,9 +211,11 @@ fn assert_served(
     Ok(())
 }
 
-const OWN: &str = "{\"contest_time\":\"0:05:00.000\",\"files\":[{\"href\":\"contests/demo/submissions/s1-1/files\",\"mime\":\"application/zip\"}],\"id\":\"s1-1\",\"language_id\":\"cpp\",\"problem_id\":\"a\",\"team_id\":\"t1\",\"time\":\"2024-03-02T09:05:00.000+00:00\"}";
+const OWN: &str =
+    "{\"contest_time\":\"0:05:00.000\",\"files\":[{\"href\":\"contests/demo/submissions/s1-1/files\",\"mime\":\"application/zip\"}],\"id\":\"s1-1\",\"language_id\":\"cpp\",\"problem_id\":\"a\",\"team_id\":\"t1\",\"time\":\"2024-03-02T09:05:00.000+00:00\"}";
 
-const OTHERS: &str = "{\"contest_time\":\"0:05:00.000\",\"id\":\"s1-1\",\"language_id\":\"cpp\",\"problem_id\":\"a\",\"team_id\":\"t1\",\"time\":\"2024-03-02T09:05:00.000+00:00\"}";
+const OTHERS: &str =
+    "{\"contest_time\":\"0:05:00.000\",\"id\":\"s1-1\",\"language_id\":\"cpp\",\"problem_id\":\"a\",\"team_id\":\"t1\",\"time\":\"2024-03-02T09:05:00.000+00:00\"}";
 
 fn assert_submits(rt: &(impl Abort + AllocGlobal), fixed: &Fixed) -> Result<(), Fail> {
     let own = [first(rt.alloc(), fixed)?];

@@ -65,7 +65,7 @@ taken_to : (f : FixedPart) (now team : ℕ) (own : List Submission) (w : WantedS
     → submit_to f now team own problem language w ≡ Add s → Taken f now team own w s
 taken_to f now team own w s problem language p l =
     let go : (o : Option ℕ) → place_of_key w.key own ≡ o
-    → (elim o [ | (Some place) ↦ repeated own place problem language w | None ↦ fresh f now team own problem language w ]) ≡ Add s → Taken f now team own w s =
+    → (elim o [ (Some place) ↦ repeated own place problem language w | None ↦ fresh f now team own problem language w ]) ≡ Add s → Taken f now team own w s =
     elim [
       | (Some place) ↦ λ k e. absurd (no_repeat _ place s e)
       | None ↦ λ k e. (let t = fresh_taken _ _ _ s e in record { problem = problem; language = language; is_problem = p; is_language = l; new_key = k; takes = t.0; room = t.1; is = t.2 })
@@ -78,10 +78,10 @@ taken f now team own w s =
     → (if lacks then Refused EntryPointMissing else submit_to f now team own problem language w) ≡ Add s → Taken f now team own w s =
     λ problem language p l. elim [ true ↦ λ e. absurd (cc e) | false ↦ λ e. taken_to f now team own w s problem language p l e ] in
     let spoken : (problem : ℕ) → place_of w.problem (problem_ids f) ≡ Some problem → (o : Option ℕ) → place_of w.language (language_ids f) ≡ o
-    → (elim o [ | None ↦ Refused UnknownReference | (Some language) ↦ if lacks_entry_point f language w.entry_point then Refused EntryPointMissing else submit_to f now team own problem language w ]) ≡ Add s → Taken f now team own w s =
+    → (elim o [ None ↦ Refused UnknownReference | (Some language) ↦ if lacks_entry_point f language w.entry_point then Refused EntryPointMissing else submit_to f now team own problem language w ]) ≡ Add s → Taken f now team own w s =
     λ problem p. elim [ None ↦ λ l e. absurd (cc e) | (Some language) ↦ λ l e. complete problem language p l (lacks_entry_point f language w.entry_point) e ] in
     let go : (o : Option ℕ) → place_of w.problem (problem_ids f) ≡ o
-    → (elim o [ | None ↦ Refused UnknownReference | (Some problem) ↦ elim (place_of w.language (language_ids f)) [ | None ↦ Refused UnknownReference | (Some language) ↦ if lacks_entry_point f language w.entry_point then Refused EntryPointMissing else submit_to f now team own problem language w ] ]) ≡ Add s → Taken f now team own w s =
+    → (elim o [ None ↦ Refused UnknownReference | (Some problem) ↦ elim (place_of w.language (language_ids f)) [ None ↦ Refused UnknownReference | (Some language) ↦ if lacks_entry_point f language w.entry_point then Refused EntryPointMissing else submit_to f now team own problem language w ] ]) ≡ Add s → Taken f now team own w s =
     elim [ None ↦ λ p e. absurd (cc e) | (Some problem) ↦ λ p e. spoken problem p (place_of w.language (language_ids f)) refl e ] in
     go (place_of w.problem (problem_ids f)) refl
 

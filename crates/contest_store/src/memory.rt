@@ -178,7 +178,12 @@ impl Records for MemoryRecords {
         }
     }
 
-    fn file(&mut self, alloc: Global, team: usize, number: usize) -> Result<Option<Rows<u8>>, Refusal> {
+    fn file(
+        &mut self,
+        alloc: Global,
+        team: usize,
+        number: usize,
+    ) -> Result<Option<Rows<u8>>, Refusal> {
         if self.fails() {
             return Err(Refusal::StoreFault);
         }
@@ -243,9 +248,7 @@ fn without_file(alloc: Global, submission: &Submission) -> Result<Submission, Al
 fn with_number(submissions: &[Submission], team: usize, number: usize) -> Option<&Submission>
     ensures { option_map (λ s. s.now) result ≡ find (λ s. (s.team == team) && (s.number == number)) submissions.now }
 {
-    submissions
-        .iter()
-        .find(|submission| submission.team == team && submission.number == number)
+    submissions.iter().find(|submission| submission.team == team && submission.number == number)
 }
 
 fn copy(alloc: Global, bytes: &[u8]) -> Result<Rows<u8>, AllocError>

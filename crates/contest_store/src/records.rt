@@ -61,7 +61,12 @@ pub trait Records {
 
     /// The file of the submission with a number, from 1, of the team at a place, from 0; none where
     /// there is no such submission.
-    fn file(&mut self, alloc: Global, team: usize, number: usize) -> Result<Option<Rows<u8>>, Refusal>
+    fn file(
+        &mut self,
+        alloc: Global,
+        team: usize,
+        number: usize,
+    ) -> Result<Option<Rows<u8>>, Refusal>
         ensures value { is_clean self.new → IfOk result (λ found. found ≡ file_of (contest self.old) team number) }
         ensures ok { is_clean self.new → OnOk result (Shows contest committed is_open self.new (contest self.old) (committed self.old)) }
         ensures err { is_clean self.new → IsTrue (is_open self.new) → OnErr result (RollsBack contest committed is_open self.old self.new) }

@@ -5,9 +5,9 @@ ghost use Rattle.std.specs.Str.Parse.{IsNumeral, digits_value};
 ghost use Rattle.contest_types.specs.RelTimeRead.{reltime_of};
 ghost use Rattle.contest_types.specs.RelTimeText.{farthest, AreDigits, Field, IsSplit, IsClock, IsRelTimeText, sign, rel_time_text, clock_text};
 
+use crate::Moment;
 use crate::backwards::Backwards;
 use crate::decimal::decimal_number;
-use crate::Moment;
 use crate::limits::LAST_MOMENT;
 use std::marker::Model;
 

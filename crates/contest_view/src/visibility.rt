@@ -40,11 +40,7 @@ fn has_come(moment: Option<u64>, now: Moment) -> bool
 
 /// Whether a caller sees a team's submissions: the jury sees all, a team its own, and anyone those
 /// of a team that isn't hidden (DOMjudge manual, "Scoreboard"). It takes no memory.
-pub fn sees_submission(
-    audience: Audience,
-    settings: &Settings,
-    submission: &Submission,
-) -> bool
+pub fn sees_submission(audience: Audience, settings: &Settings, submission: &Submission) -> bool
     ensures { (x : ContestState) → x.fixed.settings ≡ settings.now → result ≡ sees_submission audience x submission.now }
 {
     knows_all_of(audience, submission.team) || is_public(settings, submission.team)
