@@ -43,6 +43,13 @@ impl<T> Rows<T> {
     {
         self.items.as_slice()
     }
+
+    /// The vector of the rows.
+    pub fn into_vec(self) -> Vec<T>
+        ensures { result.items ≡ self }
+    {
+        self.items
+    }
 }
 
 impl<T: Drop> Rows<T> {

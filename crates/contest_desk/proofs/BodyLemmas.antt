@@ -1,0 +1,82 @@
+-- Readings that give no value.
+use Rattle.std.proofs.Common.{◌≡◌, ℕ, List, [], ◌∷◌, length, Bool, true, false, true≢false, Option, Some, None, Ok, Err, IsNone, option_and_then, option_map, map, codes, inl, inr, refl}
+use Rattle.std.specs.Str.{is_utf8, IsUtf8}
+use Rattle.std.proofs.lemmas.Str.{is_utf8-from_IsUtf8, IsUtf8-from_is_utf8}
+use Rattle.serde_json.specs.Data.{Data}
+use Rattle.serde_json.specs.Read.{read}
+use Rattle.serde_json.specs.View.{view, items_of}
+use Rattle.serde_json.specs.declared.value.Value.{Value}
+use Rattle.base64.specs.GeneralPurpose.{decode_of, decoded_of, IsDecodeFailure}
+use Rattle.base64.specs.declared.decode.DecodeAllocError.{DecodeAllocError}
+use Rattle.base64.specs.declared.decode.DecodeAllocError.TheVariants.{DecodeError as Failed}
+use Rattle.base64.specs.declared.decode.DecodeError.{DecodeError}
+use Rattle.base64.specs.declared.engine.general_purpose.GeneralPurpose.{GeneralPurpose}
+use Rattle.contest_desk.specs.JsonBodies.{data_of, only_item, id_in, optional_id_in}
+use Rattle.contest_desk.specs.SubmissionBodies.{entry_point_in, file_in, submission_of}
+use Rattle.contest_desk.specs.JsonBodies.{IsRefused}
+use Rattle.contest_types.specs.declared.refusal.Refusal.{Refusal}
+
+-- a text is read
+pub data_of_text : (bytes : List ℕ) → IsUtf8 bytes → data_of bytes ≡ read bytes
+unfolding data_of
+data_of_text bytes text = rw (is_utf8-from_IsUtf8 bytes text) refl
+
+data_of_none_at : (bytes : List ℕ) (b : Bool) → is_utf8 bytes ≡ b → (IsUtf8 bytes → read bytes ≡ None) → IsNone (data_of bytes)
+unfolding data_of
+data_of_none_at bytes true is none = rw (is, none (IsUtf8-from_is_utf8 bytes is)) refl
+data_of_none_at bytes false is none = rw is refl
+
+-- bytes that are no text, or no JSON
+pub data_of_none : (bytes : List ℕ) → (IsUtf8 bytes → read bytes ≡ None) → IsNone (data_of bytes)
+data_of_none bytes none = data_of_none_at bytes (is_utf8 bytes) refl none
+
+pub decoded_of_ok : (e : GeneralPurpose) (s v : List ℕ) → decode_of e s ≡ Ok v → decoded_of e s ≡ Some v
+unfolding decoded_of
+decoded_of_ok e s v is = rw is refl
+
+pub decoded_of_err : (e : GeneralPurpose) (s : List ℕ) (f : DecodeAllocError) (d : DecodeError) → f ≡ Failed d → IsDecodeFailure e s f → IsNone (decoded_of e s)
+unfolding decoded_of
+decoded_of_err e s f d is failure = let err : decode_of e s ≡ Err d = rw is at failure in rw err refl
+
+-- no one item
+pub only_item-none : (vs : List Value) → (length vs ≡ 1 → ⊥) → only_item (items_of (map view vs)) ≡ None
+only_item-none [] other = refl
+only_item-none (v ∷ []) other = absurd (other refl)
+only_item-none (v ∷ w ∷ vs) other = refl
+
+-- what comes after a refused reading is refused too
+refused_then : {A B : Type 0} (r : Refusal) (f : A → Option B) (o : Option A) → IsRefused r o → IsRefused r (option_and_then f o)
+refused_then r f o (inl memory) = inl memory
+refused_then r f None (inr malformed) = inr malformed
+refused_then r f (Some x) (inr malformed) = absurd (true≢false malformed.1)
+
+refused_map : {A B : Type 0} (r : Refusal) (f : A → B) (o : Option A) → IsRefused r o → IsRefused r (option_map f o)
+refused_map r f o (inl memory) = inl memory
+refused_map r f None (inr malformed) = inr malformed
+refused_map r f (Some x) (inr malformed) = absurd (true≢false malformed.1)
+
+-- the members of a submission, one after another
+pub submission_problem : (r : Refusal) (d : Data) → IsRefused r (id_in (codes "problem_id") d) → IsRefused r (submission_of d)
+unfolding submission_of
+submission_problem r d refused = refused_then r _ (id_in (codes "problem_id") d) refused
+
+pub submission_language : (r : Refusal) (d : Data) (p : List ℕ) → id_in (codes "problem_id") d ≡ Some p → IsRefused r (id_in (codes "language_id") d) → IsRefused r (submission_of d)
+unfolding submission_of
+submission_language r d p has_p refused = rw has_p (refused_then r _ (id_in (codes "language_id") d) refused)
+
+pub submission_entry : (r : Refusal) (d : Data) (p l : List ℕ) → id_in (codes "problem_id") d ≡ Some p → id_in (codes "language_id") d ≡ Some l → IsRefused r (entry_point_in d) → IsRefused r (submission_of d)
+unfolding submission_of
+submission_entry r d p l has_p has_l refused = rw (has_p, has_l) (refused_then r _ (entry_point_in d) refused)
+
+pub submission_team : (r : Refusal) (d : Data) (p l : List ℕ) (e : Option (List ℕ)) → id_in (codes "problem_id") d ≡ Some p → id_in (codes "language_id") d ≡ Some l → entry_point_in d ≡ Some e → IsRefused r (optional_id_in (codes "team_id") d) → IsRefused r (submission_of d)
+unfolding submission_of
+submission_team r d p l e has_p has_l has_e refused = rw (has_p, has_l, has_e) (refused_then r _ (optional_id_in (codes "team_id") d) refused)
+
+pub submission_file : (r : Refusal) (d : Data) (p l : List ℕ) (e t : Option (List ℕ)) → id_in (codes "problem_id") d ≡ Some p → id_in (codes "language_id") d ≡ Some l → entry_point_in d ≡ Some e → optional_id_in (codes "team_id") d ≡ Some t → IsRefused r (file_in d) → IsRefused r (submission_of d)
+unfolding submission_of
+submission_file r d p l e t has_p has_l has_e has_t refused = rw (has_p, has_l, has_e, has_t) (refused_map r _ (file_in d) refused)
+
+pub submission_whole : (d : Data) (p l : List ℕ) (e t : Option (List ℕ)) (f : List ℕ) → id_in (codes "problem_id") d ≡ Some p → id_in (codes "language_id") d ≡ Some l → entry_point_in d ≡ Some e → optional_id_in (codes "team_id") d ≡ Some t → file_in d ≡ Some f
+    → submission_of d ≡ Some (record { problem = p; language = l; entry_point = e; team = t; file = f })
+unfolding submission_of
+submission_whole d p l e t f has_p has_l has_e has_t has_f = rw (has_p, has_l, has_e, has_t, has_f) refl

@@ -1,0 +1,3 @@
+pub mod RefusalTexts
+pub mod RouteLemmas
+pub mod BodyLemmas

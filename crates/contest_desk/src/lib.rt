@@ -1,0 +1,18 @@
+//! The contest desk: a request in, its reply out, and what it adds to the contest kept.
+#![tactic(auto)]
+
+mod caller;
+mod json_body;
+mod offer;
+mod path;
+mod refusal_text;
+mod reply;
+mod request;
+mod route;
+mod routes;
+mod submission_body;
+
+pub use offer::{AllowedMethods, Operation};
+pub use reply::{ContentType, ExtraField, Reply, ReplyBody};
+pub use request::{Credential, KeyField, Method, Request};
+pub use route::Route;

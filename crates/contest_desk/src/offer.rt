@@ -1,0 +1,60 @@
+//! What may be asked on each route, and by whom.
+ghost use Rattle.std.specs.Prelude.{◌≡◌};
+ghost use Rattle.contest_desk.specs.Offers.{allowed_on, methods_text, operation_of};
+
+use crate::{Method, Route};
+
+/// What a request asks for.
+#[derive(Clone, Copy, Debug, PartialEq, Eq)]
+pub enum Operation {
+    /// The submissions that the caller sees.
+    ListSubmissions,
+    /// To submit.
+    PostSubmission,
+    /// One submission.
+    GetSubmission,
+}
+
+/// The methods of a route, as an `Allow` field lists them.
+#[derive(Clone, Copy, Debug, PartialEq, Eq)]
+pub enum AllowedMethods {
+    /// `GET`.
+    Get,
+    /// `GET, POST`.
+    GetPost,
+}
+
+impl AllowedMethods {
+    /// The value of the `Allow` field (RFC 9110, section 10.2.1).
+    pub fn text(self) -> &'static str
+        ensures { result.now ≡ methods_text self }
+    {
+        match self {
+            AllowedMethods::Get => "GET",
+            AllowedMethods::GetPost => "GET, POST",
+        }
+    }
+}
+
+/// The methods that a route offers; none where nothing is served there yet.
+pub fn allowed_on(route: Route) -> Option<AllowedMethods>
+    ensures { result ≡ allowed_on route }
+{
+    match route {
+        Route::Submissions => Some(AllowedMethods::GetPost),
+        Route::Submission => Some(AllowedMethods::Get),
+        _ => None,
+    }
+}
+
+/// What a method asks for on a route; none where the route doesn't offer it.
+pub fn operation_of(route: Route, method: Method) -> Option<Operation>
+    ensures { result ≡ operation_of route method }
+{
+    match (route, method) {
+        (Route::Submissions, Method::Get) => Some(Operation::ListSubmissions),
+        (Route::Submissions, Method::Post) => Some(Operation::PostSubmission),
+        (Route::Submission, Method::Get) => Some(Operation::GetSubmission),
+        _ => None,
+    }
+}

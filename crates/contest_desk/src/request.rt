@@ -1,0 +1,52 @@
+//! What the desk is asked.
+use contest_types::{Id, Rows};
+
+/// The method of a request (RFC 9110, section 9), as far as the desk tells them apart.
+#[derive(Clone, Copy, Debug, PartialEq, Eq)]
+pub enum Method {
+    /// `GET`.
+    Get,
+    /// `HEAD`.
+    Head,
+    /// `POST`.
+    Post,
+    /// `PATCH` (RFC 5789).
+    Patch,
+    /// Any other.
+    Other,
+}
+
+/// The field `Idempotency-Key` of a request.
+#[derive(Debug, Drop)]
+pub enum KeyField {
+    /// There is none.
+    Absent,
+    /// There is one, an id.
+    Key(Id),
+    /// There are several, or what it says is no id.
+    Bad,
+}
+
+/// A request.
+#[derive(Debug, Drop)]
+pub struct Request {
+    /// Its method.
+    pub method: Method,
+    /// The bytes of its path, without a query.
+    pub path: Rows<u8>,
+    /// Its idempotency key.
+    pub key: KeyField,
+    /// The bytes of its body.
+    pub body: Rows<u8>,
+}
+
+/// What the field `Authorization` of a request gives (RFC 6750, section 2.1).
+#[derive(Debug, Drop)]
+pub enum Credential {
+    /// There is none: the caller is the public.
+    Absent,
+    /// The bytes of a bearer token.
+    Token(Rows<u8>),
+    /// There are several, or it gives no token.
+    Bad,
+}
