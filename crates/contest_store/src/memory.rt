@@ -1,7 +1,7 @@
 //! A contest in memory: for tests of what stands above a store.
 ghost use Rattle.std.specs.Prelude.{◌≡◌, ◌≤◌, ◌==◌, ◌&&◌, IfOk, IfErr, IsTrue, OnErr, OnOk, [], ◌∷◌, ◌++◌, false, length, map, take, find, option_map};
 ghost use Rattle.contest_store.specs.InMemory.{contest_of, committed_of, counted, rolled_back, with_submissions};
-ghost use Rattle.contest_store.specs.Loads.{file_of, without_file};
+ghost use Rattle.contest_types.specs.Loads.{file_of, without_file};
 ghost use Rattle.contest_types.specs.State.{add};
 ghost use Rattle.contest_types.specs.declared.entry.Entry.TheVariants.{NewSubmission};
 ghost use Rattle.contest_types.specs.Streams.{one_more};

@@ -3,7 +3,7 @@ ghost use Rattle.std.specs.Prelude.{◌≡◌, ℕ, Bool, true, Option, IsTrue, 
 ghost use Rattle.contest_types.specs.State.{ContestState, add};
 ghost use Rattle.contest_types.specs.Addable.{is_addable};
 ghost use Rattle.contest_store.specs.Keeping.{Shows, RollsBack, LeavesOnly, LeavesNoMore, LeavesOr, CountsFaults};
-ghost use Rattle.contest_store.specs.Loads.{loaded_submissions, file_of};
+ghost use Rattle.contest_types.specs.Loads.{loaded_submissions, file_of};
 
 use contest_types::{Entry, Fixed, Refusal, Rows, Submission};
 use std::alloc::Global;

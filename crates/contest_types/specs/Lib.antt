@@ -25,5 +25,6 @@ pub mod ValidSubmissions
 pub mod ValidClarifications
 pub mod ValidRejudgings
 pub mod Valid
+pub mod Loads
 pub mod Addable
 pub mod Laws

@@ -1,2 +1,5 @@
 pub mod Objects
 pub mod Members
+pub mod Items
+pub mod Reads
+pub mod Keys

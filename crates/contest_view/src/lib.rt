@@ -2,9 +2,13 @@
 #![tactic(auto)]
 
 mod members;
+mod submission_id;
 mod submission_object;
+mod submission_order;
+mod submissions;
 mod visibility;
 
 pub use contest_types::{Audience, Phase};
 pub use submission_object::submission_value;
+pub use submissions::{submission_by_id, submissions_value};
 pub use visibility::{phase, seen_verdict, sees_submission};

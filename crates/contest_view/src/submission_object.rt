@@ -1,14 +1,16 @@
 //! Submissions as they are served.
-ghost use Rattle.std.specs.Prelude.{◌≡◌, ◌++◌, IfOk, None, Some, codes, if◌then◌else◌, option_map, string_bytes};
+ghost use Rattle.std.specs.Prelude.{◌≡◌, ◌++◌, IfOk, None, Some, codes, false, if◌then◌else◌, option_map, string_bytes};
 ghost use Rattle.std.specs.Option.{option_and_then};
 ghost use Rattle.std.specs.Fmt.{decimal};
 ghost use Rattle.serde_json.specs.Data.{object, string};
 ghost use Rattle.serde_json.specs.View.{view};
+ghost use Rattle.serde_json.specs.Written.{has_float};
 ghost use Rattle.contest_types.specs.Sight.{program_for};
 ghost use Rattle.contest_types.specs.TeamPlaces.{team_id_at};
 ghost use Rattle.contest_view.specs.Objects.{contest_time_data, file_array, files_data, files_path, language_id_at, problem_id_at, submission_data, submission_id, submission_members};
 
 use crate::members::{moment_value, put_text, put_where, reltime_value};
+use crate::submission_id::submission_id;
 use contest_types::{Audience, Fixed, Moment, Name, Settings, Submission, knows_all_of};
 use serde_json::{Map, Value, json, put};
 use std::alloc::{AllocError, Global};
@@ -33,18 +35,20 @@ struct Members<'a> {
 /// # Errors
 ///
 /// Want of memory alone.
+#[tactic(auto, using(crate::proofs::ObjectLemmas::has_no_float))]
 pub fn submission_value(
     alloc: Global,
     fixed: &Fixed,
     audience: Audience,
     submission: &Submission,
 ) -> Result<Value, AllocError>
-    ensures { IfOk result (λ v. view v ≡ submission_data fixed.now submission.now.team submission.now.number submission.now.time
+    ensures value { IfOk result (λ v. view v ≡ submission_data fixed.now submission.now.team submission.now.number submission.now.time
         submission.now.problem submission.now.language (program_for audience submission.now)) }
+    ensures no_floats { IfOk result (λ v. has_float (view v) ≡ false) }
 {
     let settings = &fixed.settings;
     let shown = knows_all_of(audience, submission.team);
-    let id = submission_id(alloc, submission.team, submission.number)?;
+    let id = submission_id(submission.team, submission.number);
     let members = Members {
         contest_time: contest_time_value(alloc, fixed.marks.start, submission.time)?,
         entry_point: entry_point_where(alloc, shown, &submission.entry_point)?,
@@ -74,19 +78,6 @@ fn object_of(alloc: Global, shown: Members<'_>) -> Result<Value, AllocError>
     put_text(&mut members, alloc, "team_id", shown.team)?;
     put(&mut members, alloc, "time", shown.time)?;
     Ok(Value::Object(members))
-}
-
-/// The id of a submission: `s<team number>-<number>`, teams numbered from 1 (own).
-pub fn submission_id(alloc: Global, team: usize, number: usize) -> Result<String, AllocError>
-    ensures { IfOk result (λ id. string_bytes id ≡ submission_id team number) }
-{
-    numbered_id(alloc, team as u128 + 1, number)
-}
-
-fn numbered_id(alloc: Global, team_number: u128, number: usize) -> Result<String, AllocError>
-    ensures { IfOk result (λ id. string_bytes id ≡ codes "s" ++ (decimal team_number ++ (codes "-" ++ decimal number))) }
-{
-    format!(in alloc; "s{team_number}-{number}")
 }
 
 // The time since the start.
@@ -172,7 +163,7 @@ fn language_id(settings: &Settings, place: usize) -> &str
     }
 }
 
-fn team_id(settings: &Settings, place: usize) -> &str
+pub(crate) fn team_id(settings: &Settings, place: usize) -> &str
     ensures { result.now ≡ team_id_at settings.now place }
 {
     match settings.teams().get(place) {

@@ -1,5 +1,5 @@
 use Rattle.std.proofs.Common.{◌≡◌, map, take}
-use Rattle.contest_store.specs.Loads.{without_file}
+use Rattle.contest_types.specs.Loads.{without_file}
 use Rattle.contest_store.proofs.memory.without_files.Given as goal
 
 abbrev pub invariant-loop-submission : goal.invariant-loop-submission
