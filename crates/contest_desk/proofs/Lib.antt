@@ -1,3 +1,7 @@
 pub mod RefusalTexts
 pub mod RouteLemmas
 pub mod BodyLemmas
+pub mod OwnLemmas
+pub mod FileLemmas
+pub mod PostLemmas
+pub mod ServingLemmas

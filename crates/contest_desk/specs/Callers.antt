@@ -1,12 +1,11 @@
 -- Who asks, and what each role may do (Contest Control System Requirements, "Users and Roles"; RFC 6750).
-use Rattle.std.specs.Prelude.{ℕ, ◌+◌, Bool, true, List, Option, Some, None, is_some, slice_get}
+use Rattle.std.specs.Prelude.{ℕ, ◌+◌, List, Option, Some, None, slice_get}
 use Rattle.std.specs.List.{position}
 use Rattle.std.specs.Option.{option_map, option_and_then}
 use Rattle.std.specs.Str.{bytes_eq}
 use Rattle.sha2.specs.Sha256.{sha256}
 use Rattle.contest_types.specs.State.{FixedPart}
 use Rattle.contest_types.specs.declared.account.Account.{Account}
-use Rattle.contest_types.specs.declared.account.Role.{Role}
 use Rattle.contest_types.specs.declared.account.Role.TheVariants as role
 use Rattle.contest_types.specs.declared.audience.Audience.{Audience}
 use Rattle.contest_types.specs.declared.audience.Audience.TheVariants as audience
@@ -14,8 +13,6 @@ use Rattle.contest_desk.specs.declared.caller.Caller.{Caller}
 use Rattle.contest_desk.specs.declared.caller.Caller.TheVariants as caller
 use Rattle.contest_desk.specs.declared.request.Credential.{Credential}
 use Rattle.contest_desk.specs.declared.request.Credential.TheVariants.{Absent, Token, Bad}
-use Rattle.contest_desk.specs.declared.offer.Operation.{Operation}
-use Rattle.contest_desk.specs.declared.offer.Operation.TheVariants.{ListSubmissions, PostSubmission, GetSubmission}
 
 -- where the account with this digest of a token stands
 abbrev pub place_of_digest : List Account → List ℕ → Option ℕ

@@ -5,3 +5,9 @@ pub mod Offers
 pub mod Callers
 pub mod JsonBodies
 pub mod SubmissionBodies
+pub mod Outcomes
+pub mod PostSubmission
+pub mod ReadSubmissions
+pub mod Step
+pub mod Serving
+pub mod OwnSubmissions

@@ -1,6 +1,6 @@
 -- What may be asked on each route (Contest API 2023-06). A route on which nothing is served yet offers
 -- nothing; HEAD comes with the HTTP messages.
-use Rattle.std.specs.Prelude.{ℕ, List, Option, Some, None, codes}
+use Rattle.std.specs.Prelude.{ℕ, Bool, true, false, List, Option, Some, None, codes}
 use Rattle.contest_desk.specs.declared.route.Route.{Route}
 use Rattle.contest_desk.specs.declared.route.Route.TheVariants as route
 use Rattle.contest_desk.specs.declared.request.Method.{Method}
@@ -13,6 +13,19 @@ use Rattle.contest_desk.specs.declared.offer.AllowedMethods.TheVariants as allow
 abbrev pub methods_text : AllowedMethods → List ℕ
 methods_text allowed.Get = codes "GET"
 methods_text allowed.GetPost = codes "GET, POST"
+
+-- the route's paths name a contest
+abbrev pub is_of_contest : Route → Bool
+is_of_contest route.Contests = false
+is_of_contest route.Proposals = false
+is_of_contest route.Verifications = false
+is_of_contest route.Rejudgings = false
+is_of_contest route.Rejudging = false
+is_of_contest route.RejudgingVerdicts = false
+is_of_contest route.RejudgingApply = false
+is_of_contest route.RejudgingCancel = false
+is_of_contest route.Finalize = false
+is_of_contest _ = true
 
 -- the methods of a route that is served
 abbrev pub allowed_on : Route → Option AllowedMethods

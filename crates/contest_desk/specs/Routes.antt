@@ -1,6 +1,6 @@
 -- The one table of routes, as matchit keeps it (paths are the Contest API 2023-06's; those under
 -- `/jury/` are own).
-use Rattle.std.specs.Prelude.{ℕ, List, [], ◌∷◌, Result, Ok, Err, Option, None, codes, if◌then◌else◌}
+use Rattle.std.specs.Prelude.{ℕ, List, [], Result, Ok, Err, Option, None, codes, if◌then◌else◌}
 use Rattle.std.specs.Option.{option_map}
 use Rattle.std.specs.Str.{is_utf8}
 use Rattle.matchit.specs.Order.{placed}

@@ -1,5 +1,6 @@
 //! Who asks.
 ghost use Rattle.std.specs.Prelude.{◌≡◌, ◌<◌, ◌+◌, ◌^◌, IfSome, length};
+ghost use Rattle.contest_types.specs.declared.audience.Audience.TheVariants.{Team as TheTeam};
 ghost use Rattle.contest_desk.specs.Callers.{audience_of, caller_of, holder_of, place_of_digest, team_of};
 
 use crate::{Credential, Operation};
@@ -51,9 +52,16 @@ pub fn audience_of(caller: Caller) -> Audience
 {
     match caller {
         Caller::Public => Audience::Public,
-        Caller::Account(_, Role::Team(team)) => Audience::Team(team.saturating_add(1)),
+        Caller::Account(_, Role::Team(team)) => audience_of_team(team),
         Caller::Account(_, Role::Judge) | Caller::Account(_, Role::Admin) => Audience::Jury,
     }
+}
+
+/// The audience that the team at a place, from 0, is.
+pub fn audience_of_team(team: usize) -> Audience
+    ensures { team + 1 < 2 ^ 64 → result ≡ TheTeam (team + 1) }
+{
+    Audience::Team(team.saturating_add(1))
 }
 
 /// The team at a place, from 0, that a caller speaks for.

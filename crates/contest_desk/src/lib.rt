@@ -1,10 +1,13 @@
 //! The contest desk: a request in, its reply out, and what it adds to the contest kept.
 #![tactic(auto)]
 
+mod asked;
 mod caller;
 mod json_body;
 mod offer;
+mod own_submissions;
 mod path;
+mod post_submission;
 mod refusal_text;
 mod reply;
 mod request;

@@ -1,6 +1,6 @@
 //! What may be asked on each route, and by whom.
 ghost use Rattle.std.specs.Prelude.{◌≡◌};
-ghost use Rattle.contest_desk.specs.Offers.{allowed_on, methods_text, operation_of};
+ghost use Rattle.contest_desk.specs.Offers.{allowed_on, is_of_contest, methods_text, operation_of};
 
 use crate::{Method, Route};
 
@@ -34,6 +34,24 @@ impl AllowedMethods {
             AllowedMethods::GetPost => "GET, POST",
         }
     }
+}
+
+/// Whether a route's paths name a contest.
+pub fn is_of_contest(route: Route) -> bool
+    ensures { result ≡ is_of_contest route }
+{
+    !matches!(
+        route,
+        Route::Contests
+            | Route::Proposals
+            | Route::Verifications
+            | Route::Rejudgings
+            | Route::Rejudging
+            | Route::RejudgingVerdicts
+            | Route::RejudgingApply
+            | Route::RejudgingCancel
+            | Route::Finalize
+    )
 }
 
 /// The methods that a route offers; none where nothing is served there yet.

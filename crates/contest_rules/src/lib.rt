@@ -6,4 +6,4 @@ pub mod laws;
 mod submitting;
 
 pub use decision::Decision;
-pub use submitting::{WantedSubmission, decide_submission};
+pub use submitting::{WantedSubmission, decide_submission, place_of_key};

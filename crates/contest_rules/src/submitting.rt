@@ -98,8 +98,8 @@ fn lacks_entry_point(fixed: &Fixed, language: usize, entry_point: &Option<Name>)
     }
 }
 
-// Where the submission with this key stands.
-fn place_of_key(own: &[Submission], key: &Option<Id>) -> Option<usize>
+/// Where the submission with a key stands among a team's own, from 0. It takes no memory.
+pub fn place_of_key(own: &[Submission], key: &Option<Id>) -> Option<usize>
     ensures place { result ≡ place_of_key key.now own.now }
     ensures within { IfSome result (λ place. place < length own.now) }
 {

@@ -1,0 +1,41 @@
+-- From what the store's calls leave to what serving a request leaves.
+use Rattle.std.proofs.Common.{◌≡◌, ◌∙◌, Bool, Option, Some, sym, ap, subst, inl, inr}
+use Rattle.contest_types.specs.State.{ContestState, add_all}
+use Rattle.contest_store.specs.Keeping.{Shows, LeavesOnly, LeavesNoMore, LeavesOr}
+use Rattle.contest_desk.specs.Outcomes.{Outcome, replying}
+use Rattle.contest_desk.specs.Serving.{Serves, after}
+use Rattle.contest_desk.specs.declared.reply.Reply.{Reply}
+
+module _ {L : Type 0} (contest committed : L → ContestState) (is_open : L → Bool) where
+  -- what comes to the same serves the same
+  pub serves_same : (old mid new : L) (o p : ContestState → Outcome) (reply : Reply) → contest mid ≡ contest old → p (contest old) ≡ o (contest old)
+      → Serves contest committed is_open mid new o reply → Serves contest committed is_open old new p reply
+  serves_same old mid new o p reply e same s =
+      let x = contest old in
+      let come : o (contest mid) ≡ p x = ap o e ∙ sym same in
+      let left : after o (contest mid) ≡ after p x = λ i. add_all (e i) (come i).entries in
+      record { replied = s.replied ∙ ap (λ (r : Outcome). r.reply) come; left = subst (λ y. Shows contest committed is_open new y y) left s.left }
+
+  -- what only replies serves by leaving all as it was
+  pub reply_serves : (old new : L) (o : ContestState → Outcome) (reply : Reply) → contest old ≡ committed old → o (contest old) ≡ replying reply
+      → Shows contest committed is_open new (contest old) (committed old) → Serves contest committed is_open old new o reply
+  reply_serves old new o reply settled come shows =
+      let x = contest old in
+      let left : x ≡ after o x = λ i. add_all x (sym come i).entries in
+      let kept : committed old ≡ after o x = sym settled ∙ left in
+      record {
+        replied = ap (λ (r : Outcome). r.reply) (sym come);
+        left = record { up = shows.up; now_is = shows.now_is ∙ left; kept_is = shows.kept_is ∙ kept };
+      }
+
+module _ {L : Type 0} (may_leave : L → Option ContestState → Type 0) where
+  pub reply_keeps : (old new : L) (x : ContestState) (o : ContestState → Outcome) (reply : Reply) → o x ≡ replying reply → LeavesNoMore may_leave old new
+      → LeavesOnly may_leave old x → LeavesOnly may_leave new (after o x)
+  reply_keeps old new x o reply come more only c left = only c (more c left) ∙ ap Some (λ i. add_all x (sym come i).entries)
+
+  pub no_more_or : (old new : L) (x : ContestState) → LeavesNoMore may_leave old new → LeavesOr may_leave old new x
+  no_more_or old new x more c left = inl (more c left)
+
+  -- a call that leaves no more, and then one that leaves this too
+  pub then_or : (old mid new : L) (x y : ContestState) → x ≡ y → LeavesNoMore may_leave old mid → LeavesOr may_leave mid new x → LeavesOr may_leave old new y
+  then_or old mid new x y e more or c left = elim (or c left) [ inl before ↦ inl (more c before) | inr is ↦ inr (is ∙ ap Some e) ]
