@@ -4,7 +4,7 @@ ghost use Rattle.std.specs.List.Sorted.{IsSorted};
 ghost use Rattle.contest_view.specs.Keys.{key_of, parts_of, seen_places};
 
 use crate::submission_object::team_id;
-use crate::visibility::sees_submission;
+use crate::visibility::sees_team;
 use contest_types::{Audience, Settings, Submission};
 use std::alloc::{AllocError, Global};
 
@@ -44,7 +44,7 @@ pub(crate) fn seen_keys<'a>(
 {
     let mut keys = Vec::new(alloc);
     for (place, submission) in submissions.iter().enumerate() {
-        if sees_submission(audience, settings, submission) {
+        if sees_team(audience, settings, submission.team) {
             keys.push(submission_key(settings, place, submission))?;
         }
     }
