@@ -1,2 +1,8 @@
 pub mod ObjectLemmas
 pub mod KeyPlaces
+pub mod Sorting
+pub mod SeenApart
+pub mod SeenKeys
+pub mod SeenArray
+pub mod SubmissionIds
+pub mod SeenById
