@@ -1,6 +1,5 @@
 //! The order in which submissions are listed.
 ghost use Rattle.std.specs.Prelude.{◌≡◌, IfOk, map};
-ghost use Rattle.std.specs.List.Sorted.{IsSorted};
 ghost use Rattle.contest_view.specs.Keys.{key_of, parts_of, seen_places};
 
 use crate::submission_object::team_id;
@@ -8,8 +7,8 @@ use crate::visibility::sees_team;
 use contest_types::{Audience, Settings, Submission};
 use std::alloc::{AllocError, Global};
 
-/// What a submission is ordered by: its time, its team's id and its number. The place comes last and
-/// decides nothing, since a team has one submission of each number.
+/// What a submission is ordered by: its time in milliseconds since 1970, its team's id and its
+/// number. The place comes last and decides nothing, since a team has one submission of each number.
 #[derive(PartialEq, Eq, PartialOrd, Ord, Drop)]
 pub struct SubmissionKey<'a> {
     pub time: u64,
