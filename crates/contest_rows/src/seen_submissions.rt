@@ -200,7 +200,12 @@ fn assert_shows(
     let value = submissions_value(alloc, fixed, shown.audience, submissions)?;
     let bytes = value.to_vec(alloc)?;
     let wanted = array_of(alloc, shown.objects)?;
-    assert_eq!(rt; text_of(&bytes), text_of(&wanted), "for {:?}", shown.audience);
+    assert_eq!(rt;
+        text_of(&bytes),
+        text_of(&wanted),
+        "for {:?}",
+        shown.audience
+    );
     Ok(())
 }
 
@@ -225,7 +230,13 @@ fn assert_all(rt: &(impl Abort + AllocGlobal), fixed: &Fixed) -> Result<(), Fail
     }
     for asked in &ASKED {
         let bytes = found(rt.alloc(), fixed, &submissions, asked)?;
-        assert_eq!(rt; text_of(&bytes), asked.object, "{} for {:?}", asked.id, asked.audience);
+        assert_eq!(rt;
+            text_of(&bytes),
+            asked.object,
+            "{} for {:?}",
+            asked.id,
+            asked.audience
+        );
     }
     Ok(())
 }

@@ -6,3 +6,4 @@ pub mod SeenKeys
 pub mod SeenArray
 pub mod SubmissionIds
 pub mod SeenById
+pub mod ReadLaws

@@ -66,6 +66,14 @@ not_tied Less h = refl
 not_tied Equal h = absurd (h refl)
 not_tied Greater h = refl
 
+-- what ties is of one team and has one number
+tied : (a : Audience) (now : ℕ) (x : ContestState) → is_valid x ≡ true → (s t : Submission) → Has x.submissions s → Has x.submissions t
+    → submission_cmp x.fixed.settings (seen_submission a now x s) (seen_submission a now x t) ≡ Equal → (s.team ≡ t.team) × (s.number ≡ t.number)
+tied a now x valid s t hs ht e =
+    let rest = (both_equal _ _ e).1 in
+    let ids = exact_bytes _ _ (both_equal _ _ rest).0 in
+    (one_place (λ (u : Team). u.id) x.fixed.settings.teams (tests_of x (parts x valid).settings).teams s.team t.team (team_there x s valid hs) (team_there x t valid ht) ids, same_nat _ _ (both_equal _ _ rest).1)
+
 apart_from : (a : Audience) (now : ℕ) (x : ContestState) → is_valid x ≡ true → (rows : List Submission) → AllCountUp rows → ((s : Submission) → Has rows s → Has x.submissions s)
     → IsDistinct (eq_by_cmp (submission_cmp x.fixed.settings)) (map (seen_submission a now x) (filter (sees_submission a x) rows))
 unfolding IsDistinct
@@ -80,10 +88,8 @@ apart_from a now x valid (row ∷ rows) c there =
     let t = m.item in
     let here : Has rows t = (filter_has (sees_submission a x) rows t m.there).0 in
     let tie : submission_cmp s (seen row) (seen t) ≡ Equal → ⊥ = λ e.
-    (let ids = exact_bytes _ _ (both_equal _ _ (both_equal _ _ e).1).0 in
-    let number : row.number ≡ t.number = same_nat _ _ (both_equal _ _ (both_equal _ _ e).1).1 in
-    let team : row.team ≡ t.team = one_place (λ (u : Team). u.id) s.teams (tests_of x (parts x valid).settings).teams row.team t.team (team_there x row valid (there row (inl refl))) (team_there x t valid (there t (inr here))) ids in
-    omega (arith, number, greater row rows t c here (sym team))) in
+    (let both = tied a now x valid row t (there row (inl refl)) (there t (inr here)) e in
+    omega (arith, both.1, greater row rows t c here (sym both.0))) in
     subst (λ w. eq_by_cmp (submission_cmp s) (seen row) w ≡ false) (sym m.is) (not_tied (submission_cmp s (seen row) (seen t)) tie)) in
     let go : (b : Bool) → sees_submission a x row ≡ b → IsDistinct (eq_by_cmp (submission_cmp s)) (map seen (if b then row ∷ filter (sees_submission a x) rows else filter (sees_submission a x) rows)) = elim [
       | true ↦ λ e. IsDistinct-cons (eq_by_cmp (submission_cmp s)) (seen row) later (each (λ v. eq_by_cmp (submission_cmp s) (seen row) v ≡ false) later differs) rest

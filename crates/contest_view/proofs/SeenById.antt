@@ -36,14 +36,14 @@ none_passes : {X : Type 0} (p : X → Bool) (xs : List X) (x : X) → find p xs 
 none_passes p xs x e h t = cc (sym e ∙ (found_in p xs x h t).found)
 
 -- this one is asked for
-abbrev is_asked : Audience → ContestState → List ℕ → Submission → Bool
+abbrev pub is_asked : Audience → ContestState → List ℕ → Submission → Bool
 is_asked a x id s = sees_team a x.fixed.settings s.team && bytes_eq (submission_id s.team s.number) id
 
-abbrev has_this_id : List ℕ → SeenSubmission → Bool
+abbrev pub has_this_id : List ℕ → SeenSubmission → Bool
 has_this_id id v = bytes_eq (submission_id v.team v.number) id
 
 -- of a valid contest, one submission has an id
-one_with_id : (x : ContestState) → is_valid x ≡ true → (s t : Submission) → Has x.submissions s → Has x.submissions t → submission_id s.team s.number ≡ submission_id t.team t.number → s ≡ t
+pub one_with_id : (x : ContestState) → is_valid x ≡ true → (s t : Submission) → Has x.submissions s → Has x.submissions t → submission_id s.team s.number ≡ submission_id t.team t.number → s ≡ t
 one_with_id x valid s t hs ht e =
     let few : length x.fixed.settings.teams ≤ TEAMS = within_limit (length x.fixed.settings.teams) TEAMS (tests_of x (parts x valid).settings).few_teams in
     let team_s = team_there x s valid hs in
@@ -54,7 +54,7 @@ one_with_id x valid s t hs ht e =
     one_submission x s t valid hs ht both.0 both.1
 
 -- the submission that is found among all is found among those that are seen
-seen_found : (a : Audience) (now : ℕ) (x : ContestState) → is_valid x ≡ true → (id : List ℕ) (s : Submission) → find (is_asked a x id) x.submissions ≡ Some s → find (has_this_id id) (seen_submissions a now x) ≡ Some (seen_submission a now x s)
+pub seen_found : (a : Audience) (now : ℕ) (x : ContestState) → is_valid x ≡ true → (id : List ℕ) (s : Submission) → find (is_asked a x id) x.submissions ≡ Some s → find (has_this_id id) (seen_submissions a now x) ≡ Some (seen_submission a now x s)
 seen_found a now x valid id s e =
     let there = find_has (is_asked a x id) x.submissions s e in
     let passes = find_passes (is_asked a x id) x.submissions s e in
@@ -69,7 +69,7 @@ seen_found a now x valid id s e =
     f.found ∙ ap Some (i.shown ∙ ap (seen_submission a now x) one)
 
 -- and none that isn't
-seen_none : (a : Audience) (now : ℕ) (x : ContestState) → is_valid x ≡ true → (id : List ℕ) → find (is_asked a x id) x.submissions ≡ None → (o : Option SeenSubmission) → find (has_this_id id) (seen_submissions a now x) ≡ o → o ≡ None
+pub seen_none : (a : Audience) (now : ℕ) (x : ContestState) → is_valid x ≡ true → (id : List ℕ) → find (is_asked a x id) x.submissions ≡ None → (o : Option SeenSubmission) → find (has_this_id id) (seen_submissions a now x) ≡ o → o ≡ None
 seen_none a now x valid id e None h = refl
 seen_none a now x valid id e (Some v) h =
     let i = listed_seen a now x v (find_has (has_this_id id) (seen_submissions a now x) v h) in
@@ -77,7 +77,7 @@ seen_none a now x valid id e (Some v) h =
     let asked : has_this_id id (seen_submission a now x t) ≡ true = subst (λ w. has_this_id id w ≡ true) i.shown (find_passes (has_this_id id) (seen_submissions a now x) v h) in
     absurd (none_passes (is_asked a x id) x.submissions t e i.there (both_true _ _ i.sees asked))
 
-found_as : (a : Audience) (now : ℕ) (x : ContestState) (id : List ℕ) → submission_found a now x id ≡ option_map (submission_object x.fixed) (find (has_this_id id) (seen_submissions a now x))
+pub found_as : (a : Audience) (now : ℕ) (x : ContestState) (id : List ℕ) → submission_found a now x id ≡ option_map (submission_object x.fixed) (find (has_this_id id) (seen_submissions a now x))
 found_as a now x id =
     let both : (o : Option SeenSubmission) → option_map (λ (i : Item). i.object) (option_map (submission_item x.fixed) o) ≡ option_map (submission_object x.fixed) o = elim [ None ↦ refl | Some v ↦ refl ] in
     ap (option_map (λ (i : Item). i.object)) (find_mapped (λ (i : Item). bytes_eq i.id id) (submission_item x.fixed) (seen_submissions a now x)) ∙ both (find (has_this_id id) (seen_submissions a now x))
