@@ -6,6 +6,8 @@
 #[cfg(test)]
 mod contests;
 #[cfg(test)]
+mod demo_contest;
+#[cfg(test)]
 mod examples;
 #[cfg(test)]
 mod limits;
@@ -21,6 +23,8 @@ mod reading;
 mod refusals;
 #[cfg(test)]
 mod scored_twice;
+#[cfg(test)]
+mod seen_submissions;
 #[cfg(test)]
 mod small_columns;
 #[cfg(test)]

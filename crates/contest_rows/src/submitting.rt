@@ -2,92 +2,21 @@
 
 ghost use Rattle.std.specs.Prelude.{◌≤◌};
 
+use crate::demo_contest::{after, apples, begun, head, id, language, team};
 use crate::support::text_of;
 use contest_rules::{Decision, WantedSubmission, decide_submission};
-use contest_types::{
-    ContestHead, Fixed, Id, Language, Marks, Medals, Moment, Name, Problem, Rows, Settings,
-    Submission, Team, TimeSpan,
-};
+use contest_types::{Fixed, Rows, Settings, Submission};
 use contest_view::{Audience, submission_value};
 use std::alloc::Global;
 use std::process::Abort;
 use std::test::Fail;
-
-/// 2024-03-02T09:00:00Z.
-const START: u64 = 1_709_370_000_000;
-
-fn id(alloc: Global, text: &str) -> Result<Id, Fail> {
-    match Id::parse(alloc, text)? {
-        Some(id) => Ok(id),
-        None => Err(Fail::from("no id")),
-    }
-}
-
-fn name(alloc: Global, text: &str) -> Result<Name, Fail> {
-    match Name::parse(alloc, text)? {
-        Some(name) => Ok(name),
-        None => Err(Fail::from("no name")),
-    }
-}
-
-fn span(milliseconds: u64) -> Result<TimeSpan, Fail> {
-    Ok(TimeSpan::new(milliseconds).ok_or("no span")?)
-}
-
-/// So many milliseconds after nine o'clock.
-fn after(milliseconds: u32) -> Result<Moment, Fail> {
-    Ok(Moment::from_milliseconds(START + u64::from(milliseconds)).ok_or("no moment")?)
-}
-
-/// Five hours, the last of them frozen.
-fn head(alloc: Global) -> Result<ContestHead, Fail> {
-    Ok(ContestHead {
-        id: id(alloc, "demo")?,
-        name: name(alloc, "Demo Cup")?,
-        duration: span(18_000_000)?,
-        freeze: Some(span(3_600_000)?),
-        penalty_time: 20,
-        verification: false,
-        medals: Medals {
-            gold: 4,
-            silver: 4,
-            bronze: 4,
-        },
-    })
-}
-
-fn language(alloc: Global, text: &str, entry_point_required: bool) -> Result<Language, Fail> {
-    Ok(Language {
-        id: id(alloc, text)?,
-        name: name(alloc, text)?,
-        entry_point_required,
-    })
-}
-
-fn apples(alloc: Global) -> Result<Problem, Fail> {
-    Ok(Problem {
-        id: id(alloc, "a")?,
-        label: name(alloc, "A")?,
-        name: name(alloc, "Apples")?,
-        ordinal: 0,
-    })
-}
-
-fn alpha(alloc: Global) -> Result<Team, Fail> {
-    Ok(Team {
-        id: id(alloc, "t1")?,
-        name: name(alloc, "Alpha")?,
-        groups: Rows::new(alloc),
-        hidden: false,
-    })
-}
 
 /// Two languages, one problem and one team.
 fn fill(alloc: Global, settings: &mut Settings) -> Result<(), Fail> {
     settings.add_language(alloc, language(alloc, "cpp", false)?)?;
     settings.add_language(alloc, language(alloc, "java", true)?)?;
     settings.add_problem(alloc, apples(alloc)?)?;
-    settings.add_team(alloc, alpha(alloc)?)?;
+    settings.add_team(alloc, team(alloc, "t1", "Alpha", false)?)?;
     Ok(())
 }
 
@@ -95,20 +24,6 @@ fn settings(alloc: Global) -> Result<Settings, Fail> {
     let mut settings = Settings::new(alloc, head(alloc)?)?;
     fill(alloc, &mut settings)?;
     Ok(settings)
-}
-
-/// The demo contest, which begins at nine o'clock.
-fn demo(alloc: Global) -> Result<Fixed, Fail> {
-    let marks = Marks {
-        start: Some(after(0)?),
-        thaw: None,
-        finalized: None,
-    };
-    Ok(Fixed {
-        settings: settings(alloc)?,
-        accounts: Rows::new(alloc),
-        marks,
-    })
 }
 
 fn wanted(
@@ -228,6 +143,6 @@ fn assert_submits(rt: &(impl Abort + AllocGlobal), fixed: &Fixed) -> Result<(), 
 
 #[test]
 fn submits(rt: HostRuntime) -> Result<(), Fail> {
-    let fixed = demo(rt.alloc())?;
+    let fixed = begun(rt.alloc(), settings(rt.alloc())?)?;
     assert_submits(&rt, &fixed)
 }

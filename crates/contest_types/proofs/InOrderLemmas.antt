@@ -56,7 +56,7 @@ pub record Found {X : Type 0} (p : X → Bool) (xs : List X) : Type 0 where
   pub passes : p item ≡ true
   pub there : Has xs item
 
-found_in : {X : Type 0} (p : X → Bool) (xs : List X) (x : X) → Has xs x → p x ≡ true → Found p xs
+pub found_in : {X : Type 0} (p : X → Bool) (xs : List X) (x : X) → Has xs x → p x ≡ true → Found p xs
 found_in p [] x h t = absurd h
 found_in {X} p (y ∷ xs) x h t =
     let later : p y ≡ false → Found p (y ∷ xs) = λ f.

@@ -22,7 +22,7 @@ lower_before o xs x y h l Less i = ap is_lt i
 lower_before o xs x y h l Equal i = absurd (omega (arith, l, place_tied o xs x y i))
 lower_before o xs x y h l Greater i = absurd (omega (arith, l, place_less o xs y x h (o.antisymm y x ∙ ap ordering_reverse i)))
 
-find_passes : {X : Type 0} (p : X → Bool) (xs : List X) (x : X) → find p xs ≡ Some x → p x ≡ true
+pub find_passes : {X : Type 0} (p : X → Bool) (xs : List X) (x : X) → find p xs ≡ Some x → p x ≡ true
 find_passes p [] x h = absurd (cc h)
 find_passes {X} p (y ∷ xs) x h =
     let go : (b : Bool) → p y ≡ b → (if b then Some y else find p xs) ≡ Some x → p x ≡ true =

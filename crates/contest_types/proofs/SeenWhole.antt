@@ -39,12 +39,12 @@ use Rattle.contest_types.proofs.InOrderLemmas.{nothing_added, nothing_lost, flat
 pub submission_order : (s : Setup) → IsTotalOrder (submission_cmp s)
 submission_order s = then_total (on_total (λ (v : SeenSubmission). v.time) nat_cmp_total) (then_total (on_total (λ (v : SeenSubmission). team_id_at s v.team) nat_list_cmp_total) (on_total (λ (v : SeenSubmission). v.number) nat_cmp_total))
 
-both_equal : (a b : Ordering) → ordering_then a b ≡ Equal → (a ≡ Equal) × (b ≡ Equal)
+pub both_equal : (a b : Ordering) → ordering_then a b ≡ Equal → (a ≡ Equal) × (b ≡ Equal)
 both_equal Less b h = absurd (cc h)
 both_equal Equal b h = (refl, h)
 both_equal Greater b h = absurd (cc h)
 
-same_nat : (m n : ℕ) → nat_cmp m n ≡ Equal → m ≡ n
+pub same_nat : (m n : ℕ) → nat_cmp m n ≡ Equal → m ≡ n
 same_nat m n h = grind (arith, nat_tests)
 
 -- each place is listed
@@ -58,7 +58,7 @@ has_place first (suc n) (suc k) l =
 has_team : (s : Setup) (team : ℕ) → team < length s.teams → Has (team_places s) team
 has_team s team l = let e : 0 + team ≡ team = omega arith in subst (λ m. Has (range_with_len 0 (length s.teams)) m) e (has_place 0 (length s.teams) team l)
 
-all_has : {X : Type 0} (p : X → Bool) (xs : List X) (x : X) → list_all p xs ≡ true → Has xs x → p x ≡ true
+pub all_has : {X : Type 0} (p : X → Bool) (xs : List X) (x : X) → list_all p xs ≡ true → Has xs x → p x ≡ true
 all_has p [] x a h = absurd h
 all_has p (y ∷ xs) x a h = elim h [ inl e ↦ ap p e ∙ and_left _ _ a | inr t ↦ all_has p xs x (and_right (p y) _ a) t ]
 
@@ -66,7 +66,7 @@ below : (m n : ℕ) → nat_lt m n ≡ true → m < n
 below m n h = grind (arith, nat_tests)
 
 -- of rows that count up from a first number, none has a smaller one
-not_smaller : {X : Type 0} (number : X → ℕ) (first : ℕ) (xs : List X) (x : X) → map number xs ≡ range_with_len first (length xs) → Has xs x → first ≤ number x
+pub not_smaller : {X : Type 0} (number : X → ℕ) (first : ℕ) (xs : List X) (x : X) → map number xs ≡ range_with_len first (length xs) → Has xs x → first ≤ number x
 not_smaller number first [] x e h = absurd h
 not_smaller {X} number first (y ∷ xs) x e h =
     let head : number y ≡ first = cc e in
@@ -110,13 +110,13 @@ listed_seen a now x v h = from_gathered a now x v (nothing_added (submission_cmp
 first_of_six : (a b c d e f : Bool) → (a && b && c && d && e && f) ≡ true → a ≡ true
 first_of_six a b c d e f v = and_left a b (and_left (a && b) c (and_left (a && b && c) d (and_left (a && b && c && d) e (and_left (a && b && c && d && e) f v))))
 
-team_there : (x : ContestState) (s : Submission) → is_valid x ≡ true → Has x.submissions s → s.team < length x.fixed.settings.teams
+pub team_there : (x : ContestState) (s : Submission) → is_valid x ≡ true → Has x.submissions s → s.team < length x.fixed.settings.teams
 team_there x s v h =
     let alone = all_has (is_valid_submission x.fixed) x.submissions s (and_left _ _ (parts x v).submissions) h in
     below s.team (length x.fixed.settings.teams) (first_of_six (nat_lt s.team (length x.fixed.settings.teams)) (nat_lt s.problem (length x.fixed.settings.problems)) (nat_lt s.language (length x.fixed.settings.languages)) (reached x.fixed.marks.start s.time) (not (reached (end_of x.fixed.settings x.fixed.marks) s.time)) (nat_le (length s.file) POSTED_FILE) alone)
 
 -- one team has one submission with a number
-one_submission : (x : ContestState) (s t : Submission) → is_valid x ≡ true → Has x.submissions s → Has x.submissions t → s.team ≡ t.team → s.number ≡ t.number → s ≡ t
+pub one_submission : (x : ContestState) (s t : Submission) → is_valid x ≡ true → Has x.submissions s → Has x.submissions t → s.team ≡ t.team → s.number ≡ t.number → s ≡ t
 one_submission x s t v hs ht team number =
     let own = submissions_of t.team x.submissions in
     let numbers : List ℕ = map (λ (r : Submission). r.number) own in

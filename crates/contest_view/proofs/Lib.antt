@@ -1,1 +1,9 @@
 pub mod ObjectLemmas
+pub mod KeyPlaces
+pub mod Sorting
+pub mod SeenApart
+pub mod SeenKeys
+pub mod SeenArray
+pub mod SubmissionIds
+pub mod SeenById
+pub mod ReadLaws

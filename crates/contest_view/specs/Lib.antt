@@ -3,3 +3,4 @@ pub mod Members
 pub mod Items
 pub mod Reads
 pub mod Keys
+pub mod Laws

@@ -1,6 +1,7 @@
 //! What an audience is shown of a contest: who sees what, and the JSON values that are served.
 #![tactic(auto)]
 
+pub mod laws;
 mod members;
 mod submission_id;
 mod submission_object;

@@ -1,15 +1,14 @@
 //! The order in which submissions are listed.
 ghost use Rattle.std.specs.Prelude.{◌≡◌, IfOk, map};
-ghost use Rattle.std.specs.List.Sorted.{IsSorted};
 ghost use Rattle.contest_view.specs.Keys.{key_of, parts_of, seen_places};
 
 use crate::submission_object::team_id;
-use crate::visibility::sees_submission;
+use crate::visibility::sees_team;
 use contest_types::{Audience, Settings, Submission};
 use std::alloc::{AllocError, Global};
 
-/// What a submission is ordered by: its time, its team's id and its number. The place comes last and
-/// decides nothing, since a team has one submission of each number.
+/// What a submission is ordered by: its time in milliseconds since 1970, its team's id and its
+/// number. The place comes last and decides nothing, since a team has one submission of each number.
 #[derive(PartialEq, Eq, PartialOrd, Ord, Drop)]
 pub struct SubmissionKey<'a> {
     pub time: u64,
@@ -44,7 +43,7 @@ pub(crate) fn seen_keys<'a>(
 {
     let mut keys = Vec::new(alloc);
     for (place, submission) in submissions.iter().enumerate() {
-        if sees_submission(audience, settings, submission) {
+        if sees_team(audience, settings, submission.team) {
             keys.push(submission_key(settings, place, submission))?;
         }
     }

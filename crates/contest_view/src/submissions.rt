@@ -13,7 +13,7 @@ ghost use Rattle.contest_view.specs.Reads.{submissions_data, submission_found};
 use crate::submission_id::has_id;
 use crate::submission_object::submission_value;
 use crate::submission_order::{SubmissionKey, seen_keys};
-use crate::visibility::sees_submission;
+use crate::visibility::sees_team;
 use contest_types::{Audience, Fixed, Settings, Submission};
 use serde_json::Value;
 use std::alloc::{AllocError, Global};
@@ -105,7 +105,7 @@ fn with_id<'a>(
     ensures { option_map (λ s. s.now) result ≡ find (λ s. sees_team audience settings.now s.team && bytes_eq (submission_id s.team s.number) id.now) submissions.now }
 {
     submissions.iter().find(|submission| {
-        sees_submission(audience, settings, submission)
+        sees_team(audience, settings, submission.team)
             && has_id(submission.team, submission.number, id)
     })
 }

@@ -1,7 +1,7 @@
 //! What a caller sees: the contest's phase, submissions and their verdicts.
 ghost use Rattle.std.specs.Prelude.{◌≡◌};
 ghost use Rattle.contest_types.specs.Clock.{phase_at, reached};
-ghost use Rattle.contest_types.specs.Sight.{last_judgement, seen_verdict, sees_submission, type_of};
+ghost use Rattle.contest_types.specs.Sight.{last_judgement, seen_verdict, sees_submission, sees_team, type_of};
 ghost use Rattle.contest_types.specs.State.{ContestState};
 ghost use Rattle.contest_types.specs.TeamPlaces.{is_public};
 
@@ -43,7 +43,14 @@ fn has_come(moment: Option<u64>, now: Moment) -> bool
 pub fn sees_submission(audience: Audience, settings: &Settings, submission: &Submission) -> bool
     ensures { (x : ContestState) → x.fixed.settings ≡ settings.now → result ≡ sees_submission audience x submission.now }
 {
-    knows_all_of(audience, submission.team) || is_public(settings, submission.team)
+    sees_team(audience, settings, submission.team)
+}
+
+/// Whether a caller sees the submissions of the team at a place, from 0. It takes no memory.
+pub(crate) fn sees_team(audience: Audience, settings: &Settings, team: usize) -> bool
+    ensures { result ≡ sees_team audience settings.now team }
+{
+    knows_all_of(audience, team) || is_public(settings, team)
 }
 
 /// Whether the team at a place, from 0, isn't hidden.

@@ -1,0 +1,51 @@
+-- What holds of all that is read.
+use Rattle.std.proofs.Common.{◌≡◌, ℕ, Bool, true, false, List, map, Option, Some, None, refl, sym, ap, ◌∙◌}
+use Rattle.std.specs.Prelude.{find, if◌then◌else◌}
+use Rattle.std.specs.Option.{option_map}
+use Rattle.std.proofs.lemmas.Bool.{false≢true}
+use Rattle.std.proofs.lemmas.Slice.Eq.{bytes_eq-Decides}
+use Rattle.contest_types.specs.State.{ContestState}
+use Rattle.contest_types.specs.Sight.{sees_submission, seen_submission, seen_submissions}
+use Rattle.contest_types.specs.Valid.{is_valid}
+use Rattle.contest_types.specs.declared.audience.Audience.{Audience}
+use Rattle.contest_types.specs.declared.submission.Submission.{Submission}
+use Rattle.contest_types.proofs.InOrderLemmas.{find_has, found_in}
+use Rattle.contest_types.proofs.PlaceLemmas.{and_left, and_right, both_true}
+use Rattle.contest_types.proofs.Rising.{find_passes}
+use Rattle.contest_types.proofs.SightLemmas.{seen_alike}
+use Rattle.contest_view.specs.Items.{array_of, found_in as item_found}
+use Rattle.contest_view.specs.Laws.{AlikeReadTheSame, SeenIsFound, NothingElseIsFound}
+use Rattle.contest_view.specs.Objects.{submission_id, submission_object}
+use Rattle.contest_view.specs.Reads.{submission_item, submission_items, submission_found}
+use Rattle.contest_view.proofs.SeenById.{is_asked, has_this_id, one_with_id, seen_found, seen_none, found_as}
+
+pub alike_read : AlikeReadTheSame
+alike_read a now x y held alike =
+    let same : submission_items a now x ≡ submission_items a now y =
+    ap (λ f. map (submission_item f) (seen_submissions a now x)) alike.fixed ∙ ap (map (submission_item y.fixed)) (seen_alike a now x y held alike) in
+    (ap array_of same, λ id. ap (λ items. item_found items id) same)
+
+-- the submission that is found among all has the id
+has_id : (a : Audience) (x : ContestState) (id : List ℕ) (t : Submission) → find (is_asked a x id) x.submissions ≡ Some t → submission_id t.team t.number ≡ id
+has_id a x id t e = (bytes_eq-Decides (submission_id t.team t.number) id).0 (and_right (sees_submission a x t) _ (find_passes (is_asked a x id) x.submissions t e))
+
+nothing_found : (a : Audience) (now : ℕ) (x : ContestState) → is_valid x ≡ true → (id : List ℕ) → ((t : Submission) → find (is_asked a x id) x.submissions ≡ Some t → ⊥) → submission_found a now x id ≡ None
+nothing_found a now x valid id never =
+    let go : (o : Option Submission) → find (is_asked a x id) x.submissions ≡ o → find (is_asked a x id) x.submissions ≡ None = elim [ None ↦ λ e. e | Some t ↦ λ e. absurd (never t e) ] in
+    found_as a now x id ∙ ap (option_map (submission_object x.fixed)) (seen_none a now x valid id (go (find (is_asked a x id) x.submissions) refl) (find (has_this_id id) (seen_submissions a now x)) refl)
+
+pub seen_is_found : SeenIsFound
+seen_is_found a now x valid s there =
+    let id = submission_id s.team s.number in
+    let one : (t : Submission) → find (is_asked a x id) x.submissions ≡ Some t → t ≡ s = λ t e. one_with_id x valid t s (find_has (is_asked a x id) x.submissions t e) there (has_id a x id t e) in
+    let go : (b : Bool) → sees_submission a x s ≡ b → submission_found a now x id ≡ (if b then Some (submission_object x.fixed (seen_submission a now x s)) else None) = elim [
+      | true ↦ λ e. (let f = found_in (is_asked a x id) x.submissions s there (both_true _ _ e ((bytes_eq-Decides id id).1 refl)) in
+          let is : find (is_asked a x id) x.submissions ≡ Some s = f.found ∙ ap Some (one f.item f.found) in
+          found_as a now x id ∙ ap (option_map (submission_object x.fixed)) (seen_found a now x valid id s is))
+      | false ↦ λ e. nothing_found a now x valid id (λ t f. (let sees : sees_submission a x t ≡ true = and_left _ _ (find_passes (is_asked a x id) x.submissions t f) in
+          false≢true (sym e ∙ (ap (sees_submission a x) (sym (one t f)) ∙ sees))))
+    ] in
+    go (sees_submission a x s) refl
+
+pub nothing_else : NothingElseIsFound
+nothing_else a now x valid id none = nothing_found a now x valid id (λ t e. none t (find_has (is_asked a x id) x.submissions t e) (has_id a x id t e))

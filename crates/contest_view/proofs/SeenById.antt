@@ -1,0 +1,108 @@
+-- What is found by its id is the one submission that is seen with this id.
+use Rattle.std.proofs.Common.{◌≡◌, ℕ, ◌≤◌, Bool, true, false, List, [], ◌∷◌, map, Option, Some, None, refl, sym, ap, subst, ◌∙◌, arith}
+use Rattle.std.specs.Prelude.{◌&&◌, bytes_eq, find, if◌then◌else◌, length}
+use Rattle.std.specs.Option.{option_map}
+use Rattle.std.proofs.lemmas.Slice.Eq.{bytes_eq-Decides}
+use Rattle.contest_types.specs.Loads.{without_file, loaded_submissions}
+use Rattle.contest_types.specs.Order.{Has}
+use Rattle.contest_types.specs.State.{ContestState}
+use Rattle.contest_types.specs.Sight.{SeenSubmission, program_for, sees_team, seen_submission, seen_submissions}
+use Rattle.contest_types.specs.Valid.{is_valid}
+use Rattle.contest_types.specs.declared.audience.Audience.{Audience}
+use Rattle.contest_types.specs.declared.limits.TheConstants.{TEAMS}
+use Rattle.contest_types.specs.declared.submission.Submission.{Submission}
+use Rattle.contest_types.proofs.AddSettings.{tests_of}
+use Rattle.contest_types.proofs.InOrderLemmas.{find_has, found_in}
+use Rattle.contest_types.proofs.PlaceLemmas.{and_left, and_right, both_true}
+use Rattle.contest_types.proofs.Rising.{find_passes}
+use Rattle.contest_types.proofs.SeenWhole.{listed_seen, seen_listed, one_submission, team_there}
+use Rattle.contest_types.proofs.ValidParts.{parts}
+use Rattle.contest_view.specs.Items.{Item}
+use Rattle.contest_view.specs.Objects.{submission_data, submission_id, submission_object}
+use Rattle.contest_view.specs.Reads.{submission_item, submission_found}
+use Rattle.contest_view.proofs.SeenApart.{number_small, within_limit}
+use Rattle.contest_view.proofs.SeenKeys.{same_object}
+use Rattle.contest_view.proofs.SubmissionIds.{one_id}
+
+find_mapped : {X Y : Type 0} (p : Y → Bool) (f : X → Y) (xs : List X) → find p (map f xs) ≡ option_map f (find (λ x. p (f x)) xs)
+find_mapped p f [] = refl
+find_mapped {X} {Y} p f (x ∷ xs) =
+    let rest = find_mapped p f xs in
+    let go : (b : Bool) → (if b then Some (f x) else find p (map f xs)) ≡ option_map f (if b then Some x else find (λ y. p (f y)) xs) = elim [ true ↦ refl | false ↦ rest ] in
+    go (p (f x))
+
+-- where none is found, none passes
+none_passes : {X : Type 0} (p : X → Bool) (xs : List X) (x : X) → find p xs ≡ None → Has xs x → p x ≡ true → ⊥
+none_passes p xs x e h t = cc (sym e ∙ (found_in p xs x h t).found)
+
+-- this one is asked for
+abbrev pub is_asked : Audience → ContestState → List ℕ → Submission → Bool
+is_asked a x id s = sees_team a x.fixed.settings s.team && bytes_eq (submission_id s.team s.number) id
+
+abbrev pub has_this_id : List ℕ → SeenSubmission → Bool
+has_this_id id v = bytes_eq (submission_id v.team v.number) id
+
+-- of a valid contest, one submission has an id
+pub one_with_id : (x : ContestState) → is_valid x ≡ true → (s t : Submission) → Has x.submissions s → Has x.submissions t → submission_id s.team s.number ≡ submission_id t.team t.number → s ≡ t
+one_with_id x valid s t hs ht e =
+    let few : length x.fixed.settings.teams ≤ TEAMS = within_limit (length x.fixed.settings.teams) TEAMS (tests_of x (parts x valid).settings).few_teams in
+    let team_s = team_there x s valid hs in
+    let team_t = team_there x t valid ht in
+    let number_s = number_small x valid s hs in
+    let number_t = number_small x valid t ht in
+    let both = one_id s.team s.number t.team t.number (omega (arith, few, team_s)) (omega (arith, number_s)) (omega (arith, few, team_t)) (omega (arith, number_t)) e in
+    one_submission x s t valid hs ht both.0 both.1
+
+-- the submission that is found among all is found among those that are seen
+pub seen_found : (a : Audience) (now : ℕ) (x : ContestState) → is_valid x ≡ true → (id : List ℕ) (s : Submission) → find (is_asked a x id) x.submissions ≡ Some s → find (has_this_id id) (seen_submissions a now x) ≡ Some (seen_submission a now x s)
+seen_found a now x valid id s e =
+    let there = find_has (is_asked a x id) x.submissions s e in
+    let passes = find_passes (is_asked a x id) x.submissions s e in
+    let sees : sees_team a x.fixed.settings s.team ≡ true = and_left _ _ passes in
+    let asked : bytes_eq (submission_id s.team s.number) id ≡ true = and_right (sees_team a x.fixed.settings s.team) _ passes in
+    let listed : Has (seen_submissions a now x) (seen_submission a now x s) = seen_listed a now x valid (seen_submission a now x s) (record { submission = s; there = there; sees = sees; shown = refl }) in
+    let f = found_in (has_this_id id) (seen_submissions a now x) (seen_submission a now x s) listed asked in
+    let i = listed_seen a now x f.item f.there in
+    let t = i.submission in
+    let same_id : submission_id t.team t.number ≡ id = (bytes_eq-Decides (submission_id t.team t.number) id).0 (subst (λ v. has_this_id id v ≡ true) i.shown f.passes) in
+    let one : t ≡ s = one_with_id x valid t s i.there there (same_id ∙ sym ((bytes_eq-Decides (submission_id s.team s.number) id).0 asked)) in
+    f.found ∙ ap Some (i.shown ∙ ap (seen_submission a now x) one)
+
+-- and none that isn't
+pub seen_none : (a : Audience) (now : ℕ) (x : ContestState) → is_valid x ≡ true → (id : List ℕ) → find (is_asked a x id) x.submissions ≡ None → (o : Option SeenSubmission) → find (has_this_id id) (seen_submissions a now x) ≡ o → o ≡ None
+seen_none a now x valid id e None h = refl
+seen_none a now x valid id e (Some v) h =
+    let i = listed_seen a now x v (find_has (has_this_id id) (seen_submissions a now x) v h) in
+    let t = i.submission in
+    let asked : has_this_id id (seen_submission a now x t) ≡ true = subst (λ w. has_this_id id w ≡ true) i.shown (find_passes (has_this_id id) (seen_submissions a now x) v h) in
+    absurd (none_passes (is_asked a x id) x.submissions t e i.there (both_true _ _ i.sees asked))
+
+pub found_as : (a : Audience) (now : ℕ) (x : ContestState) (id : List ℕ) → submission_found a now x id ≡ option_map (submission_object x.fixed) (find (has_this_id id) (seen_submissions a now x))
+found_as a now x id =
+    let both : (o : Option SeenSubmission) → option_map (λ (i : Item). i.object) (option_map (submission_item x.fixed) o) ≡ option_map (submission_object x.fixed) o = elim [ None ↦ refl | Some v ↦ refl ] in
+    ap (option_map (λ (i : Item). i.object)) (find_mapped (λ (i : Item). bytes_eq i.id id) (submission_item x.fixed) (seen_submissions a now x)) ∙ both (find (has_this_id id) (seen_submissions a now x))
+
+-- files don't enter
+found_loaded : (a : Audience) (x : ContestState) (id : List ℕ) → find (is_asked a x id) (loaded_submissions x) ≡ option_map without_file (find (is_asked a x id) x.submissions)
+found_loaded a x id = find_mapped (is_asked a x id) without_file x.submissions
+
+from_loaded : (o : Option Submission) (row : Submission) → option_map without_file o ≡ Some row → (s : Submission) × (o ≡ Some s) × (row ≡ without_file s)
+from_loaded None row e = absurd (cc e)
+from_loaded (Some s) row e = (s, refl, (let same : without_file s ≡ row = cc e in sym same))
+
+none_loaded : (o : Option Submission) → option_map without_file o ≡ None → o ≡ None
+none_loaded None e = refl
+none_loaded (Some s) e = absurd (cc e)
+
+pub found_is : (a : Audience) (now : ℕ) (x : ContestState) → is_valid x ≡ true → (id : List ℕ) (row : Submission) → find (is_asked a x id) (loaded_submissions x) ≡ Some row
+    → Some (submission_data x.fixed row.team row.number row.time row.problem row.language (program_for a row)) ≡ submission_found a now x id
+found_is a now x valid id row e =
+    let f = from_loaded (find (is_asked a x id) x.submissions) row (sym (found_loaded a x id) ∙ e) in
+    let object : submission_data x.fixed row.team row.number row.time row.problem row.language (program_for a row) ≡ submission_object x.fixed (seen_submission a now x f.0) =
+    ap (λ (r : Submission). submission_data x.fixed r.team r.number r.time r.problem r.language (program_for a r)) f.2 ∙ same_object x.fixed a f.0 in
+    ap Some object ∙ sym (found_as a now x id ∙ ap (option_map (submission_object x.fixed)) (seen_found a now x valid id f.0 f.1))
+
+pub none_is : (a : Audience) (now : ℕ) (x : ContestState) → is_valid x ≡ true → (id : List ℕ) → find (is_asked a x id) (loaded_submissions x) ≡ None → None ≡ submission_found a now x id
+none_is a now x valid id e =
+    let none : find (is_asked a x id) x.submissions ≡ None = none_loaded (find (is_asked a x id) x.submissions) (sym (found_loaded a x id) ∙ e) in
+    sym (found_as a now x id ∙ ap (option_map (submission_object x.fixed)) (seen_none a now x valid id none (find (has_this_id id) (seen_submissions a now x)) refl))

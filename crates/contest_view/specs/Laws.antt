@@ -1,0 +1,29 @@
+-- What holds of all that is read, in the subject's words. Each is the contract of a function of src/laws.rt.
+use Rattle.std.specs.Prelude.{◌≡◌, ℕ, true, List, Some, None, if◌then◌else◌}
+use Rattle.contest_types.specs.Alike.{Alike, MayBeHeld}
+use Rattle.contest_types.specs.Order.{Has}
+use Rattle.contest_types.specs.State.{ContestState}
+use Rattle.contest_types.specs.Sight.{sees_submission, seen_submission}
+use Rattle.contest_types.specs.Valid.{is_valid}
+use Rattle.contest_types.specs.declared.audience.Audience.{Audience}
+use Rattle.contest_types.specs.declared.submission.Submission.{Submission}
+use Rattle.contest_view.specs.Objects.{submission_id, submission_object}
+use Rattle.contest_view.specs.Reads.{submissions_data, submission_found}
+
+-- until the thaw, alike contests give an audience the same submissions to read, all of them and by any id
+abbrev pub AlikeReadTheSame : Type 0
+AlikeReadTheSame =
+    (a : Audience) (now : ℕ) (x y : ContestState) → MayBeHeld a now x → Alike a x y
+    → (submissions_data a now x ≡ submissions_data a now y) × ((id : List ℕ) → submission_found a now x id ≡ submission_found a now y id)
+
+-- in a valid contest a submission is found by its id where it is seen, and nothing is found where it isn't
+abbrev pub SeenIsFound : Type 0
+SeenIsFound =
+    (a : Audience) (now : ℕ) (x : ContestState) → is_valid x ≡ true → (s : Submission) → Has x.submissions s
+    → submission_found a now x (submission_id s.team s.number) ≡ (if sees_submission a x s then Some (submission_object x.fixed (seen_submission a now x s)) else None)
+
+-- by an id that no submission has nothing is found
+abbrev pub NothingElseIsFound : Type 0
+NothingElseIsFound =
+    (a : Audience) (now : ℕ) (x : ContestState) → is_valid x ≡ true → (id : List ℕ) → ((s : Submission) → Has x.submissions s → submission_id s.team s.number ≡ id → ⊥)
+    → submission_found a now x id ≡ None
