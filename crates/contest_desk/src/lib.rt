@@ -8,6 +8,7 @@ mod offer;
 mod own_submissions;
 mod path;
 mod post_submission;
+mod read_submissions;
 mod refusal_text;
 mod reply;
 mod request;
