@@ -5,3 +5,5 @@ pub mod OwnLemmas
 pub mod FileLemmas
 pub mod PostLemmas
 pub mod ServingLemmas
+pub mod CallerLemmas
+pub mod StepLemmas

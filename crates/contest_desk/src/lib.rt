@@ -7,6 +7,7 @@ mod json_body;
 mod offer;
 mod own_submissions;
 mod path;
+mod perform;
 mod post_submission;
 mod read_submissions;
 mod refusal_text;
