@@ -1,5 +1,5 @@
 -- A caller who is known speaks for a team that is there.
-use Rattle.std.proofs.Common.{◌≡◌, ◌∙◌, ◌+◌, ◌<◌, ◌^◌, ℕ, zero, suc, Bool, true, false, List, [], ◌∷◌, length, Option, Some, None, refl, sym, ap, subst, arith}
+use Rattle.std.proofs.Common.{◌≡◌, ◌+◌, ◌<◌, ◌^◌, ℕ, zero, suc, Bool, true, List, [], ◌∷◌, length, Option, Some, None, refl, subst, arith}
 use Rattle.std.specs.Prelude.{slice_get, IfSome, nat_lt}
 use Rattle.std.specs.List.{list_all}
 use Rattle.std.specs.Option.{option_map, option_and_then}
@@ -13,7 +13,7 @@ use Rattle.contest_types.specs.declared.account.Role.{Role}
 use Rattle.contest_types.specs.declared.account.Role.TheVariants as role
 use Rattle.contest_types.proofs.PlaceLemmas.{and_left, and_right}
 use Rattle.contest_types.proofs.ValidParts.{parts, four}
-use Rattle.contest_desk.specs.Callers.{place_of_digest, caller_at, holder_of, caller_of, team_of}
+use Rattle.contest_desk.specs.Callers.{place_of_digest, caller_at, caller_of, team_of}
 use Rattle.contest_desk.specs.declared.caller.Caller.{Caller}
 use Rattle.contest_desk.specs.declared.caller.Caller.TheVariants as caller
 use Rattle.contest_desk.specs.declared.request.Credential.{Credential}

@@ -7,3 +7,8 @@ pub mod PostLemmas
 pub mod ServingLemmas
 pub mod CallerLemmas
 pub mod StepLemmas
+pub mod AddedAlike
+pub mod PostAdds
+pub mod LawLemmas
+pub mod NeverFails
+pub mod FaultLemmas

@@ -1,10 +1,12 @@
 -- The text of each refusal's body.
-use Rattle.std.proofs.Common.{◌≡◌, ℕ, codes, refl}
+use Rattle.std.proofs.Common.{◌≡◌, ◌∙◌, ℕ, true≢false, length, codes, refl, sym, ap}
+use Rattle.std.specs.Prelude.{◌==◌}
 use Rattle.std.specs.Fmt.{digits}
 use Rattle.serde_json.proofs.OnLiterals.{serde_json_on_literals}
 use Rattle.contest_types.specs.declared.refusal.Cause.{Cause}
 use Rattle.contest_types.specs.declared.refusal.Refusal.TheVariants as refusal
-use Rattle.contest_desk.specs.Replies.{refusal_text}
+use Rattle.contest_desk.specs.Replies.{refusal_text, refused}
+use Rattle.contest_desk.specs.declared.reply.Reply.{Reply}
 
 pub text_Malformed : codes "{\"code\":400,\"message\":\"Malformed\"}" ≡ refusal_text refusal.Malformed
 unfolding serde_json_on_literals digits refusal_text
@@ -105,3 +107,9 @@ text_StoreFault = refl
 pub text_Memory : codes "{\"code\":503,\"message\":\"Memory\"}" ≡ refusal_text refusal.Memory
 unfolding serde_json_on_literals digits refusal_text
 text_Memory = refl
+
+-- what a fault is answered isn't what want of memory is
+pub fault_is_not_memory : refused refusal.Memory ≡ refused refusal.StoreFault → ⊥
+fault_is_not_memory e =
+    let same : codes "{\"code\":503,\"message\":\"Memory\"}" ≡ codes "{\"code\":503,\"message\":\"StoreFault\"}" = text_Memory ∙ (ap (λ (r : Reply). r.body) e ∙ sym text_StoreFault) in
+    true≢false (ap (λ text. length text == 31) same)

@@ -1,9 +1,12 @@
 -- From what the store's calls leave to what serving a request leaves.
-use Rattle.std.proofs.Common.{◌≡◌, ◌∙◌, Bool, Option, Some, sym, ap, subst, inl, inr}
+use Rattle.std.proofs.Common.{◌≡◌, ◌∙◌, Bool, true, Option, Some, Result, Ok, Err, sym, ap, subst, inl, inr}
+use Rattle.std.specs.Prelude.{IsTrue, IfOk, OnErr}
 use Rattle.contest_types.specs.State.{ContestState, add_all}
-use Rattle.contest_store.specs.Keeping.{Shows, LeavesOnly, LeavesNoMore, LeavesOr}
+use Rattle.contest_types.specs.Valid.{is_valid}
+use Rattle.contest_types.specs.declared.refusal.Refusal.{Refusal}
+use Rattle.contest_store.specs.Keeping.{Shows, RollsBack, LeavesOnly, LeavesNoMore, LeavesOr}
 use Rattle.contest_desk.specs.Outcomes.{Outcome, replying}
-use Rattle.contest_desk.specs.Serving.{Serves, after}
+use Rattle.contest_desk.specs.Serving.{IsSettled, Serves, after}
 use Rattle.contest_desk.specs.declared.reply.Reply.{Reply}
 
 module _ {L : Type 0} (contest committed : L → ContestState) (is_open : L → Bool) where
@@ -39,3 +42,17 @@ module _ {L : Type 0} (may_leave : L → Option ContestState → Type 0) where
   -- a call that leaves no more, and then one that leaves this too
   pub then_or : (old mid new : L) (x y : ContestState) → x ≡ y → LeavesNoMore may_leave old mid → LeavesOr may_leave mid new x → LeavesOr may_leave old new y
   then_or old mid new x y e more or c left = elim (or c left) [ inl before ↦ inl (more c before) | inr is ↦ inr (is ∙ ap Some e) ]
+
+-- the store is as settled after a request as before it
+pub stays_settled : {L : Type 0} (contest committed : L → ContestState) (is_open : L → Bool) (is_clean : L → Type 0) (old new : L) (o : ContestState → Outcome) (r : Result Reply Refusal)
+    → ((x : ContestState) → is_valid x ≡ true → is_valid (after o x) ≡ true) → IsSettled contest committed is_open is_clean old
+    → (is_clean new → is_clean old) → (is_clean new → IsTrue (is_open new) → IsTrue (is_open old))
+    → (is_clean new → IfOk r (Serves contest committed is_open old new o)) → (is_clean new → IsTrue (is_open new) → OnErr r (RollsBack contest committed is_open old new))
+    → IsSettled contest committed is_open is_clean new
+stays_settled contest committed is_open is_clean old new o (Ok reply) keeps settled clean up step err cleaned opened =
+    let s = step cleaned in
+    (s.left.now_is ∙ sym s.left.kept_is, subst (λ x. is_valid x ≡ true) (sym s.left.now_is) (keeps (contest old) (settled (clean cleaned) (up cleaned opened)).1))
+stays_settled contest committed is_open is_clean old new o (Err e) keeps settled clean up step err cleaned opened =
+    let back = err cleaned opened in
+    let before = settled (clean cleaned) (up cleaned opened) in
+    (back.now_is ∙ sym back.kept_is, subst (λ x. is_valid x ≡ true) (sym (back.now_is ∙ sym before.0)) before.1)

@@ -11,3 +11,4 @@ pub mod ReadSubmissions
 pub mod Step
 pub mod Serving
 pub mod OwnSubmissions
+pub mod Laws

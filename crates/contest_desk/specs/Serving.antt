@@ -1,9 +1,11 @@
 -- What serving a request asks of a kept contest, and what it leaves of it, whoever keeps it (own).
-use Rattle.std.specs.Prelude.{◌≡◌, Bool, true, IsTrue}
+use Rattle.std.specs.Prelude.{◌≡◌, ◌⊎◌, ◌==◌, Bool, true, false, IsTrue}
 use Rattle.contest_types.specs.State.{FixedPart, ContestState, add_all}
 use Rattle.contest_types.specs.Valid.{is_valid}
 use Rattle.contest_store.specs.Keeping.{Shows}
+use Rattle.contest_types.specs.declared.refusal.Refusal.TheVariants.{StoreFault, Memory}
 use Rattle.contest_desk.specs.Outcomes.{Outcome}
+use Rattle.contest_desk.specs.Replies.{refused}
 use Rattle.contest_desk.specs.declared.reply.Reply.{Reply}
 
 -- while the store is open and read right, no append stands and the contest is valid
@@ -26,3 +28,11 @@ after outcome x = add_all x (outcome x).entries
 pub record Serves {L : Type 0} (contest committed : L → ContestState) (is_open : L → Bool) (old new : L) (outcome : ContestState → Outcome) (reply : Reply) : Type 0 where
   pub replied : reply ≡ (outcome (contest old)).reply
   pub left : Shows contest committed is_open new (after outcome (contest old)) (after outcome (contest old))
+
+-- a refusal that the store or want of memory is the cause of
+abbrev pub IsStoreReply : Reply → Type 0
+IsStoreReply reply = (reply ≡ refused StoreFault) ⊎ (reply ≡ refused Memory)
+
+-- the status isn't that of such a refusal
+abbrev pub IsOrdinary : Reply → Type 0
+IsOrdinary reply = (reply.status == 503) ≡ false

@@ -3,7 +3,9 @@
 
 mod asked;
 mod caller;
+mod desk;
 mod json_body;
+pub mod laws;
 mod offer;
 mod own_submissions;
 mod path;
@@ -17,6 +19,7 @@ mod route;
 mod routes;
 mod submission_body;
 
+pub use desk::Desk;
 pub use offer::{AllowedMethods, Operation};
 pub use reply::{ContentType, ExtraField, Reply, ReplyBody};
 pub use request::{Credential, KeyField, Method, Request};

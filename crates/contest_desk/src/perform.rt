@@ -3,7 +3,7 @@ ghost use Rattle.std.specs.Prelude.{◌≡◌, ◌<◌, IfOk, IfSome, IsTrue, On
 ghost use Rattle.contest_store.specs.Keeping.{CountsFaults, LeavesOnly, LeavesOr, RollsBack};
 ghost use Rattle.contest_desk.specs.Callers.{team_of};
 ghost use Rattle.contest_desk.specs.Routes.{routes};
-ghost use Rattle.contest_desk.specs.Serving.{IsReady, IsSettled, Serves, after};
+ghost use Rattle.contest_desk.specs.Serving.{IsOrdinary, IsReady, IsSettled, Serves, after};
 ghost use Rattle.contest_desk.specs.Step.{outcome, perform, posted};
 
 use crate::asked::asked;
@@ -35,6 +35,7 @@ pub fn serve<L: Records>(
     requires table { table.now ≡ routes }
     requires settled { IsSettled L.contest L.committed L.is_open L.is_clean records.old }
     ensures step { L.is_clean records.new → IfOk result (Serves L.contest L.committed L.is_open records.old records.new (λ x. outcome x now credential.now request)) }
+    ensures ordinary { IfOk result IsOrdinary }
     ensures err { L.is_clean records.new → IsTrue (L.is_open records.new) → OnErr result (RollsBack L.contest L.committed L.is_open records.old records.new) }
     ensures kept { L.is_clean records.new → LeavesOnly L.may_leave records.old (L.contest records.old)
         → OnOk result (LeavesOnly L.may_leave records.new (after (λ x. outcome x now credential.now request) (L.contest records.old))) }
@@ -68,6 +69,7 @@ fn perform<L: Records>(
     requires ready { L.is_clean records.old → IsReady L.contest L.committed L.is_open records.old fixed.now }
     requires there { L.is_clean records.old → IfSome (team_of caller) (λ team. team < length fixed.now.settings.teams) }
     ensures step { L.is_clean records.new → IfOk result (Serves L.contest L.committed L.is_open records.old records.new (λ x. perform x now caller operation request)) }
+    ensures ordinary { IfOk result IsOrdinary }
     ensures err { L.is_clean records.new → IsTrue (L.is_open records.new) → OnErr result (RollsBack L.contest L.committed L.is_open records.old records.new) }
     ensures kept { L.is_clean records.new → LeavesOnly L.may_leave records.old (L.contest records.old)
         → OnOk result (LeavesOnly L.may_leave records.new (after (λ x. perform x now caller operation request) (L.contest records.old))) }
@@ -100,6 +102,7 @@ fn post<L: Records>(
     requires ready { L.is_clean records.old → IsReady L.contest L.committed L.is_open records.old fixed.now }
     requires there { L.is_clean records.old → IfSome team (λ team. team < length fixed.now.settings.teams) }
     ensures step { L.is_clean records.new → IfOk result (Serves L.contest L.committed L.is_open records.old records.new (λ x. posted x now team request)) }
+    ensures ordinary { IfOk result IsOrdinary }
     ensures err { L.is_clean records.new → IsTrue (L.is_open records.new) → OnErr result (RollsBack L.contest L.committed L.is_open records.old records.new) }
     ensures kept { L.is_clean records.new → LeavesOnly L.may_leave records.old (L.contest records.old)
         → OnOk result (LeavesOnly L.may_leave records.new (after (λ x. posted x now team request) (L.contest records.old))) }

@@ -9,7 +9,7 @@ ghost use Rattle.contest_store.specs.Keeping.{CountsFaults, LeavesOnly, LeavesOr
 ghost use Rattle.contest_desk.specs.Outcomes.{adding};
 ghost use Rattle.contest_desk.specs.PostSubmission.{deciding, own_submission, post_submission, repeating};
 ghost use Rattle.contest_desk.specs.Replies.{answer};
-ghost use Rattle.contest_desk.specs.Serving.{IsReady, Serves, after};
+ghost use Rattle.contest_desk.specs.Serving.{IsOrdinary, IsReady, Serves, after};
 
 use crate::caller::audience_of_team;
 use crate::own_submissions::own_submissions;
@@ -40,6 +40,7 @@ pub fn post_submission<L: Records>(
     requires ready { L.is_clean records.old → IsReady L.contest L.committed L.is_open records.old fixed.now }
     requires there { L.is_clean records.old → team < length fixed.now.settings.teams }
     ensures step { L.is_clean records.new → IfOk result (Serves L.contest L.committed L.is_open records.old records.new (λ x. post_submission x.fixed now team (submissions_of team x.submissions) key body.now)) }
+    ensures ordinary { IfOk result IsOrdinary }
     ensures err { L.is_clean records.new → IsTrue (L.is_open records.new) → OnErr result (RollsBack L.contest L.committed L.is_open records.old records.new) }
     ensures kept { L.is_clean records.new → LeavesOnly L.may_leave records.old (L.contest records.old)
         → OnOk result (LeavesOnly L.may_leave records.new (after (λ x. post_submission x.fixed now team (submissions_of team x.submissions) key body.now) (L.contest records.old))) }
@@ -69,6 +70,7 @@ fn decide<L: Records>(
     requires there { L.is_clean records.old → team < length fixed.now.settings.teams }
     requires limit { length wanted.file ≤ posted_file }
     ensures step { L.is_clean records.new → IfOk result (Serves L.contest L.committed L.is_open records.old records.new (deciding now team wanted)) }
+    ensures ordinary { IfOk result IsOrdinary }
     ensures err { L.is_clean records.new → IsTrue (L.is_open records.new) → OnErr result (RollsBack L.contest L.committed L.is_open records.old records.new) }
     ensures kept { L.is_clean records.new → LeavesOnly L.may_leave records.old (L.contest records.old) → OnOk result (LeavesOnly L.may_leave records.new (after (deciding now team wanted) (L.contest records.old))) }
     ensures crash { L.is_clean records.new → LeavesOr L.may_leave records.old records.new (after (deciding now team wanted) (L.contest records.old)) }
@@ -97,7 +99,8 @@ fn repeat(
     team: usize,
     standing: Option<&Submission>,
 ) -> Result<Reply, AllocError>
-    ensures { team + 1 < 2 ^ 64 → IfOk result (λ reply. reply ≡ (repeating fixed.now team (option_map (λ s. s.now) standing.entry)).reply) }
+    ensures ordinary { IfOk result IsOrdinary }
+    ensures reply { team + 1 < 2 ^ 64 → IfOk result (λ reply. reply ≡ (repeating fixed.now team (option_map (λ s. s.now) standing.entry)).reply) }
 {
     match standing {
         Some(submission) => own_reply(alloc, fixed, team, submission),
@@ -117,6 +120,7 @@ fn accept<L: Records>(
     requires addable { L.is_clean records.old → is_addable (L.contest records.old) (NewSubmission submission) ≡ true }
     requires number { L.is_clean records.old → team + 1 < 2 ^ 64 }
     ensures step { L.is_clean records.new → IfOk result (Serves L.contest L.committed L.is_open records.old records.new (λ x. adding (NewSubmission submission) (own_submission x.fixed team submission))) }
+    ensures ordinary { IfOk result IsOrdinary }
     ensures err { L.is_clean records.new → IsTrue (L.is_open records.new) → OnErr result (RollsBack L.contest L.committed L.is_open records.old records.new) }
     ensures kept { L.is_clean records.new → OnOk result (LeavesOnly L.may_leave records.new (add (L.contest records.old) (NewSubmission submission))) }
     ensures crash { L.is_clean records.new → LeavesOr L.may_leave records.old records.new (add (L.contest records.old) (NewSubmission submission)) }
@@ -137,7 +141,8 @@ fn own_reply(
     team: usize,
     submission: &Submission,
 ) -> Result<Reply, AllocError>
-    ensures { team + 1 < 2 ^ 64 → IfOk result (λ reply. reply ≡ answer (own_submission fixed.now team submission.now)) }
+    ensures ordinary { IfOk result IsOrdinary }
+    ensures reply { team + 1 < 2 ^ 64 → IfOk result (λ reply. reply ≡ answer (own_submission fixed.now team submission.now)) }
 {
     let value = submission_value(alloc, fixed, audience_of_team(team), submission)?;
     Ok(Reply::answer(value.to_vec(alloc)?))

@@ -2,7 +2,7 @@
 ghost use Rattle.std.specs.Prelude.{◌≡◌, IfOk, IsTrue, OnErr, OnOk};
 ghost use Rattle.contest_store.specs.Keeping.{CountsFaults, LeavesNoMore, RollsBack};
 ghost use Rattle.contest_desk.specs.ReadSubmissions.{get_submission, list_submissions};
-ghost use Rattle.contest_desk.specs.Serving.{IsReady, Serves};
+ghost use Rattle.contest_desk.specs.Serving.{IsOrdinary, IsReady, Serves};
 
 use crate::Reply;
 use contest_store::Records;
@@ -24,6 +24,7 @@ pub fn list_submissions<L: Records>(
 ) -> Result<Reply, Refusal>
     requires ready { L.is_clean records.old → IsReady L.contest L.committed L.is_open records.old fixed.now }
     ensures step { L.is_clean records.new → IfOk result (Serves L.contest L.committed L.is_open records.old records.new (list_submissions audience now)) }
+    ensures ordinary { IfOk result IsOrdinary }
     ensures err { L.is_clean records.new → IsTrue (L.is_open records.new) → OnErr result (RollsBack L.contest L.committed L.is_open records.old records.new) }
     ensures crash { L.is_clean records.new → LeavesNoMore L.may_leave records.old records.new }
     ensures clean { L.is_clean records.new → L.is_clean records.old }
@@ -51,6 +52,7 @@ pub fn get_submission<L: Records>(
 ) -> Result<Reply, Refusal>
     requires ready { L.is_clean records.old → IsReady L.contest L.committed L.is_open records.old fixed.now }
     ensures step { L.is_clean records.new → IfOk result (Serves L.contest L.committed L.is_open records.old records.new (λ x. get_submission audience now x id.now)) }
+    ensures ordinary { IfOk result IsOrdinary }
     ensures err { L.is_clean records.new → IsTrue (L.is_open records.new) → OnErr result (RollsBack L.contest L.committed L.is_open records.old records.new) }
     ensures crash { L.is_clean records.new → LeavesNoMore L.may_leave records.old records.new }
     ensures clean { L.is_clean records.new → L.is_clean records.old }

@@ -19,14 +19,14 @@ known : (x : ContestState) (ss : List Submission) → map (λ (r : OwnRecord). r
 known x [] = refl
 known x (s ∷ ss) = ap (λ ts. s ∷ ts) (known x ss)
 
-own_sight : (x : ContestState) (team : ℕ) → sight_of (audience.Team (team + 1)) x team ≡ Whole (map (own_record x) (submissions_of team x.submissions))
+pub own_sight : (x : ContestState) (team : ℕ) → sight_of (audience.Team (team + 1)) x team ≡ Whole (map (own_record x) (submissions_of team x.submissions))
 own_sight x team = rw (eq-eqb (team + 1) (team + 1) refl) refl
 
 own_known : (x : ContestState) (team : ℕ) → from_sight (sight_of (audience.Team (team + 1)) x team) ≡ submissions_of team x.submissions
 unfolding from_sight
 own_known x team = ap from_sight (own_sight x team) ∙ known x (submissions_of team x.submissions)
 
-own_alike : (x y : ContestState) (team : ℕ) → Alike (audience.Team (team + 1)) x y → submissions_of team x.submissions ≡ submissions_of team y.submissions
+pub own_alike : (x y : ContestState) (team : ℕ) → Alike (audience.Team (team + 1)) x y → submissions_of team x.submissions ≡ submissions_of team y.submissions
 own_alike x y team h = sym (own_known x team) ∙ (ap from_sight (h.teams team) ∙ own_known y team)
 
 pub submit_alike : (x y : ContestState) (now team : ℕ) (w : WantedSubmission) → Alike (audience.Team (team + 1)) x y → submitted x now team w ≡ submitted y now team w

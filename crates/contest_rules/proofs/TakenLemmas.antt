@@ -40,7 +40,7 @@ abbrev language_ids : FixedPart → List (List ℕ)
 language_ids f = map (λ (l : Language). l.id) f.settings.languages
 
 -- what is known of a submission that is taken
-record Taken (f : FixedPart) (now team : ℕ) (own : List Submission) (w : WantedSubmission) (s : Submission) : Type 0 where
+pub record Taken (f : FixedPart) (now team : ℕ) (own : List Submission) (w : WantedSubmission) (s : Submission) : Type 0 where
   pub problem : ℕ
   pub language : ℕ
   pub is_problem : place_of w.problem (problem_ids f) ≡ Some problem
@@ -72,7 +72,7 @@ taken_to f now team own w s problem language p l =
     ] in
     go (place_of_key w.key own) refl
 
-taken : (f : FixedPart) (now team : ℕ) (own : List Submission) (w : WantedSubmission) (s : Submission) → submit f now team own w ≡ Add s → Taken f now team own w s
+pub taken : (f : FixedPart) (now team : ℕ) (own : List Submission) (w : WantedSubmission) (s : Submission) → submit f now team own w ≡ Add s → Taken f now team own w s
 taken f now team own w s =
     let complete : (problem language : ℕ) → place_of w.problem (problem_ids f) ≡ Some problem → place_of w.language (language_ids f) ≡ Some language → (lacks : Bool)
     → (if lacks then Refused EntryPointMissing else submit_to f now team own problem language w) ≡ Add s → Taken f now team own w s =

@@ -1,6 +1,5 @@
-use Rattle.std.proofs.Common.{◌∙◌, ap, sym, Some, refl}
+use Rattle.std.proofs.Common.{◌∙◌, ap, Some, refl}
 use Rattle.std.proofs.lemmas.Result.{IfOk-weaker}
-use Rattle.contest_types.specs.State.{ContestState}
 use Rattle.contest_desk.specs.Callers.{team_of}
 use Rattle.contest_desk.specs.ReadSubmissions.{get_submission, list_submissions}
 use Rattle.contest_desk.specs.Step.{perform}

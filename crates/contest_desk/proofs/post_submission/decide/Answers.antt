@@ -8,6 +8,7 @@ use Rattle.contest_rules.specs.Submitting.{submit}
 use Rattle.contest_store.specs.Keeping.{LeavesOnly}
 use Rattle.contest_desk.specs.Outcomes.{Outcome, adding, replying}
 use Rattle.contest_desk.specs.PostSubmission.{deciding, own_submission}
+use Rattle.contest_desk.proofs.NeverFails.{refusal_ordinary}
 use Rattle.contest_desk.proofs.PostLemmas.{decision_is, addable_is, number_fits, deciding_is, repeating_is}
 use Rattle.contest_desk.proofs.ServingLemmas.{serves_same, reply_serves, reply_keeps, then_or}
 use Rattle.contest_desk.proofs.post_submission.decide.Goals as goal
@@ -61,7 +62,7 @@ returns-in-Stands-clause-step g c = λ clean.
     let ready = c.requires.ready before in
     let fits = number_fits x c.args.fixed.now c.args.team ready.valid ready.has_fixed (c.requires.there before) in
     let come = deciding_is x c.args.fixed.now c.args.now c.args.team c.args.wanted c.in_ok-own.own.items c.deref.result.now c.decide_submission.result _ ready.has_fixed (c.in_ok-own.ensures.value clean) c.deref.ensures.value c.decide_submission.ensures c.in-Stands.is in
-    let stands = repeating_is x c.args.fixed.now c.args.team c.in-Stands.place c.args.wanted.key c.in_ok-own.own.items c.deref-in-Stands.result.now _ c.in_ok-repeat-in-Stands.field-0 ready.has_fixed (c.in_ok-own.ensures.value clean) c.deref-in-Stands.ensures.value c.row_at.ensures (c.in_ok-repeat-in-Stands.ensures fits) in
+    let stands = repeating_is x c.args.fixed.now c.args.team c.in-Stands.place c.args.wanted.key c.in_ok-own.own.items c.deref-in-Stands.result.now _ c.in_ok-repeat-in-Stands.field-0 ready.has_fixed (c.in_ok-own.ensures.value clean) c.deref-in-Stands.ensures.value c.row_at.ensures (c.in_ok-repeat-in-Stands.ensures.reply fits) in
     reply_serves g.L.Records.contest g.L.Records.committed g.L.Records.is_open c.args.records.now c.own_submissions.new.records (deciding c.args.now c.args.team c.args.wanted) c.in_ok-repeat-in-Stands.field-0 ready.settled
     (come ∙ stands) (c.in_ok-own.ensures.ok clean)
 
@@ -72,7 +73,7 @@ returns-in-Stands-clause-kept g c = λ clean only.
     let ready = c.requires.ready before in
     let fits = number_fits x c.args.fixed.now c.args.team ready.valid ready.has_fixed (c.requires.there before) in
     let come = deciding_is x c.args.fixed.now c.args.now c.args.team c.args.wanted c.in_ok-own.own.items c.deref.result.now c.decide_submission.result _ ready.has_fixed (c.in_ok-own.ensures.value clean) c.deref.ensures.value c.decide_submission.ensures c.in-Stands.is in
-    let stands = repeating_is x c.args.fixed.now c.args.team c.in-Stands.place c.args.wanted.key c.in_ok-own.own.items c.deref-in-Stands.result.now _ c.in_ok-repeat-in-Stands.field-0 ready.has_fixed (c.in_ok-own.ensures.value clean) c.deref-in-Stands.ensures.value c.row_at.ensures (c.in_ok-repeat-in-Stands.ensures fits) in
+    let stands = repeating_is x c.args.fixed.now c.args.team c.in-Stands.place c.args.wanted.key c.in_ok-own.own.items c.deref-in-Stands.result.now _ c.in_ok-repeat-in-Stands.field-0 ready.has_fixed (c.in_ok-own.ensures.value clean) c.deref-in-Stands.ensures.value c.row_at.ensures (c.in_ok-repeat-in-Stands.ensures.reply fits) in
     reply_keeps g.L.Records.may_leave c.args.records.now c.own_submissions.new.records x (deciding c.args.now c.args.team c.args.wanted) c.in_ok-repeat-in-Stands.field-0
     (come ∙ stands) (c.own_submissions.ensures.crash clean) only
 
@@ -93,3 +94,6 @@ returns-clause-kept g c = λ clean only.
     let come = deciding_is x c.args.fixed.now c.args.now c.args.team c.args.wanted c.in_ok-own.own.items c.deref.result.now c.decide_submission.result _ ready.has_fixed (c.in_ok-own.ensures.value clean) c.deref.ensures.value c.decide_submission.ensures c.in-Refused.is in
     reply_keeps g.L.Records.may_leave c.args.records.now c.own_submissions.new.records x (deciding c.args.now c.args.team c.args.wanted) c.refused.result
     (come ∙ ap replying (sym c.refused.ensures)) (c.own_submissions.ensures.crash clean) only
+
+pub returns-clause-ordinary : goal.returns-clause-ordinary
+returns-clause-ordinary g c = refusal_ordinary c.args.fixed.now c.args.now c.args.team c.deref.result.now c.args.wanted c.decide_submission.result _ c.refused.result c.decide_submission.ensures c.in-Refused.is c.refused.ensures

@@ -1,0 +1,81 @@
+//! The desk of a contest.
+ghost use Rattle.std.specs.Prelude.{◌≡◌, true, IsTrue};
+ghost use Rattle.contest_types.specs.Alike.{Alike, MayBeHeld};
+ghost use Rattle.contest_types.specs.State.{ContestState};
+ghost use Rattle.contest_types.specs.Valid.{is_valid};
+ghost use Rattle.contest_types.specs.Streams.{one_more};
+ghost use Rattle.contest_types.specs.declared.audience.Audience.{Audience as TheAudience};
+ghost use Rattle.contest_store.specs.Keeping.{LeavesOnly, LeavesOr};
+ghost use Rattle.contest_desk.specs.Replies.{refused};
+ghost use Rattle.contest_desk.specs.Laws.{HasSight};
+ghost use Rattle.contest_desk.specs.Serving.{IsStoreReply};
+ghost use Rattle.contest_desk.specs.Step.{step};
+
+use crate::perform::serve;
+use crate::{Credential, Reply, Request, Route};
+use contest_store::Records;
+use contest_types::{Moment, Refusal};
+use matchit::Router;
+use std::alloc::Global;
+use std::marker::Model;
+
+/// The desk of a contest, whoever keeps the contest. Contracts see what keeps it.
+#[derive(Drop)]
+pub struct Desk<L: Records> {
+    records: L,
+    table: Router<Route>,
+}
+
+impl<L: Records> Model for Desk<L> {
+    ghost use Rattle.std.specs.Prelude.{◌≡◌};
+    ghost use Rattle.contest_desk.specs.Routes.{routes};
+    ghost use Rattle.contest_desk.specs.Serving.{IsSettled};
+
+    ghost Value = { L };
+
+    ghost view = { λ d. d.records };
+
+    ghost invariant = { λ d. IsSettled L.contest L.committed L.is_open L.is_clean d.records × (d.table ≡ routes) };
+}
+
+impl<L: Records> Desk<L> {
+    /// Answers a request at a moment, and keeps what it adds. Refusals come in the order route,
+    /// method, token, role, body, references, domain.
+    ///
+    /// The reply and the contest afterwards are what one step of the machine gives; where the store
+    /// fails or a growth is refused the reply says so and the contest is as before. Until the thaw
+    /// the reply is the same over every contest that is alike for the caller.
+    pub fn handle(
+        &mut self,
+        alloc: Global,
+        now: Moment,
+        credential: Credential,
+        request: Request,
+    ) -> Reply
+        ensures reply { L.is_clean self.new → ¬ IsStoreReply result → result ≡ (step (L.contest self.old) now credential request).0 }
+        ensures contest { L.is_clean self.new → ¬ IsStoreReply result → L.contest self.new ≡ (step (L.contest self.old) now credential request).1 }
+        ensures unchanged { L.is_clean self.new → IsTrue (L.is_open self.new) → IsStoreReply result → L.contest self.new ≡ L.contest self.old }
+        ensures isolated { L.is_clean self.new → ¬ IsStoreReply result → (a : TheAudience) (y : ContestState) → HasSight (L.contest self.old).fixed credential a
+            → MayBeHeld a now (L.contest self.old) → is_valid y ≡ true → Alike a (L.contest self.old) y
+            → (result ≡ (step y now credential request).0) × Alike a (L.contest self.new) (step y now credential request).1 }
+        ensures kept { L.is_clean self.new → ¬ IsStoreReply result → LeavesOnly L.may_leave self.old (L.contest self.old)
+            → LeavesOnly L.may_leave self.new (step (L.contest self.old) now credential request).1 }
+        ensures crash { L.is_clean self.new → LeavesOr L.may_leave self.old self.new (step (L.contest self.old) now credential request).1 }
+        ensures clean { L.is_clean self.new → L.is_clean self.old }
+        ensures up { L.is_clean self.new → IsTrue (L.is_open self.new) → IsTrue (L.is_open self.old) }
+        ensures fault { result ≡ refused Refusal.StoreFault → L.faults self.new ≡ one_more (L.faults self.old) }
+        ensures no_fault { ¬ (result ≡ refused Refusal.StoreFault) → L.faults self.new ≡ L.faults self.old }
+    {
+        match serve(
+            alloc,
+            &mut self.records,
+            &self.table,
+            now,
+            &credential,
+            request,
+        ) {
+            Ok(reply) => reply,
+            Err(refusal) => Reply::refused(refusal),
+        }
+    }
+}

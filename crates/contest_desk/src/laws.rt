@@ -1,0 +1,37 @@
+//! Laws of the desk's steps: functions that do nothing, and whose contracts say what holds of every
+//! contest.
+ghost use Rattle.contest_desk.specs.Laws.{GetsAlike, ListsAlike, PostsAlike, StepsAlike, StepsKeepValid, StepsNeverFail};
+
+/// Until the thaw, valid contests that agree on all that a caller may learn answer each of its
+/// requests byte for byte alike, and agree on it afterwards.
+pub fn steps_alike()
+    ensures { StepsAlike }
+{}
+
+/// The submissions that an audience reads tell nothing that it may not learn.
+pub fn lists_alike()
+    ensures { ListsAlike }
+{}
+
+/// Nor does the submission that it asks for by any id: one that it doesn't see is as one that isn't
+/// there.
+pub fn gets_alike()
+    ensures { GetsAlike }
+{}
+
+/// Nor does what becomes of a team's own post: its number, its time, its repeats and its refusals
+/// depend on that team's submissions alone.
+pub fn posts_alike()
+    ensures { PostsAlike }
+{}
+
+/// A step leaves a valid contest valid.
+pub fn steps_keep_valid()
+    ensures { StepsKeepValid }
+{}
+
+/// No step answers that the store failed or that memory was refused: those answers are the desk's
+/// own, and say that nothing was done.
+pub fn steps_never_fail()
+    ensures { StepsNeverFail }
+{}
