@@ -6,4 +6,6 @@ pub mod FileLemmas
 pub mod PostLemmas
 pub mod ServingLemmas
 pub mod CallerLemmas
+pub mod UnseenLemmas
+mod ExamplesUnseen
 pub mod StepLemmas

@@ -10,4 +10,6 @@ pub mod PostSubmission
 pub mod ReadSubmissions
 pub mod Step
 pub mod Serving
+pub mod Unseen
+pub mod UnseenLaws
 pub mod OwnSubmissions

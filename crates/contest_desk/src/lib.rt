@@ -16,6 +16,7 @@ mod request;
 mod route;
 mod routes;
 mod submission_body;
+pub mod unseen;
 
 pub use offer::{AllowedMethods, Operation};
 pub use reply::{ContentType, ExtraField, Reply, ReplyBody};
