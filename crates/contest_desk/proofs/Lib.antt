@@ -6,6 +6,8 @@ pub mod FileLemmas
 pub mod PostLemmas
 pub mod ServingLemmas
 pub mod CallerLemmas
+pub mod UnseenLemmas
+mod ExamplesUnseen
 pub mod StepLemmas
 pub mod AddedAlike
 pub mod PostAdds

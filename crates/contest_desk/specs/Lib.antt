@@ -10,5 +10,7 @@ pub mod PostSubmission
 pub mod ReadSubmissions
 pub mod Step
 pub mod Serving
+pub mod Unseen
+pub mod UnseenLaws
 pub mod OwnSubmissions
 pub mod Laws

@@ -18,6 +18,7 @@ mod request;
 mod route;
 mod routes;
 mod submission_body;
+pub mod unseen;
 
 pub use desk::Desk;
 pub use offer::{AllowedMethods, Operation};

@@ -1,0 +1,31 @@
+-- What an audience can't notice leaves the contest alike for it. Each law is the contract of a function
+-- of src/unseen.rt.
+use Rattle.std.specs.Prelude.{◌≡◌, ℕ, List, []}
+use Rattle.contest_types.specs.State.{ContestState, add, add_all}
+use Rattle.contest_types.specs.Alike.{Alike}
+use Rattle.contest_types.specs.declared.entry.Entry.{Entry}
+use Rattle.contest_types.specs.declared.audience.Audience.{Audience}
+use Rattle.contest_desk.specs.Step.{outcome, step}
+use Rattle.contest_desk.specs.Unseen.{IsUnseen, AreUnseen}
+use Rattle.contest_desk.specs.declared.request.Credential.{Credential}
+use Rattle.contest_desk.specs.declared.request.Request.{Request}
+
+-- one entry that can't be noticed leaves the contest alike
+abbrev pub UnseenEntry : Type 0
+UnseenEntry = (a : Audience) (x : ContestState) (e : Entry) → IsUnseen a x e → Alike a (add x e) x
+
+-- and so do any number of them
+abbrev pub UnseenEntries : Type 0
+UnseenEntries = (a : Audience) (x : ContestState) (es : List Entry) → AreUnseen a x es → Alike a (add_all x es) x
+
+-- whoever asks: a request that adds only such entries leaves the contest alike
+abbrev pub UnseenStep : Type 0
+UnseenStep =
+    (a : Audience) (x : ContestState) (now : ℕ) (credential : Credential) (request : Request)
+    → AreUnseen a x (outcome x now credential request).entries → Alike a (step x now credential request).1 x
+
+-- a request that adds nothing leaves the contest as it was
+abbrev pub RefusedStep : Type 0
+RefusedStep =
+    (x : ContestState) (now : ℕ) (credential : Credential) (request : Request)
+    → (outcome x now credential request).entries ≡ [] → (step x now credential request).1 ≡ x

@@ -1,0 +1,27 @@
+//! Laws of what goes unnoticed: functions that do nothing, and whose contracts say what holds of every
+//! contest.
+ghost use Rattle.contest_desk.specs.UnseenLaws.{UnseenEntry, UnseenEntries, UnseenStep, RefusedStep};
+
+/// A change that an audience can't notice before the thaw leaves the contest alike for it: a verdict on
+/// another team's frozen submission, a hidden team's submission or a verdict on one, a clarification of
+/// another team with the jury, a proposed verdict, each step of a rejudging until its verdicts are
+/// released.
+pub fn unseen_entry()
+    ensures { UnseenEntry }
+{}
+
+/// And so does any number of such changes, one after another.
+pub fn unseen_entries()
+    ensures { UnseenEntries }
+{}
+
+/// Whoever asks, and for whatever: where a request adds only what an audience can't notice, the
+/// contest after it is alike for that audience to the contest before it.
+pub fn unseen_step()
+    ensures { UnseenStep }
+{}
+
+/// A request that adds nothing leaves the contest exactly as it was.
+pub fn refused_step()
+    ensures { RefusedStep }
+{}
