@@ -14,3 +14,4 @@ pub mod Unseen
 pub mod UnseenLaws
 pub mod OwnSubmissions
 pub mod Laws
+pub mod Runs

@@ -1,12 +1,12 @@
 -- The one table of routes, as matchit keeps it (paths are the Contest API 2023-06's; those under
 -- `/jury/` are own).
-use Rattle.std.specs.Prelude.{ℕ, List, [], Result, Ok, Err, Option, None, codes, if◌then◌else◌}
+use Rattle.std.specs.Prelude.{ℕ, Bool, false, List, [], Result, Ok, Err, Option, None, is_none, codes, if◌then◌else◌}
 use Rattle.std.specs.Option.{option_map}
 use Rattle.std.specs.Str.{is_utf8}
 use Rattle.matchit.specs.Order.{placed}
 use Rattle.matchit.specs.Rows.{RowsOf}
 use Rattle.matchit.specs.Route.{Scan, parse_route}
-use Rattle.matchit.specs.Router.{RouteOf, route_from}
+use Rattle.matchit.specs.Router.{RouteOf, route_from, nearest}
 use Rattle.matchit.specs.Seek.{first}
 use Rattle.matchit.specs.declared.error.InsertError.{InsertError}
 use Rattle.contest_desk.specs.declared.route.Route.{Route}
@@ -22,6 +22,14 @@ with_scan (Err e) r rows = rows
 -- the table with one more route, by its text
 unfoldable pub with_route : List ℕ → Route → Routes → Routes
 with_route text r rows = with_scan (parse_route text) r rows
+
+abbrev pub is_free : Routes → Result Scan InsertError → Bool
+is_free table (Ok s) = is_none (nearest s.pattern table)
+is_free table (Err e) = false
+
+-- the text is a route's, and none of the table's routes conflicts with it
+unfoldable pub takes_route : Routes → List ℕ → Bool
+takes_route table text = is_free table (parse_route text)
 
 unfoldable pub contest_routes : Routes → Routes
 contest_routes rows =

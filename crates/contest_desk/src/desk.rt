@@ -1,5 +1,5 @@
 //! The desk of a contest.
-ghost use Rattle.std.specs.Prelude.{◌≡◌, true, IsTrue};
+ghost use Rattle.std.specs.Prelude.{◌≡◌, ◌⊎◌, true, IfErr, IfOk, IsTrue};
 ghost use Rattle.contest_types.specs.Alike.{Alike, MayBeHeld};
 ghost use Rattle.contest_types.specs.State.{ContestState};
 ghost use Rattle.contest_types.specs.Valid.{is_valid};
@@ -8,15 +8,16 @@ ghost use Rattle.contest_types.specs.declared.audience.Audience.{Audience as The
 ghost use Rattle.contest_store.specs.Keeping.{LeavesOnly, LeavesOr};
 ghost use Rattle.contest_desk.specs.Replies.{refused};
 ghost use Rattle.contest_desk.specs.Laws.{HasSight};
-ghost use Rattle.contest_desk.specs.Serving.{IsStoreReply};
+ghost use Rattle.contest_desk.specs.Serving.{IsSettled, IsStoreReply};
 ghost use Rattle.contest_desk.specs.Step.{step};
 
 use crate::perform::serve;
+use crate::routes::routes;
 use crate::{Credential, Reply, Request, Route};
 use contest_store::Records;
 use contest_types::{Moment, Refusal};
 use matchit::Router;
-use std::alloc::Global;
+use std::alloc::{AllocError, Global};
 use std::marker::Model;
 
 /// The desk of a contest, whoever keeps the contest. Contracts see what keeps it.
@@ -39,6 +40,30 @@ impl<L: Records> Model for Desk<L> {
 }
 
 impl<L: Records> Desk<L> {
+    /// The desk of a contest that is kept. While the store is open and read right, no append may
+    /// stand and the contest must be valid.
+    ///
+    /// # Errors
+    ///
+    /// Want of memory alone. What keeps the contest is given back.
+    pub fn new(alloc: Global, records: L) -> Result<Desk<L>, (Refusal, L)>
+        requires { IsSettled L.contest L.committed L.is_open L.is_clean records }
+        ensures ok { IfOk result (λ desk. desk ≡ records) }
+        ensures err { IfErr result (λ e. (e.0 ≡ Refusal.Memory) × (e.1 ≡ records)) }
+    {
+        match routes(alloc) {
+            Ok(table) => Ok(Desk { records, table }),
+            Err(AllocError) => Err((Refusal::Memory, records)),
+        }
+    }
+
+    /// What keeps the contest.
+    pub fn into_records(self) -> L
+        ensures { result ≡ self }
+    {
+        self.records
+    }
+
     /// Answers a request at a moment, and keeps what it adds. Refusals come in the order route,
     /// method, token, role, body, references, domain.
     ///
@@ -63,6 +88,7 @@ impl<L: Records> Desk<L> {
         ensures crash { L.is_clean self.new → LeavesOr L.may_leave self.old self.new (step (L.contest self.old) now credential request).1 }
         ensures clean { L.is_clean self.new → L.is_clean self.old }
         ensures up { L.is_clean self.new → IsTrue (L.is_open self.new) → IsTrue (L.is_open self.old) }
+        ensures open { L.is_clean self.new → IsStoreReply result ⊎ (IsTrue (L.is_open self.new) × ¬ IsStoreReply result) }
         ensures fault { result ≡ refused Refusal.StoreFault → L.faults self.new ≡ one_more (L.faults self.old) }
         ensures no_fault { ¬ (result ≡ refused Refusal.StoreFault) → L.faults self.new ≡ L.faults self.old }
     {

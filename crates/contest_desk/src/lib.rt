@@ -17,6 +17,7 @@ mod reply;
 mod request;
 mod route;
 mod routes;
+mod run;
 mod submission_body;
 pub mod unseen;
 
@@ -25,3 +26,4 @@ pub use offer::{AllowedMethods, Operation};
 pub use reply::{ContentType, ExtraField, Reply, ReplyBody};
 pub use request::{Credential, KeyField, Method, Request};
 pub use route::Route;
+pub use run::Item;

@@ -1,14 +1,18 @@
 //! The one table of routes.
-ghost use Rattle.std.specs.Prelude.{◌≡◌, IfOk, OnOk, option_map};
+ghost use Rattle.std.specs.Prelude.{◌≡◌, true, [], IfOk, OnOk, option_map};
 ghost use Rattle.matchit.specs.Seek.{first};
-ghost use Rattle.contest_desk.specs.Routes.{contest_routes, jury_routes, rejudging_routes, route_in, routes, setting_routes, submission_routes, team_routes, with_route};
+ghost use Rattle.contest_desk.specs.Routes.{contest_routes, jury_routes, rejudging_routes, route_in, routes, setting_routes, submission_routes, takes_route, team_routes, with_route};
 
 use crate::Route;
 use matchit::{InsertError, Router};
-use std::alloc::Global;
+use std::alloc::{AllocError, Global};
 
 /// The table of all routes.
-pub fn routes(alloc: Global) -> Result<Router<Route>, InsertError>
+///
+/// # Errors
+///
+/// Want of memory alone.
+pub fn routes(alloc: Global) -> Result<Router<Route>, AllocError>
     ensures { IfOk result (λ table. table ≡ routes) }
 {
     let mut table = Router::new(alloc);
@@ -21,7 +25,8 @@ pub fn routes(alloc: Global) -> Result<Router<Route>, InsertError>
     Ok(table)
 }
 
-fn add_contest_routes(table: &mut Router<Route>) -> Result<(), InsertError>
+fn add_contest_routes(table: &mut Router<Route>) -> Result<(), AllocError>
+    requires { table.old ≡ [] }
     ensures { OnOk result (table.new ≡ contest_routes table.old) }
 {
     add(table, "/contests", Route::Contests)?;
@@ -31,7 +36,8 @@ fn add_contest_routes(table: &mut Router<Route>) -> Result<(), InsertError>
     Ok(())
 }
 
-fn add_setting_routes(table: &mut Router<Route>) -> Result<(), InsertError>
+fn add_setting_routes(table: &mut Router<Route>) -> Result<(), AllocError>
+    requires { table.old ≡ contest_routes [] }
     ensures { OnOk result (table.new ≡ setting_routes table.old) }
 {
     add(
@@ -53,7 +59,8 @@ fn add_setting_routes(table: &mut Router<Route>) -> Result<(), InsertError>
     Ok(())
 }
 
-fn add_team_routes(table: &mut Router<Route>) -> Result<(), InsertError>
+fn add_team_routes(table: &mut Router<Route>) -> Result<(), AllocError>
+    requires { table.old ≡ setting_routes (contest_routes []) }
     ensures { OnOk result (table.new ≡ team_routes table.old) }
 {
     add(table, "/contests/{contest}/teams", Route::Teams)?;
@@ -69,7 +76,8 @@ fn add_team_routes(table: &mut Router<Route>) -> Result<(), InsertError>
     Ok(())
 }
 
-fn add_submission_routes(table: &mut Router<Route>) -> Result<(), InsertError>
+fn add_submission_routes(table: &mut Router<Route>) -> Result<(), AllocError>
+    requires { table.old ≡ team_routes (setting_routes (contest_routes [])) }
     ensures { OnOk result (table.new ≡ submission_routes table.old) }
 {
     add(table, "/contests/{contest}/submissions", Route::Submissions)?;
@@ -96,7 +104,8 @@ fn add_submission_routes(table: &mut Router<Route>) -> Result<(), InsertError>
     Ok(())
 }
 
-fn add_jury_routes(table: &mut Router<Route>) -> Result<(), InsertError>
+fn add_jury_routes(table: &mut Router<Route>) -> Result<(), AllocError>
+    requires { table.old ≡ submission_routes (team_routes (setting_routes (contest_routes []))) }
     ensures { OnOk result (table.new ≡ jury_routes table.old) }
 {
     add(table, "/jury/proposals", Route::Proposals)?;
@@ -105,7 +114,8 @@ fn add_jury_routes(table: &mut Router<Route>) -> Result<(), InsertError>
     Ok(())
 }
 
-fn add_rejudging_routes(table: &mut Router<Route>) -> Result<(), InsertError>
+fn add_rejudging_routes(table: &mut Router<Route>) -> Result<(), AllocError>
+    requires { table.old ≡ jury_routes (submission_routes (team_routes (setting_routes (contest_routes [])))) }
     ensures { OnOk result (table.new ≡ rejudging_routes table.old) }
 {
     add(table, "/jury/rejudgings", Route::Rejudgings)?;
@@ -120,10 +130,24 @@ fn add_rejudging_routes(table: &mut Router<Route>) -> Result<(), InsertError>
     Ok(())
 }
 
-fn add(table: &mut Router<Route>, text: &str, route: Route) -> Result<(), InsertError>
+// One more route, which conflicts with none that is there.
+fn add(table: &mut Router<Route>, text: &str, route: Route) -> Result<(), AllocError>
+    requires { takes_route table.old text.now ≡ true }
     ensures { OnOk result (table.new ≡ with_route text.now route table.old) }
 {
-    table.insert(text, route)
+    match table.insert(text, route) {
+        Ok(()) => Ok(()),
+        Err(error) => Err(want_of_memory(error)),
+    }
+}
+
+fn want_of_memory(error: InsertError) -> AllocError
+    requires { error ≡ InsertError.OutOfMemory }
+{
+    match error {
+        InsertError::OutOfMemory => AllocError,
+        _ => unreachable!(),
+    }
 }
 
 /// The route of a path in a table, if it has one. It takes no memory.

@@ -1,6 +1,23 @@
 use Rattle.std.proofs.Common.{refl}
-use Rattle.contest_desk.specs.Routes.{contest_routes}
+use Rattle.matchit.proofs.OnLiterals.{matchit_on_literals}
+use Rattle.contest_desk.specs.Routes.{takes_route, with_route, contest_routes}
 use Rattle.contest_desk.proofs.routes.add_contest_routes.Goals as goal
+
+pub add-requires : goal.add-requires
+unfolding matchit_on_literals takes_route with_route
+add-requires c = rw c.requires refl
+
+pub add-requires-2 : goal.add-requires-2
+unfolding matchit_on_literals takes_route with_route
+add-requires-2 c = rw (c.in_ok-add.ensures, c.requires) refl
+
+pub add-requires-3 : goal.add-requires-3
+unfolding matchit_on_literals takes_route with_route
+add-requires-3 c = rw (c.in_ok-add-2.ensures, c.in_ok-add.ensures, c.requires) refl
+
+pub add-requires-4 : goal.add-requires-4
+unfolding matchit_on_literals takes_route with_route
+add-requires-4 c = rw (c.in_ok-add-3.ensures, c.in_ok-add-2.ensures, c.in_ok-add.ensures, c.requires) refl
 
 pub returns : goal.returns
 unfolding contest_routes

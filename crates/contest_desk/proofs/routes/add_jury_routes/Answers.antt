@@ -1,6 +1,19 @@
 use Rattle.std.proofs.Common.{refl}
-use Rattle.contest_desk.specs.Routes.{jury_routes}
+use Rattle.matchit.proofs.OnLiterals.{matchit_on_literals}
+use Rattle.contest_desk.specs.Routes.{takes_route, with_route, contest_routes, setting_routes, team_routes, submission_routes, jury_routes}
 use Rattle.contest_desk.proofs.routes.add_jury_routes.Goals as goal
+
+pub add-requires : goal.add-requires
+unfolding matchit_on_literals takes_route with_route contest_routes setting_routes team_routes submission_routes
+add-requires c = rw c.requires refl
+
+pub add-requires-2 : goal.add-requires-2
+unfolding matchit_on_literals takes_route with_route contest_routes setting_routes team_routes submission_routes
+add-requires-2 c = rw (c.in_ok-add.ensures, c.requires) refl
+
+pub add-requires-3 : goal.add-requires-3
+unfolding matchit_on_literals takes_route with_route contest_routes setting_routes team_routes submission_routes
+add-requires-3 c = rw (c.in_ok-add-2.ensures, c.in_ok-add.ensures, c.requires) refl
 
 pub returns : goal.returns
 unfolding jury_routes

@@ -34,3 +34,6 @@ returns-in-Ok-clause-fault g c = λ is. absurd (ordinary_apart c.in-Ok.reply c.i
 pub returns-clause-fault : goal.returns-clause-fault
 returns-clause-fault g c = λ is.
     fault_counted c.in-Err.refusal _ _ c.refused.result c.in-Err.ensures.count c.refused.ensures is ∙ ap (λ r. one_more (g.L.Records.faults r)) c.self.view_is
+
+pub returns-in-Ok-clause-open : goal.returns-in-Ok-clause-open
+returns-in-Ok-clause-open g c = λ clean. inr ((c.in-Ok.ensures.step clean).left.up, ordinary_apart c.in-Ok.reply c.in-Ok.ensures.ordinary)

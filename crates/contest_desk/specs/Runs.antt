@@ -1,0 +1,23 @@
+-- Requests handled one after another (own).
+use Rattle.std.specs.Prelude.{◌≡◌, ◌⊎◌, Bool, IsTrue, List, [], ◌∷◌}
+use Rattle.contest_types.specs.State.{ContestState}
+use Rattle.contest_desk.specs.Serving.{IsStoreReply}
+use Rattle.contest_desk.specs.Step.{step}
+use Rattle.contest_desk.specs.declared.reply.Reply.{Reply}
+use Rattle.contest_desk.specs.declared.run.Item.{Item}
+
+-- a request is answered as the machine's step does, or with a failure that changes nothing
+abbrev pub IsServed : ContestState → Item → Reply → ContestState → Type 0
+IsServed x item reply y =
+    ((reply ≡ (step x item.now item.credential item.request).0) × (y ≡ (step x item.now item.credential item.request).1)) ⊎ (IsStoreReply reply × (y ≡ x))
+
+-- from one contest to another by these requests, with these replies
+abbrev pub IsRun : ContestState → List Item → List Reply → ContestState → Type 0
+IsRun x [] [] y = y ≡ x
+IsRun x (item ∷ items) (reply ∷ replies) y = (mid : ContestState) × IsServed x item reply mid × IsRun mid items replies y
+IsRun x [] (reply ∷ replies) y = ⊥
+IsRun x (item ∷ items) [] y = ⊥
+
+-- the requests are a run from the contest before, to the contest after if the store is still open
+abbrev pub RunsTo : {L : Type 0} → (L → ContestState) → (L → Bool) → (old new : L) → List Item → List Reply → Type 0
+RunsTo contest is_open old new items replies = (y : ContestState) × IsRun (contest old) items replies y × (IsTrue (is_open new) → contest new ≡ y)

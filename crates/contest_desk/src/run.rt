@@ -1,0 +1,41 @@
+//! Requests handled one after another.
+ghost use Rattle.std.specs.Prelude.{◌≡◌, IfOk, OnErr};
+ghost use Rattle.contest_desk.specs.Runs.{RunsTo};
+
+use crate::{Credential, Desk, Reply, Request};
+use contest_store::Records;
+use contest_types::Moment;
+use std::alloc::{AllocError, Global};
+
+/// A request at its moment, with who asks.
+#[derive(Debug, Drop)]
+pub struct Item {
+    /// The moment.
+    pub now: Moment,
+    /// Who asks.
+    pub credential: Credential,
+    /// What is asked.
+    pub request: Request,
+}
+
+impl<L: Records> Desk<L> {
+    /// Handles requests one after another, and gives their replies in order.
+    ///
+    /// # Errors
+    ///
+    /// Want of memory alone, before the first request: nothing is handled then.
+    pub fn run(&mut self, alloc: Global, items: Vec<Item>) -> Result<Vec<Reply>, AllocError>
+        ensures run { L.is_clean self.new → IfOk result (λ replies. RunsTo L.contest L.is_open self.old self.new items.items replies.items) }
+        ensures early { OnErr result (self.new ≡ self.old) }
+    {
+        let mut replies = Vec::with_capacity(alloc, items.len())?;
+        for item in items {
+            let reply = self.handle(alloc, item.now, item.credential, item.request);
+            match replies.push(reply) {
+                Ok(()) => {}
+                Err(_) => unreachable!(),
+            }
+        }
+        Ok(replies)
+    }
+}
