@@ -21,11 +21,11 @@ use Rattle.contest_types.proofs.AddLemmas.{one_team}
 use Rattle.contest_types.proofs.SettingsTest.{is_settings}
 use Rattle.contest_score.specs.Lists.{IsCountable, CanBeScored, without_file}
 
--- a submission of one of the first teams is of the last of them or of those before
 at_most_one : (b : Bool) → cond b 1 0 ≤ 1
 at_most_one true = omega arith
 at_most_one false = omega arith
 
+-- a place below the next one is below this one, or it is this one
 one_more_team : (m n : ℕ) → cond (nat_lt m (suc n)) 1 0 ≤ cond (nat_lt m n) 1 0 + cond (m == n) 1 0
 one_more_team m n =
     let past : nat_lt m n ≡ false → (m == n) ≡ false → nat_lt m (suc n) ≡ false = λ e off. le-ltb m (suc n) (grind (arith, nat_tests, e, off)) in
@@ -41,7 +41,7 @@ kept_length : {X : Type 0} (x : X) (xs : List X) (b : Bool) → length (if b the
 kept_length x xs true = omega arith
 kept_length x xs false = omega arith
 
--- how many submissions are of the first teams
+-- the submissions of the first teams
 abbrev below : ℕ → List Submission → List Submission
 below n = filter (λ (s : Submission). nat_lt s.team n)
 
