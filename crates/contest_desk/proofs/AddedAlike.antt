@@ -1,32 +1,26 @@
 -- A submission that a team adds to alike contests leaves them alike for it.
-use Rattle.std.proofs.Common.{◌≡◌, ◌∙◌, ◌+◌, ◌≤◌, ℕ, zero, suc, None, Bool, true, false, List, [], ◌∷◌, ◌++◌, length, map, refl, sym, ap, subst, arith}
+use Rattle.std.proofs.Common.{◌≡◌, ◌∙◌, ◌+◌, ◌≤◌, ℕ, zero, suc, Bool, true, false, List, [], ◌∷◌, ◌++◌, length, map, refl, sym, ap, subst, arith}
 use Rattle.std.specs.Prelude.{◌==◌, ◌&&◌, ◌||◌, filter, if◌then◌else◌}
 use Rattle.std.specs.List.{list_all, list_any, range_with_len}
 use Rattle.std.proofs.lemmas.Bool.{eq-eqb, eqb-true, false≢true}
 use Rattle.std.proofs.lemmas.Bool.Decides.{nat_tests}
 use Rattle.std.proofs.lemmas.List.{map-append}
-use Rattle.std.proofs.lemmas.Slice.Eq.{bytes_eq-Decides}
 use Rattle.contest_types.specs.Alike.{OwnRecord, own_record, open_record, TeamSight, Whole, Open, Nothing, sight_of, Alike}
 use Rattle.contest_types.specs.Masks.{owns}
 use Rattle.contest_types.specs.TeamPlaces.{is_public}
 use Rattle.contest_types.specs.Sight.{judgement_of, judgements_on}
 use Rattle.contest_types.specs.State.{ContestState, submissions_of, releases_on, add}
-use Rattle.contest_types.specs.Series.{count_up}
 use Rattle.contest_types.specs.Valid.{is_valid}
-use Rattle.contest_types.specs.ValidSubmissions.{is_valid_submission, of_one_team, are_valid_submissions, has_submission, is_valid_release}
+use Rattle.contest_types.specs.ValidSubmissions.{has_submission, is_valid_release}
 use Rattle.contest_types.specs.declared.entry.Entry.TheVariants.{NewSubmission}
 use Rattle.contest_types.specs.declared.audience.Audience.{Audience}
 use Rattle.contest_types.specs.declared.audience.Audience.TheVariants as audience
 use Rattle.contest_types.specs.declared.submission.Submission.{Submission}
 use Rattle.contest_types.specs.declared.submission.Release.{Release}
 use Rattle.contest_types.proofs.PlaceLemmas.{and_left, and_right}
-use Rattle.contest_types.proofs.ValidParts.{parts, four}
-use Rattle.contest_types.proofs.SeriesLemmas.{in_any}
-use Rattle.contest_types.proofs.AddLemmas.{one_team}
+use Rattle.contest_types.proofs.ValidParts.{parts}
+use Rattle.contest_desk.proofs.FileLemmas.{number_of, own_numbers}
 use Rattle.contest_rules.proofs.SubmittingLemmas.{own_sight, own_alike}
-
-abbrev number_of : Submission → ℕ
-number_of s = s.number
 
 -- a team's submissions with one more
 own_more : (team : ℕ) (ss : List Submission) (s : Submission) → (s.team == team) ≡ true → submissions_of team (ss ++ s ∷ []) ≡ submissions_of team ss ++ s ∷ []
@@ -89,13 +83,8 @@ no_release x team n (v ∷ vs) none all =
 unjudged : (x : ContestState) (team n : ℕ) → is_valid x ≡ true → n ≡ length (submissions_of team x.submissions) + 1 → releases_on team n x.releases ≡ []
 unjudged x team n valid next =
     let own = submissions_of team x.submissions in
-    let ps = parts x valid in
-    let one : Submission = record { team = team; number = 0; time = 0; problem = 0; language = 0; entry_point = None; file = []; key = None } in
-    let series : are_valid_submissions own ≡ true = in_any of_one_team are_valid_submissions one_team refl x.submissions one (and_right (list_all (is_valid_submission x.fixed) x.submissions) _ ps.submissions) in
-    let counted : count_up (map number_of own) ≡ true = (four (count_up (map number_of own)) _ _ _ series).first in
-    let all : map number_of own ≡ range_with_len 1 (length (map number_of own)) = (bytes_eq-Decides (map number_of own) (range_with_len 1 (length (map number_of own)))).0 counted in
-    let past : list_any (λ s. s.number == n) own ≡ false = past_last own 1 n (length (map number_of own)) all (omega (arith, next)) in
-    no_release x team n x.releases (any_both (λ s. s.team == team) (λ s. s.number == n) x.submissions ∙ past) (and_left (list_all (is_valid_release x) x.releases) _ ps.releases)
+    let past : list_any (λ s. s.number == n) own ≡ false = past_last own 1 n (length (map number_of own)) (own_numbers x team valid) (omega (arith, next)) in
+    no_release x team n x.releases (any_both (λ s. s.team == team) (λ s. s.number == n) x.submissions ∙ past) (and_left (list_all (is_valid_release x) x.releases) _ (parts x valid).releases)
 
 -- what a team knows of itself, with one more of its submissions
 own_grows : (x : ContestState) (team : ℕ) (s : Submission) → is_valid x ≡ true → (s.team == team) ≡ true → s.number ≡ length (submissions_of team x.submissions) + 1

@@ -1,5 +1,5 @@
 -- The file of a submission that stands is found by its number.
-use Rattle.std.proofs.Common.{◌≡◌, ◌∙◌, ◌+◌, ℕ, zero, suc, Bool, true, false, cond, List, [], ◌∷◌, length, map, Some, refl, sym, ap, arith}
+use Rattle.std.proofs.Common.{None, ◌≡◌, ◌∙◌, ◌+◌, ℕ, zero, suc, Bool, true, false, cond, List, [], ◌∷◌, length, map, Some, refl, sym, ap, arith}
 use Rattle.std.specs.Prelude.{◌==◌, ◌&&◌, find, filter, slice_get}
 use Rattle.std.specs.List.{range_with_len, list_all}
 use Rattle.std.specs.Option.{option_map}
@@ -17,7 +17,7 @@ use Rattle.contest_types.proofs.ValidParts.{parts, four}
 use Rattle.contest_types.proofs.SeriesLemmas.{in_any}
 use Rattle.contest_types.proofs.AddLemmas.{one_team}
 
-abbrev number_of : Submission → ℕ
+abbrev pub number_of : Submission → ℕ
 number_of s = s.number
 
 -- the first that passes both tests is the first of those that pass the one that passes the other
@@ -53,15 +53,20 @@ found_at (t ∷ ss) k (suc n) (suc i) s all at =
     let other : (t.number == s.number) ≡ false = other_number t.number s.number k i (first_is _ k n _ all) (number_at ss (k + 1) n i s (rest_is _ k n _ all) at) in
     rw other (found_at ss (k + 1) n i s (rest_is _ k n _ all) at)
 
+-- a team's submissions are numbered 1, 2, 3 and so on
+pub own_numbers : (x : ContestState) (team : ℕ) → is_valid x ≡ true
+    → map number_of (submissions_of team x.submissions) ≡ range_with_len 1 (length (map number_of (submissions_of team x.submissions)))
+own_numbers x team valid =
+    let own = submissions_of team x.submissions in
+    let one : Submission = record { team = team; number = 0; time = 0; problem = 0; language = 0; entry_point = None; file = []; key = None } in
+    let series : are_valid_submissions own ≡ true = in_any of_one_team are_valid_submissions one_team refl x.submissions one (and_right (list_all (is_valid_submission x.fixed) x.submissions) _ (parts x valid).submissions) in
+    let counted : count_up (map number_of own) ≡ true = (four (count_up (map number_of own)) _ _ _ series).first in
+    (bytes_eq-Decides (map number_of own) (range_with_len 1 (length (map number_of own)))).0 counted
+
 pub file_there : (x : ContestState) (team place : ℕ) (s : Submission) → is_valid x ≡ true → slice_get (submissions_of team x.submissions) place ≡ Some s
     → file_of x team s.number ≡ Some s.file
 file_there x team place s valid at =
     let own = submissions_of team x.submissions in
-    let lists = (parts x valid).submissions in
-    let one : Submission = record s { team = team } in
-    let series : are_valid_submissions own ≡ true = in_any of_one_team are_valid_submissions one_team refl x.submissions one (and_right (list_all (is_valid_submission x.fixed) x.submissions) _ lists) in
-    let counted : count_up (map number_of own) ≡ true = (four (count_up (map number_of own)) _ _ _ series).first in
-    let all : map number_of own ≡ range_with_len 1 (length (map number_of own)) = (bytes_eq-Decides (map number_of own) (range_with_len 1 (length (map number_of own)))).0 counted in
-    let found : find (λ t. t.number == s.number) own ≡ Some s = found_at own 1 (length (map number_of own)) place s all at in
+    let found : find (λ t. t.number == s.number) own ≡ Some s = found_at own 1 (length (map number_of own)) place s (own_numbers x team valid) at in
     let both : find (λ t. (t.team == team) && (t.number == s.number)) x.submissions ≡ Some s = find_both (λ t. t.team == team) (λ t. t.number == s.number) x.submissions ∙ found in
     ap (option_map (λ (t : Submission). t.file)) both
