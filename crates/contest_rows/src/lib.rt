@@ -8,6 +8,8 @@ mod contests;
 #[cfg(test)]
 mod examples;
 #[cfg(test)]
+mod kept_in_memory;
+#[cfg(test)]
 mod limits;
 #[cfg(test)]
 mod made_contest;

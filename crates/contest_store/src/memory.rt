@@ -55,7 +55,9 @@ impl MemoryRecords {
         }
     }
 
-    /// Lets so many more calls go on, and the one after them fail.
+    /// Lets so many more calls go on, and the one after them fail. The contest stays; that the call
+    /// fails then is no clause of it, since what a call gives is what any store promises, and is shown
+    /// by tests (`kept_in_memory` of contest_rows).
     pub fn fail_after(&mut self, calls: u32)
         ensures { self.new ≡ self.old }
     {
