@@ -26,7 +26,8 @@ Commands:
 
 Example: desk replay --at 1:30:00 < contest.csv
 
-'desk <COMMAND> --help' tells more of a command.
+'desk <COMMAND> --help' tells more of a command. docs/FORMATS.md says how to
+write a contest as CSV.
 ";
 
 /// Runs the program by its arguments, of which the first is its own name. Answers the exit status.
