@@ -1,5 +1,5 @@
 -- Which command the words name, and what is told where they name none or ask for help.
-use Rattle.std.specs.Prelude.{◌≡◌, ◌≤◌, ◌⊎◌, ℕ, List, [], ◌∷◌, ◌++◌, Bool, false, codes, ◌||◌}
+use Rattle.std.specs.Prelude.{◌≡◌, ◌≤◌, ◌⊎◌, ℕ, List, [], ◌∷◌, ◌++◌, Bool, true, false, codes, ◌||◌}
 use Rattle.std.specs.Io.KnownBytes.{Appends, Keeps}
 use Rattle.std.specs.List.{list_any}
 use Rattle.std.specs.Str.{bytes_eq}
@@ -21,6 +21,13 @@ abbrev pub NamesNone : List Text → Type 0
 NamesNone [] = Unit {0}
 NamesNone (name ∷ options) = (bytes_eq name (codes "replay") || bytes_eq name (codes "help") || is_help name) ≡ false
 
+-- the words ask for help: the program's, or that of `replay`
+abbrev pub AsksHelp : List Text → Type 0
+AsksHelp [] = ⊥
+AsksHelp (name ∷ options) =
+    (name ≡ codes "help") ⊎ (name ≡ codes "--help") ⊎ (name ≡ codes "-h")
+    ⊎ ((name ≡ codes "replay") × (list_any is_help options ≡ true))
+
 -- what is said of a command that there isn't
 abbrev pub unknown_command : Text → List ℕ
 unknown_command name = codes "error: unknown command '" ++ name ++ codes "'; the commands are replay and help\n"
@@ -40,3 +47,8 @@ abbrev pub ShowsSome : (out_old out_new err_old err_new : Stream) → (status : 
 ShowsSome out_old out_new err_old err_new status =
     ((text : List ℕ) × Shows text out_old out_new err_old err_new status)
     ⊎ ((status ≡ 1) × Keeps out_old.bytes out_new.bytes × Tells err_old err_new (refusal_line Memory))
+
+-- words that name no command: some text is told of them, and `out` keeps what it had
+abbrev pub TellsNone : (out_old out_new err_old err_new : Stream) → (status : ℕ) → Type 0
+TellsNone out_old out_new err_old err_new status =
+    ((text : List ℕ) × TellsWords text err_old err_new status) × Keeps out_old.bytes out_new.bytes

@@ -2,7 +2,7 @@
 ghost use Rattle.std.specs.Prelude.{◌≡◌, ◌≤◌, ◌⊎◌, codes, map, string_bytes, IfErr, IfOk};
 ghost use Rattle.std.specs.List.{list_any};
 ghost use Rattle.contest_types.specs.Streams.{Tells, stream};
-ghost use Rattle.contest_cli.specs.Commands.{IsReplay, NamesNone, Shows, ShowsSome, TellsWords, is_help, unknown_command};
+ghost use Rattle.contest_cli.specs.Commands.{AsksHelp, IsReplay, NamesNone, Shows, ShowsSome, TellsNone, TellsWords, is_help, unknown_command};
 ghost use Rattle.contest_cli.specs.Replay.{Replays};
 
 use crate::output::write_whole;
@@ -88,7 +88,8 @@ fn borrowed(alloc: Global, words: &[String]) -> Result<Vec<&str>, AllocError>
 
 // What is said of arguments that can't be read.
 fn refuse_arguments<E: Write>(error: &io::Error, err: &mut Counted<E>) -> u8
-    ensures { TellsWords (codes "error: an argument isn't UTF-8\n") (stream E.contents err.old) (stream E.contents err.new) result }
+    ensures told { TellsWords (codes "error: an argument isn't UTF-8\n") (stream E.contents err.old) (stream E.contents err.new) result }
+    ensures refused { 1 ≤ result }
 {
     if error.kind() == ErrorKind::OutOfMemory {
         return Stop::Refused(Refusal::Memory).refuse(err);
@@ -120,7 +121,12 @@ pub fn run<R: Read, O: Write, E: Write>(
         (stream R.remaining reader.old) (stream R.remaining reader.new)
         (stream O.contents out.old) (stream O.contents out.new)
         (stream E.contents err.old) (stream E.contents err.new) result }
-    ensures unknown { NamesNone (map (λ s. s.now) words.now) → 1 ≤ result }
+    ensures help { AsksHelp (map (λ s. s.now) words.now)
+        → ShowsSome (stream O.contents out.old) (stream O.contents out.new)
+        (stream E.contents err.old) (stream E.contents err.new) result }
+    ensures unknown { NamesNone (map (λ s. s.now) words.now)
+        → TellsNone (stream O.contents out.old) (stream O.contents out.new)
+        (stream E.contents err.old) (stream E.contents err.new) result }
 {
     if words.is_empty() {
         tell(HELP.as_bytes(), err);
