@@ -1,8 +1,12 @@
--- Which command the words name.
-use Rattle.std.specs.Prelude.{◌≡◌, List, [], ◌∷◌, Bool, false, codes, ◌||◌}
+-- Which command the words name, and what is told where they name none or ask for help.
+use Rattle.std.specs.Prelude.{◌≡◌, ◌≤◌, ◌⊎◌, ℕ, List, [], ◌∷◌, ◌++◌, Bool, true, false, codes, ◌||◌}
+use Rattle.std.specs.Io.KnownBytes.{Appends, Keeps}
 use Rattle.std.specs.List.{list_any}
 use Rattle.std.specs.Str.{bytes_eq}
 use Rattle.clap.specs.Walk.{Text}
+use Rattle.contest_types.specs.Streams.{Stream, Fails, Tells, AppendsFront}
+use Rattle.contest_types.specs.declared.refusal.Refusal.TheVariants.{Memory}
+use Rattle.contest_cli.specs.Lines.{refusal_line}
 
 abbrev pub is_help : Text → Bool
 is_help word = bytes_eq word (codes "--help") || bytes_eq word (codes "-h")
@@ -16,3 +20,35 @@ IsReplay (name ∷ options) = (name ≡ codes "replay") × (list_any is_help opt
 abbrev pub NamesNone : List Text → Type 0
 NamesNone [] = Unit {0}
 NamesNone (name ∷ options) = (bytes_eq name (codes "replay") || bytes_eq name (codes "help") || is_help name) ≡ false
+
+-- the words ask for help: the program's, or that of `replay`
+abbrev pub AsksHelp : List Text → Type 0
+AsksHelp [] = ⊥
+AsksHelp (name ∷ options) =
+    (name ≡ codes "help") ⊎ (name ≡ codes "--help") ⊎ (name ≡ codes "-h")
+    ⊎ ((name ≡ codes "replay") × (list_any is_help options ≡ true))
+
+-- what is said of a command that there isn't
+abbrev pub unknown_command : Text → List ℕ
+unknown_command name = codes "error: unknown command '" ++ name ++ codes "'; the commands are replay and help\n"
+
+-- words that are refused: this is told (2), or memory for it was refused (1)
+abbrev pub TellsWords : List ℕ → Stream → Stream → (status : ℕ) → Type 0
+TellsWords text old new status = ((status ≡ 2) × Tells old new text) ⊎ ((status ≡ 1) × Tells old new (refusal_line Memory))
+
+-- a text that was asked for: it is on `out` (0), or a front of it is, for `out` failed, which is told (1)
+pub record Shows (text : List ℕ) (out_old out_new err_old err_new : Stream) (status : ℕ) : Type 0 where
+  pub statuses : status ≤ 1
+  pub done : status ≡ 0 → Appends out_old.bytes out_new.bytes text × Keeps err_old.bytes err_new.bytes
+  pub cut : status ≡ 1 → Fails out_old out_new × AppendsFront out_old.bytes out_new.bytes text × Tells err_old err_new (codes "refused: File\n")
+
+-- a text that was asked for, or memory for it was refused
+abbrev pub ShowsSome : (out_old out_new err_old err_new : Stream) → (status : ℕ) → Type 0
+ShowsSome out_old out_new err_old err_new status =
+    ((text : List ℕ) × Shows text out_old out_new err_old err_new status)
+    ⊎ ((status ≡ 1) × Keeps out_old.bytes out_new.bytes × Tells err_old err_new (refusal_line Memory))
+
+-- words that name no command: some text is told of them, and `out` keeps what it had
+abbrev pub TellsNone : (out_old out_new err_old err_new : Stream) → (status : ℕ) → Type 0
+TellsNone out_old out_new err_old err_new status =
+    ((text : List ℕ) × TellsWords text err_old err_new status) × Keeps out_old.bytes out_new.bytes

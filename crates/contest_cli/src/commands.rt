@@ -1,8 +1,8 @@
 //! The program's commands: which one the words name, and the help that tells of them.
-ghost use Rattle.std.specs.Prelude.{◌≡◌, ◌≤◌, map, string_bytes, IfErr, IfOk};
+ghost use Rattle.std.specs.Prelude.{◌≡◌, ◌≤◌, ◌⊎◌, codes, map, string_bytes, IfErr, IfOk};
 ghost use Rattle.std.specs.List.{list_any};
-ghost use Rattle.contest_types.specs.Streams.{stream};
-ghost use Rattle.contest_cli.specs.Commands.{IsReplay, NamesNone, is_help};
+ghost use Rattle.contest_types.specs.Streams.{Tells, stream};
+ghost use Rattle.contest_cli.specs.Commands.{AsksHelp, IsReplay, NamesNone, Shows, ShowsSome, TellsNone, TellsWords, is_help, unknown_command};
 ghost use Rattle.contest_cli.specs.Replay.{Replays};
 
 use crate::output::write_whole;
@@ -26,7 +26,8 @@ Commands:
 
 Example: desk replay --at 1:30:00 < contest.csv
 
-'desk <COMMAND> --help' tells more of a command.
+'desk <COMMAND> --help' tells more of a command. docs/FORMATS.md says how to
+write a contest as CSV.
 ";
 
 /// Runs the program by its arguments, of which the first is its own name. Answers the exit status.
@@ -87,14 +88,21 @@ fn borrowed(alloc: Global, words: &[String]) -> Result<Vec<&str>, AllocError>
 
 // What is said of arguments that can't be read.
 fn refuse_arguments<E: Write>(error: &io::Error, err: &mut Counted<E>) -> u8
-    ensures statuses { result ≤ 2 }
+    ensures told { TellsWords (codes "error: an argument isn't UTF-8\n") (stream E.contents err.old) (stream E.contents err.new) result }
     ensures refused { 1 ≤ result }
 {
     if error.kind() == ErrorKind::OutOfMemory {
         return Stop::Refused(Refusal::Memory).refuse(err);
     }
-    let _ = write_whole(err, b"error: an argument isn't UTF-8\n");
+    tell(b"error: an argument isn't UTF-8\n", err);
     2
+}
+
+// Writes a text to `err`, as far as it takes it.
+fn tell<E: Write>(text: &[u8], err: &mut Counted<E>)
+    ensures { Tells (stream E.contents err.old) (stream E.contents err.new) text.now }
+{
+    let _ = write_whole(err, text);
 }
 
 /// Runs the command that the words name; the program's own name isn't among them. Answers the exit
@@ -113,10 +121,15 @@ pub fn run<R: Read, O: Write, E: Write>(
         (stream R.remaining reader.old) (stream R.remaining reader.new)
         (stream O.contents out.old) (stream O.contents out.new)
         (stream E.contents err.old) (stream E.contents err.new) result }
-    ensures unknown { NamesNone (map (λ s. s.now) words.now) → 1 ≤ result }
+    ensures help { AsksHelp (map (λ s. s.now) words.now)
+        → ShowsSome (stream O.contents out.old) (stream O.contents out.new)
+        (stream E.contents err.old) (stream E.contents err.new) result }
+    ensures unknown { NamesNone (map (λ s. s.now) words.now)
+        → TellsNone (stream O.contents out.old) (stream O.contents out.new)
+        (stream E.contents err.old) (stream E.contents err.new) result }
 {
     if words.is_empty() {
-        let _ = write_whole(err, HELP.as_bytes());
+        tell(HELP.as_bytes(), err);
         return 2;
     }
     match words[0] {
@@ -147,7 +160,9 @@ fn is_help(option: &str) -> bool
 
 // Writes a text that was asked for.
 fn show<O: Write, E: Write>(text: &str, out: &mut Counted<O>, err: &mut Counted<E>) -> u8
-    ensures { result ≤ 2 }
+    ensures { Shows text.now
+        (stream O.contents out.old) (stream O.contents out.new)
+        (stream E.contents err.old) (stream E.contents err.new) result }
 {
     match write_whole(out, text.as_bytes()) {
         Ok(()) => 0,
@@ -161,7 +176,9 @@ fn show_replay_help<O: Write, E: Write>(
     out: &mut Counted<O>,
     err: &mut Counted<E>,
 ) -> u8
-    ensures { result ≤ 2 }
+    ensures { ShowsSome
+        (stream O.contents out.old) (stream O.contents out.new)
+        (stream E.contents err.old) (stream E.contents err.new) result }
 {
     match replay_help(alloc) {
         Ok(text) => show(text.as_str(), out, err),
@@ -175,16 +192,21 @@ fn replay_help(alloc: Global) -> Result<String, AllocError> {
     command.render_help()
 }
 
+fn unknown_command(alloc: Global, name: &str) -> Result<String, AllocError>
+    ensures { IfOk result (λ text. string_bytes text ≡ unknown_command name.now) }
+{
+    format!(in alloc; "error: unknown command '{name}'; the commands are replay and help\n")
+}
+
 // What is said of a command that there isn't.
 fn refuse_command<E: Write>(alloc: Global, name: &str, err: &mut Counted<E>) -> u8
-    ensures statuses { result ≤ 2 }
-    ensures refused { 1 ≤ result }
+    ensures { TellsWords (unknown_command name.now) (stream E.contents err.old) (stream E.contents err.new) result }
 {
-    let text = format!(in alloc;
-        "error: unknown command '{name}'; the commands are replay and help\n"
-    );
-    match text {
-        Ok(text) => Stop::Words(text).refuse(err),
+    match unknown_command(alloc, name) {
+        Ok(text) => {
+            tell(text.as_bytes(), err);
+            2
+        }
         Err(AllocError) => Stop::Refused(Refusal::Memory).refuse(err),
     }
 }

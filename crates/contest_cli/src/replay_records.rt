@@ -36,7 +36,11 @@ pub(crate) fn take_record(
     }
 }
 
+// Nearly all records are submissions. The functions of the other kinds aren't made part of their caller,
+// where their locals would be cleared at each record.
+
 /// The contest of the first record.
+#[inline(never)]
 fn begin(alloc: Global, fields: &Fields<'_>) -> Result<Replayed, RowFault>
     ensures ok { IfOk result (λ r. begun_by fields.now ≡ Ok r) }
     ensures err { IfErr result (λ e. IsFaultOf e (begun_by fields.now)) }
@@ -70,6 +74,7 @@ fn grow(replayed: &mut Replayed, alloc: Global, fields: &Fields<'_>) -> Result<(
 }
 
 /// Adds the team of a record.
+#[inline(never)]
 fn add_team(replayed: &mut Replayed, alloc: Global, fields: &Fields<'_>) -> Result<(), RowFault>
     ensures ok { OnOk result (or_malformed (with_team_row replayed.old) (team_of fields.now) ≡ Ok replayed.new) }
     ensures err { IfErr result (λ e. IsFaultOf e (or_malformed (with_team_row replayed.old) (team_of fields.now))) }
@@ -82,6 +87,7 @@ fn add_team(replayed: &mut Replayed, alloc: Global, fields: &Fields<'_>) -> Resu
 }
 
 /// Adds the problem of a record.
+#[inline(never)]
 fn add_problem(replayed: &mut Replayed, alloc: Global, fields: &Fields<'_>) -> Result<(), RowFault>
     ensures ok { OnOk result (or_malformed (with_problem_row replayed.old) (problem_of fields.now) ≡ Ok replayed.new) }
     ensures err { IfErr result (λ e. IsFaultOf e (or_malformed (with_problem_row replayed.old) (problem_of fields.now))) }
@@ -94,6 +100,7 @@ fn add_problem(replayed: &mut Replayed, alloc: Global, fields: &Fields<'_>) -> R
 }
 
 /// Adds the judgement type of a record.
+#[inline(never)]
 fn add_type(replayed: &mut Replayed, alloc: Global, fields: &Fields<'_>) -> Result<(), RowFault>
     ensures ok { OnOk result (or_malformed (with_type_row replayed.old) (type_of fields.now) ≡ Ok replayed.new) }
     ensures err { IfErr result (λ e. IsFaultOf e (or_malformed (with_type_row replayed.old) (type_of fields.now))) }

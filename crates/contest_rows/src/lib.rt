@@ -10,6 +10,8 @@ mod demo_contest;
 #[cfg(test)]
 mod examples;
 #[cfg(test)]
+mod kept_in_memory;
+#[cfg(test)]
 mod limits;
 #[cfg(test)]
 mod made_contest;

@@ -5,18 +5,19 @@ ghost use Rattle.std.specs.Prelude.{◌≤◌};
 use crate::demo_contest::{after, apples, begun, head, id, language, team};
 use crate::support::text_of;
 use contest_rules::{Decision, WantedSubmission, decide_submission};
-use contest_types::{Fixed, Rows, Settings, Submission};
+use contest_types::{Fixed, Moment, Rows, Settings, Submission};
 use contest_view::{Audience, submission_value};
 use std::alloc::Global;
 use std::process::Abort;
 use std::test::Fail;
 
-/// Two languages, one problem and one team.
+/// Two languages, one problem and two teams.
 fn fill(alloc: Global, settings: &mut Settings) -> Result<(), Fail> {
     settings.add_language(alloc, language(alloc, "cpp", false)?)?;
     settings.add_language(alloc, language(alloc, "java", true)?)?;
     settings.add_problem(alloc, apples(alloc)?)?;
     settings.add_team(alloc, team(alloc, "t1", "Alpha", false)?)?;
+    settings.add_team(alloc, team(alloc, "t2", "Beta", false)?)?;
     Ok(())
 }
 
@@ -24,6 +25,11 @@ fn settings(alloc: Global) -> Result<Settings, Fail> {
     let mut settings = Settings::new(alloc, head(alloc)?)?;
     fill(alloc, &mut settings)?;
     Ok(settings)
+}
+
+/// The demo contest, which begins at nine o'clock.
+pub fn demo(alloc: Global) -> Result<Fixed, Fail> {
+    begun(alloc, settings(alloc)?)
 }
 
 fn wanted(
@@ -141,8 +147,106 @@ fn assert_submits(rt: &(impl Abort + AllocGlobal), fixed: &Fixed) -> Result<(), 
     Ok(())
 }
 
+/// A team submits once more: the team's place, how many submissions it has, all of them five minutes
+/// after the start, the milliseconds from the start to its request, what it is answered, and from
+/// when its submission counts.
+struct Taken {
+    team: usize,
+    count: usize,
+    now: u32,
+    told: &'static str,
+    time: Option<u32>,
+}
+
+const TAKEN: [Taken; 5] = [
+    Taken {
+        team: 0,
+        count: 499,
+        now: 300_000,
+        told: "added",
+        time: Some(300_000),
+    },
+    Taken {
+        team: 0,
+        count: 500,
+        now: 300_000,
+        told: "TeamLimit",
+        time: None,
+    },
+    Taken {
+        team: 1,
+        count: 0,
+        now: 300_000,
+        told: "added",
+        time: Some(300_000),
+    },
+    Taken {
+        team: 0,
+        count: 1,
+        now: 299_000,
+        told: "added",
+        time: Some(300_000),
+    },
+    Taken {
+        team: 1,
+        count: 0,
+        now: 299_000,
+        told: "added",
+        time: Some(299_000),
+    },
+];
+
+/// So many submissions of the team at a place, five minutes after the start.
+fn standing(alloc: Global, team: usize, count: usize) -> Result<Vec<Submission>, Fail> {
+    let mut own = Vec::new(alloc);
+    for earlier in 0..count {
+        own.push(Submission {
+            team,
+            number: earlier.saturating_add(1),
+            time: after(300_000)?,
+            problem: 0,
+            language: 0,
+            entry_point: None,
+            file: Rows::new(alloc),
+            key: None,
+        })?;
+    }
+    Ok(own)
+}
+
+/// From when a submission counts that is added.
+fn time_of(decision: &Decision<Submission>) -> Option<Moment> {
+    match decision {
+        Decision::Add(submission) => Some(submission.time),
+        _ => None,
+    }
+}
+
+fn assert_taken(rt: &(impl Abort + AllocGlobal), fixed: &Fixed, taken: &Taken) -> Result<(), Fail> {
+    let alloc = rt.alloc();
+    let own = standing(alloc, taken.team, taken.count)?;
+    let wanted = wanted(alloc, "a", "cpp", b"abc", None)?;
+    let decision = decide_submission(fixed, &own, after(taken.now)?, taken.team, wanted);
+    let time = match taken.time {
+        Some(time) => Some(after(time)?),
+        None => None,
+    };
+    assert_eq!(rt; time_of(&decision), time, "after {} others", taken.count);
+    assert_eq!(rt; told(decision), taken.told, "after {} others", taken.count);
+    Ok(())
+}
+
+#[test]
+fn keeps_to_a_teams_own_submissions(rt: HostRuntime) -> Result<(), Fail> {
+    let fixed = demo(rt.alloc())?;
+    for taken in &TAKEN {
+        assert_taken(&rt, &fixed, taken)?;
+    }
+    Ok(())
+}
+
 #[test]
 fn submits(rt: HostRuntime) -> Result<(), Fail> {
-    let fixed = begun(rt.alloc(), settings(rt.alloc())?)?;
+    let fixed = demo(rt.alloc())?;
     assert_submits(&rt, &fixed)
 }

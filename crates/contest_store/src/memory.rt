@@ -1,6 +1,6 @@
 //! A contest in memory: for tests of what stands above a store.
-ghost use Rattle.std.specs.Prelude.{◌≡◌, ◌≤◌, ◌==◌, ◌&&◌, IfOk, IfErr, IsTrue, OnErr, OnOk, [], ◌∷◌, ◌++◌, false, length, map, take, find, option_map};
-ghost use Rattle.contest_store.specs.InMemory.{contest_of, committed_of, counted, rolled_back, with_submissions};
+ghost use Rattle.std.specs.Prelude.{◌≡◌, ◌≤◌, ◌==◌, ◌&&◌, IfOk, IfErr, IsTrue, OnErr, OnOk, [], ◌∷◌, ◌++◌, None, Some, false, length, map, take, find, option_map};
+ghost use Rattle.contest_store.specs.InMemory.{contest_of, committed_of, counted, failed, gone_on, is_due, rolled_back, with_submissions};
 ghost use Rattle.contest_types.specs.Loads.{file_of, without_file};
 ghost use Rattle.contest_types.specs.State.{add};
 ghost use Rattle.contest_types.specs.declared.entry.Entry.TheVariants.{NewSubmission};
@@ -34,6 +34,7 @@ impl Model for MemoryRecords {
       submissions = m.submissions.items;
       committed = m.committed;
       faults = m.faults;
+      calls_left = m.calls_left;
     } };
 
     ghost invariant = { λ m. m.committed ≤ length m.submissions.items };
@@ -45,6 +46,7 @@ impl MemoryRecords {
         ensures contest { contest_of result ≡ with_submissions fixed.value [] }
         ensures committed { committed_of result ≡ with_submissions fixed.value [] }
         ensures faults { result.faults ≡ 0 }
+        ensures going_on { result.calls_left ≡ None }
     {
         MemoryRecords {
             fixed,
@@ -55,9 +57,10 @@ impl MemoryRecords {
         }
     }
 
-    /// Lets so many more calls go on, and the one after them fail.
+    /// Lets so many more calls go on, and the one after them fail. That it then fails is shown by tests
+    /// (`kept_in_memory` of contest_rows): the clauses of the calls are those of any store.
     pub fn fail_after(&mut self, calls: u32)
-        ensures { self.new ≡ self.old }
+        ensures { self.new ≡ record self.old { calls_left = Some calls } }
     {
         self.calls_left = Some(calls);
     }
@@ -73,8 +76,9 @@ impl MemoryRecords {
 impl MemoryRecords {
     // Whether this call fails: it is counted then, and no append stands.
     fn fails(&mut self) -> bool
-        ensures fails { IsTrue result → self.new ≡ rolled_back (counted self.old) }
-        ensures goes_on { result ≡ false → self.new ≡ self.old }
+        ensures due { result ≡ is_due self.old.calls_left }
+        ensures fails { IsTrue result → self.new ≡ failed self.old }
+        ensures goes_on { result ≡ false → self.new ≡ gone_on self.old }
     {
         match self.calls_left {
             Some(0) => {

@@ -1,0 +1,77 @@
+#!/usr/bin/env python3
+"""Compares the program with the second opinion on files whose bytes were changed blindly.
+
+    changed_bytes.py [--program PATH] [--seed N] [--cases N] [--keep FOLDER]
+
+Each case is a file of examples/ with one to three changes, made from the seed: a few bytes are put in
+at any place (a comma, a quotation mark, half a character, a whole word), taken out or overwritten, or
+a line is repeated elsewhere or changes places with another. compare.py knows of each file what is
+wrong with it; here nobody does. Status, standard output and standard error must be equal byte for byte.
+
+Prints how often each answer came, and ends like compare.py.
+"""
+
+import argparse
+import pathlib
+import random
+import sys
+import time
+
+sys.dont_write_bytecode = True
+
+import second_opinion
+from compare import ROOT, Tally, run_program
+
+PIECES = [
+    *(b'"', b'""', b'",', b',"', b",", b"\n", b"\n\n", b"\r", b"\r\n", b" ", b"\t"),  # what CSV is made of
+    *(b"\x00", b"\x7f", b"\xff", b"\xc2\x85", b"\xef\xbb\xbf", b"\xe2\x80\x8d", b"\xcc\x81", b"\xf0\x9f\x91\xa8"),
+    *(b"contest", b"submission", b"true", b"kind,id,f1,f2,f3\n", b"a" * 37),
+    *(b"-", b"0", b"00", b":", b".000", b"9" * 20),
+]
+WORDS = [[], ["--jury"], ["--thawed"], ["--at", "0:20:00"], ["--at", "0:10:59.999", "--jury"], ["--at=-0:00:00"]]
+
+
+def changed_once(rng, data):
+    """The file after one change."""
+    place, kind = rng.randrange(len(data) + 1), rng.randrange(6)
+    if kind < 3:
+        return data[:place] + rng.choice(PIECES) + data[place:]
+    if kind == 3:
+        return data[:place] + data[place + rng.choice([1, 1, 2, 5]) :]
+    if kind == 4:
+        return data[:place] + bytes([rng.randrange(256)]) + data[place + 1 :]
+    lines = data.split(b"\n")
+    one, other = rng.randrange(len(lines)), rng.randrange(len(lines))
+    if rng.random() < 0.5:
+        lines.insert(other, lines[one])
+    else:
+        lines[one], lines[other] = lines[other], lines[one]
+    return b"\n".join(lines)
+
+
+def main():
+    parser = argparse.ArgumentParser(description=__doc__, formatter_class=argparse.RawDescriptionHelpFormatter)
+    parser.add_argument("--program", default=str(ROOT / "crates/desk/out/desk"))
+    parser.add_argument("--seed", type=int, default=1)
+    parser.add_argument("--cases", type=int, default=20000)
+    parser.add_argument("--keep", type=pathlib.Path, default=ROOT / "tests/out/differing")
+    options = parser.parse_args()
+    if not pathlib.Path(options.program).is_file():
+        parser.error(f"there is no program {options.program}: build it, or name one by --program")
+    files = [file.read_bytes() for file in sorted((ROOT / "examples").glob("*.csv"))]
+    rng, tally, start = random.Random(options.seed), Tally(options.keep), time.monotonic()
+    for index in range(options.cases):
+        words, data = ["replay"] + rng.choice(WORDS), rng.choice(files)
+        for _ in range(rng.choice([1, 1, 2, 3])):
+            data = changed_once(rng, data)
+        given = run_program(options.program, words, data)
+        tally.note(f"changed {options.seed} {index}", words, data, second_opinion.replay(words, data), given)
+    for what, records in sorted(tally.records.items(), key=lambda item: -len(item[1])):
+        print(f"{len(records):7}  {what}")
+    print(f"{time.monotonic() - start:.1f} s, seed {options.seed}")
+    print(f"{tally.passed} passed, {tally.failed} failed")
+    return 1 if tally.failed else 0
+
+
+if __name__ == "__main__":
+    sys.exit(main())
