@@ -14,3 +14,4 @@ pub mod PostAdds
 pub mod LawLemmas
 pub mod NeverFails
 pub mod FaultLemmas
+pub mod RunLemmas

@@ -13,6 +13,9 @@ pub mod FirstSolves
 pub mod LeastRanks
 pub mod GroupOrder
 pub mod MaskLemmas
+pub mod LastTypes
+pub mod ListsLemmas
+pub mod ValidLists
 mod Examples
 mod ExamplesBoard
 mod ExamplesAwards

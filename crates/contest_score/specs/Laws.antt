@@ -8,13 +8,18 @@ use Rattle.contest_types.specs.Masks.{owns}
 use Rattle.contest_types.specs.State.{ContestState, with_settings}
 use Rattle.contest_types.specs.Sight.{sees_team}
 use Rattle.contest_types.specs.Alike.{Alike, MayBeHeld}
+use Rattle.contest_types.specs.Valid.{is_valid}
 use Rattle.contest_types.specs.declared.audience.Audience.{Audience}
 use Rattle.contest_types.specs.declared.marks.Marks.{Marks}
 use Rattle.contest_types.specs.declared.mask.Mask.TheVariants.{Full, Held}
 use Rattle.contest_score.specs.declared.attempt.Attempt.{Attempt}
+use Rattle.contest_score.specs.declared.cell.Cell.{Cell}
 use Rattle.contest_score.specs.declared.submission.JudgedSubmission.{JudgedSubmission}
 use Rattle.contest_score.specs.Scoring.{is_solving, counted}
 use Rattle.contest_score.specs.Masks.{cell_under}
+use Rattle.contest_score.specs.Ranking.{board_rows, is_public}
+use Rattle.contest_types.specs.Loads.{without_file}
+use Rattle.contest_score.specs.Lists.{CanBeScored}
 use Rattle.contest_score.specs.Contest.{contest_cell, seen_cell, board_for}
 use Rattle.contest_score.specs.Awards.{shown_awards}
 
@@ -62,3 +67,15 @@ AlikeRankTheSame = (a : Audience) (now : ℕ) (x y : ContestState) → MayBeHeld
 -- and the same awards
 abbrev pub AlikeAwardTheSame : Type 0
 AlikeAwardTheSame = (a : Audience) (now : ℕ) (x y : ContestState) → MayBeHeld a now x → Alike a x y → shown_awards a now x ≡ shown_awards a now y
+
+-- the lists of a valid contest can be scored, with their files and without
+abbrev pub ValidCanBeScored : Type 0
+ValidCanBeScored =
+    (x : ContestState) → is_valid x ≡ true
+    → CanBeScored x.fixed x.submissions x.releases × CanBeScored x.fixed (map without_file x.submissions) x.releases
+
+-- the cells that a caller sees make the caller's board
+abbrev pub SeenCellsMakeTheBoard : Type 0
+SeenCellsMakeTheBoard =
+    (a : Audience) (now : ℕ) (x : ContestState) (cells : ℕ → ℕ → Cell) → cells ≡ seen_cell a now x
+    → board_rows x.fixed.settings (is_public x.fixed.settings) cells ≡ board_for a now x

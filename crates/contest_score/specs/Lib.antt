@@ -5,6 +5,8 @@ pub mod Table
 pub mod Masks
 pub mod Counting
 pub mod Contest
+pub mod LastVerdicts
+pub mod Lists
 pub mod Awards
 pub mod AwardSteps
 pub mod Laws

@@ -1,7 +1,7 @@
 -- Ranks and the board (Contest Control System Requirements, "Scoring": most solved, least time,
 -- earliest last accepted, shared ranks). Teams and problems go by their places in the settings'
 -- lists, from 0. The shown teams are any set of them: those that aren't hidden, or some of these.
-use Rattle.std.specs.Prelude.{ℕ, ◌+◌, Bool, ◌&&◌, ◌||◌, ◌==◌, nat_lt, List, [], length, map, filter, count_by, slice_get}
+use Rattle.std.specs.Prelude.{ℕ, ◌+◌, Bool, ◌&&◌, ◌||◌, ◌==◌, nat_lt, List, length, map, filter, count_by, slice_get}
 use Rattle.std.specs.List.{range_with_len}
 use Rattle.std.specs.Option.{option_map_or}
 use Rattle.std.specs.Ordering.{nat_cmp, ordering_then}
@@ -10,6 +10,7 @@ use Rattle.std.specs.declared.cmp.Ordering.{Ordering}
 use Rattle.contest_types.specs.declared.objects.Problem.{Problem}
 use Rattle.contest_types.specs.Setup.{Setup}
 pub use Rattle.contest_types.specs.Order.{place_in, in_order}
+pub use Rattle.contest_types.specs.ProblemPlaces.{problem_id_at}
 pub use Rattle.contest_types.specs.TeamPlaces.{team_places, name_at, team_id_at, is_public}
 use Rattle.contest_score.specs.declared.cell.Cell.{Cell}
 use Rattle.contest_score.specs.declared.score.Score.{Score}
@@ -18,9 +19,6 @@ use Rattle.contest_score.specs.Scoring.{score_of_cells}
 
 abbrev pub ordinal_at : List Problem → ℕ → ℕ
 ordinal_at ps p = option_map_or (λ q. q.ordinal) (slice_get ps p) 0
-
-abbrev pub problem_id_at : List Problem → ℕ → List ℕ
-problem_id_at ps p = option_map_or (λ q. q.id) (slice_get ps p) []
 
 -- by ordinal, then id
 abbrev pub problem_cmp : List Problem → ℕ → ℕ → Ordering

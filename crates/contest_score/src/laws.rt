@@ -2,7 +2,7 @@
 //! contest.
 ghost use Rattle.std.specs.Prelude.{List};
 ghost use Rattle.contest_score.specs.declared.attempt.Attempt.{Attempt as AttemptValue};
-ghost use Rattle.contest_score.specs.Laws.{WhatCounts, OwnCellsAreFull, NoFreezeNoMask, HeldCountsNoFrozen, AlikeScoreTheSame, AlikeRankTheSame, AlikeAwardTheSame};
+ghost use Rattle.contest_score.specs.Laws.{WhatCounts, OwnCellsAreFull, NoFreezeNoMask, HeldCountsNoFrozen, AlikeScoreTheSame, AlikeRankTheSame, AlikeAwardTheSame, ValidCanBeScored, SeenCellsMakeTheBoard};
 
 /// An attempt counts exactly where no earlier one solves.
 pub fn what_counts()
@@ -37,4 +37,15 @@ pub fn board_alike()
 /// And the same awards.
 pub fn awards_alike()
     ensures { AlikeAwardTheSame }
+{}
+
+/// The lists of a valid contest can be scored, whether or not the files of its submissions were
+/// loaded.
+pub fn valid_can_be_scored()
+    ensures { ValidCanBeScored }
+{}
+
+/// Of the cells that a caller sees comes the caller's board.
+pub fn seen_cells_make_the_board()
+    ensures { SeenCellsMakeTheBoard }
 {}

@@ -49,7 +49,7 @@ fn is_place(place: Option<u32>, number: usize) -> bool
 }
 
 /// Whether the contest has started at a moment.
-fn has_started(marks: &Marks, time: Moment) -> bool
+pub fn has_started(marks: &Marks, time: Moment) -> bool
     ensures { result ≡ reached marks.now.start time }
 {
     match marks.start {

@@ -2,6 +2,7 @@ ghost use Rattle.std.specs.Prelude.{◌↔◌, IsTrue};
 ghost use Rattle.contest_score.specs.Scoring.{NotBefore};
 
 mod awarding;
+mod lists;
 
 use crate::{
     Attempt, Cell, Cells, JudgedSubmission, PlainCells, Verdict, are_admitted, board, cell_of,

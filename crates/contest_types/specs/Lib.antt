@@ -13,6 +13,7 @@ pub mod Setup
 pub mod Rows
 pub mod SetupAdditions
 pub mod TeamPlaces
+pub mod ProblemPlaces
 pub mod Order
 pub mod Clock
 pub mod Masks

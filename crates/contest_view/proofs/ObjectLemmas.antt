@@ -8,7 +8,8 @@ use Rattle.contest_types.specs.Sight.{Program}
 use Rattle.contest_types.specs.MomentText.{moment_text}
 use Rattle.contest_types.specs.TeamPlaces.{team_id_at}
 use Rattle.contest_view.specs.Members.{put_where}
-use Rattle.contest_view.specs.Objects.{contest_time_data, files_data, language_id_at, problem_id_at, submission_data, submission_id, submission_members}
+use Rattle.contest_types.specs.ProblemPlaces.{problem_id_at}
+use Rattle.contest_view.specs.Objects.{contest_time_data, files_data, language_id_at, submission_data, submission_id, submission_members}
 
 pub members_in_order : (contest_time : Data) (entry_point files : Option Data) (id language problem team : List ℕ) (time : Data)
     → put (codes "time") time (put (codes "team_id") (string team) (put (codes "problem_id") (string problem) (put (codes "language_id") (string language) (put (codes "id") (string id)
@@ -32,6 +33,6 @@ hidden (Some s) id l p t time span = refl
 
 pub has_no_float : (f : FixedPart) (team number time problem language : ℕ) (program : Option Program) → has_float (submission_data f team number time problem language program) ≡ false
 has_no_float f team number time problem language None =
-    hidden f.marks.start (submission_id team number) (language_id_at f.settings language) (problem_id_at f.settings problem) (team_id_at f.settings team) (moment_text time) time
+    hidden f.marks.start (submission_id team number) (language_id_at f.settings language) (problem_id_at f.settings.problems problem) (team_id_at f.settings team) (moment_text time) time
 has_no_float f team number time problem language (Some p) =
-    shown f.marks.start p.entry_point f.settings.head.id (submission_id team number) (language_id_at f.settings language) (problem_id_at f.settings problem) (team_id_at f.settings team) (moment_text time) time
+    shown f.marks.start p.entry_point f.settings.head.id (submission_id team number) (language_id_at f.settings language) (problem_id_at f.settings.problems problem) (team_id_at f.settings team) (moment_text time) time

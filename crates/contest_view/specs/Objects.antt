@@ -5,20 +5,17 @@ use Rattle.std.specs.Option.{option_map, option_map_or, option_and_then}
 use Rattle.std.specs.Fmt.{decimal}
 use Rattle.serde_json.specs.Data.{Data, null, string, array, object, item, no_items, Members, member, no_members}
 use Rattle.contest_types.specs.Setup.{Setup}
+use Rattle.contest_types.specs.ProblemPlaces.{problem_id_at}
 use Rattle.contest_types.specs.TeamPlaces.{team_id_at}
 use Rattle.contest_types.specs.MomentText.{moment_text}
 use Rattle.contest_types.specs.RelTimeText.{rel_time_text}
 use Rattle.contest_types.specs.State.{FixedPart}
 use Rattle.contest_types.specs.Sight.{Program, SeenSubmission}
-use Rattle.contest_types.specs.declared.objects.Problem.{Problem}
 use Rattle.contest_types.specs.declared.objects.Language.{Language}
 
 -- `s<team number>-<number>`: teams are numbered from 1
 abbrev pub submission_id : (team number : ℕ) → List ℕ
 submission_id team number = codes "s" ++ (decimal (team + 1) ++ (codes "-" ++ decimal number))
-
-abbrev pub problem_id_at : Setup → ℕ → List ℕ
-problem_id_at s place = option_map_or (λ (p : Problem). p.id) (slice_get s.problems place) []
 
 abbrev pub language_id_at : Setup → ℕ → List ℕ
 language_id_at s place = option_map_or (λ (l : Language). l.id) (slice_get s.languages place) []
@@ -63,7 +60,7 @@ submission_data f team number time problem language program =
     object (submission_members (contest_time_data f.marks.start time)
     (option_map string (option_and_then (λ (p : Program). p.entry_point) program))
     (option_map (λ (p : Program). files_data f.settings.head.id id) program)
-    id (language_id_at f.settings language) (problem_id_at f.settings problem) (team_id_at f.settings team)
+    id (language_id_at f.settings language) (problem_id_at f.settings.problems problem) (team_id_at f.settings team)
     (string (moment_text time)))
 
 -- a submission as an audience sees it

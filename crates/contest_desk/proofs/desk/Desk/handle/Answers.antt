@@ -1,4 +1,4 @@
-use Rattle.std.proofs.Common.{◌∙◌, sym, subst, ap, inl}
+use Rattle.std.proofs.Common.{◌∙◌, sym, subst, ap, inl, inr}
 use Rattle.contest_types.specs.Alike.{Alike, MayBeHeld}
 use Rattle.contest_types.specs.State.{add_all}
 use Rattle.contest_types.specs.Streams.{one_more}

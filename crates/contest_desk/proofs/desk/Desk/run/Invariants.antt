@@ -1,0 +1,9 @@
+use Rattle.std.proofs.Common.{◌+◌, ◌≤◌, length, vec_len, vec_capacity}
+use Rattle.contest_desk.proofs.RunLemmas.{GoesOn}
+use Rattle.contest_desk.proofs.desk.Desk.run.Given as goal
+
+abbrev pub invariant-loop-item : goal.invariant-loop-item
+invariant-loop-item g l = record {
+  run : g.L.Records.is_clean l.self → GoesOn g.L.Records.contest g.L.Records.is_open l.fn.self l.self l.fn.items.items l.item-iterator.rest.items l.replies.items;
+  room : vec_len l.replies + length l.item-iterator.rest.items ≤ vec_capacity l.replies;
+}
