@@ -12,6 +12,8 @@ mod desk_contest;
 #[cfg(test)]
 mod desk_faults;
 #[cfg(test)]
+mod desk_limits;
+#[cfg(test)]
 mod desk_posts;
 #[cfg(test)]
 mod desk_reads;
@@ -19,8 +21,6 @@ mod desk_reads;
 mod desk_routes;
 #[cfg(test)]
 mod desk_runs;
-#[cfg(test)]
-mod desk_sizes;
 #[cfg(test)]
 mod examples;
 #[cfg(test)]
