@@ -59,7 +59,8 @@ impl<L: Records> Desk<L> {
 
     /// What keeps the contest.
     pub fn into_records(self) -> L
-        ensures { result ≡ self }
+        ensures records { result ≡ self }
+        ensures settled { IsSettled L.contest L.committed L.is_open L.is_clean result }
     {
         self.records
     }

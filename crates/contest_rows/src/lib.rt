@@ -1,12 +1,26 @@
 //! Tests of the command `replay` over memory: a file and options, and the board or the refusal that
-//! they must give. The expected values come from worked examples, from tests/second_opinion.py and
-//! from counting by hand.
+//! they must give; and of the desk over memory: a request, and its reply. The expected values come
+//! from worked examples, from tests/second_opinion.py and from counting by hand.
 #![tactic(auto)]
 
 #[cfg(test)]
 mod contests;
 #[cfg(test)]
 mod demo_contest;
+#[cfg(test)]
+mod desk_contest;
+#[cfg(test)]
+mod desk_faults;
+#[cfg(test)]
+mod desk_limits;
+#[cfg(test)]
+mod desk_posts;
+#[cfg(test)]
+mod desk_reads;
+#[cfg(test)]
+mod desk_routes;
+#[cfg(test)]
+mod desk_runs;
 #[cfg(test)]
 mod examples;
 #[cfg(test)]

@@ -3,6 +3,8 @@
 
 mod memory;
 mod records;
+mod valid_fixed;
 
 pub use memory::MemoryRecords;
 pub use records::Records;
+pub use valid_fixed::is_valid_fixed;
