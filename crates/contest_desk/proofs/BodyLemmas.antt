@@ -8,11 +8,11 @@ use Rattle.serde_json.specs.View.{view, items_of}
 use Rattle.serde_json.specs.declared.value.Value.{Value}
 use Rattle.base64.specs.GeneralPurpose.{decode_of, decoded_of, IsDecodeFailure}
 use Rattle.base64.specs.declared.decode.DecodeAllocError.{DecodeAllocError}
-use Rattle.base64.specs.declared.decode.DecodeAllocError.TheVariants.{DecodeError as Failed}
+use Rattle.base64.specs.declared.decode.DecodeAllocError.TheVariants.{DecodeError as Failed, OutOfMemory}
 use Rattle.base64.specs.declared.decode.DecodeError.{DecodeError}
 use Rattle.base64.specs.declared.engine.general_purpose.GeneralPurpose.{GeneralPurpose}
 use Rattle.contest_desk.specs.JsonBodies.{data_of, only_item, id_in, optional_id_in}
-use Rattle.contest_desk.specs.SubmissionBodies.{entry_point_in, file_in, submission_of}
+use Rattle.contest_desk.specs.SubmissionBodies.{entry_point_in, file_in, refusal_of_decoding, submission_of}
 use Rattle.contest_desk.specs.JsonBodies.{IsRefused}
 use Rattle.contest_types.specs.declared.refusal.Refusal.{Refusal}
 
@@ -37,6 +37,10 @@ decoded_of_ok e s v is = rw is refl
 pub decoded_of_err : (e : GeneralPurpose) (s : List ℕ) (f : DecodeAllocError) (d : DecodeError) → f ≡ Failed d → IsDecodeFailure e s f → IsNone (decoded_of e s)
 unfolding decoded_of
 decoded_of_err e s f d is failure = let err : decode_of e s ≡ Err d = rw is at failure in rw err refl
+
+pub decoding_refused : (e : GeneralPurpose) (s : List ℕ) (f : DecodeAllocError) → IsDecodeFailure e s f → IsRefused (refusal_of_decoding f) (decoded_of e s)
+decoding_refused e s OutOfMemory failure = inl refl
+decoding_refused e s (Failed d) failure = inr (refl, decoded_of_err e s (Failed d) d refl failure)
 
 -- no one item
 pub only_item-none : (vs : List Value) → (length vs ≡ 1 → ⊥) → only_item (items_of (map view vs)) ≡ None

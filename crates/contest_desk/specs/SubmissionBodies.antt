@@ -7,10 +7,12 @@ use Rattle.serde_json.specs.Data.{Data}
 use Rattle.serde_json.specs.Find.{get, as_str, as_array}
 use Rattle.base64.specs.GeneralPurpose.{decoded_of}
 use Rattle.base64.specs.Engines.{standard}
+use Rattle.base64.specs.declared.decode.DecodeAllocError.{DecodeAllocError}
+use Rattle.base64.specs.declared.decode.DecodeAllocError.TheVariants.{DecodeError as NotDecoded, OutOfMemory}
 use Rattle.contest_types.specs.NameText.{name_of}
 use Rattle.contest_types.specs.declared.limits.TheConstants.{POSTED_FILE}
 use Rattle.contest_types.specs.declared.refusal.Refusal.{Refusal}
-use Rattle.contest_types.specs.declared.refusal.Refusal.TheVariants.{Malformed, BodyTooLarge}
+use Rattle.contest_types.specs.declared.refusal.Refusal.TheVariants.{Malformed, BodyTooLarge, Memory}
 use Rattle.contest_rules.specs.declared.submitting.WantedSubmission.{WantedSubmission}
 use Rattle.contest_desk.specs.JsonBodies.{data_of, text_in, present_in, optional, id_in, optional_id_in, only_item}
 use Rattle.contest_desk.specs.declared.request.KeyField.{KeyField}
@@ -27,6 +29,11 @@ entry_point_in d = optional (λ v. option_and_then entry_point_of (as_str v)) (p
 -- the bytes that the one file's text stands for
 abbrev pub file_in : Data → Option (List ℕ)
 file_in d = option_and_then (decoded_of standard) (option_and_then (text_in (codes "data")) (option_and_then only_item (option_and_then as_array (get (codes "files") d))))
+
+-- a text that isn't decoded is off its form, unless memory was refused
+abbrev pub refusal_of_decoding : DecodeAllocError → Refusal
+refusal_of_decoding OutOfMemory = Memory
+refusal_of_decoding (NotDecoded e) = Malformed
 
 -- what a posted object says
 unfoldable pub submission_of : Data → Option SubmissionBody

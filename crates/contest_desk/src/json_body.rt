@@ -1,5 +1,5 @@
 //! Reading the members of a posted JSON object.
-ghost use Rattle.std.specs.Prelude.{◌≡◌, Some, IfOk, IfErr, option_map, option_and_then};
+ghost use Rattle.std.specs.Prelude.{◌≡◌, ◌<◌, Some, true, IfOk, IfErr, is_some, length, option_map, option_and_then};
 ghost use Rattle.serde_json.specs.Find.{as_array};
 ghost use Rattle.serde_json.specs.View.{view};
 ghost use Rattle.contest_desk.specs.JsonBodies.{IsRefused, data_of, id_in, only_item, optional_id_in, present_in, text_in};
@@ -17,6 +17,7 @@ use std::alloc::Global;
 pub fn value_of(alloc: Global, bytes: &[u8]) -> Result<Value, Refusal>
     ensures ok { IfOk result (λ v. data_of bytes.now ≡ Some (view v)) }
     ensures err { IfErr result (λ e. IsRefused e (data_of bytes.now)) }
+    ensures memory { IfErr result (λ e. e ≡ Refusal.Memory → 0 < length bytes.now) }
 {
     match Value::from_slice(alloc, bytes) {
         Ok(value) => Ok(value),
@@ -50,6 +51,7 @@ pub fn present_in<'v>(value: &'v Value, name: &str) -> Option<&'v Value>
 pub fn id_in(alloc: Global, value: &Value, name: &str) -> Result<Id, Refusal>
     ensures ok { IfOk result (λ id. id_in name.now (view value.now) ≡ Some id) }
     ensures err { IfErr result (λ e. IsRefused e (id_in name.now (view value.now))) }
+    ensures memory { IfErr result (λ e. e ≡ Refusal.Memory → is_some (id_in name.now (view value.now)) ≡ true) }
 {
     let Some(text) = text_in(value, name) else {
         return Err(Refusal::Malformed);
@@ -68,6 +70,7 @@ pub fn id_in(alloc: Global, value: &Value, name: &str) -> Result<Id, Refusal>
 pub fn optional_id_in(alloc: Global, value: &Value, name: &str) -> Result<Option<Id>, Refusal>
     ensures ok { IfOk result (λ id. optional_id_in name.now (view value.now) ≡ Some id) }
     ensures err { IfErr result (λ e. IsRefused e (optional_id_in name.now (view value.now))) }
+    ensures memory { IfErr result (λ e. e ≡ Refusal.Memory → is_some (optional_id_in name.now (view value.now)) ≡ true) }
 {
     let Some(member) = present_in(value, name) else {
         return Ok(None);

@@ -1,5 +1,5 @@
 //! One request served, whoever keeps the contest.
-ghost use Rattle.std.specs.Prelude.{◌≡◌, ◌<◌, IfOk, IfSome, IsTrue, OnErr, OnOk, length};
+ghost use Rattle.std.specs.Prelude.{◌≡◌, ◌<◌, IfOk, IfSome, IsTrue, OnErr, OnOk, is_some, length, true};
 ghost use Rattle.contest_store.specs.Keeping.{CountsFaults, LeavesOnly, LeavesOr, RollsBack};
 ghost use Rattle.contest_desk.specs.Callers.{team_of};
 ghost use Rattle.contest_desk.specs.Routes.{routes};
@@ -110,6 +110,7 @@ fn post<L: Records>(
     ensures clean { L.is_clean records.new → L.is_clean records.old }
     ensures up { L.is_clean records.new → IsTrue (L.is_open records.new) → IsTrue (L.is_open records.old) }
     ensures count { CountsFaults result (L.faults records.old) (L.faults records.new) }
+    ensures forbids { OnErr result (is_some team ≡ true) }
 {
     match team {
         Some(team) => {

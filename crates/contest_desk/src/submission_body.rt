@@ -1,11 +1,11 @@
 //! The body of a posted submission.
-ghost use Rattle.std.specs.Prelude.{◌≡◌, ◌⊎◌, ◌≤◌, Some, Ok, Err, IfOk, IfErr, length};
+ghost use Rattle.std.specs.Prelude.{◌≡◌, ◌⊎◌, ◌≤◌, Some, Ok, Err, true, IfOk, IfErr, is_some, length};
 ghost use Rattle.serde_json.specs.View.{view};
 ghost use Rattle.base64.specs.GeneralPurpose.{decoded_of};
 ghost use Rattle.base64.specs.Engines.{standard};
 ghost use Rattle.contest_types.specs.declared.limits.TheConstants.{POSTED_FILE as posted_file};
 ghost use Rattle.contest_desk.specs.JsonBodies.{IsRefused};
-ghost use Rattle.contest_desk.specs.SubmissionBodies.{entry_point_in, file_in, is_own, key_in, submission_in, submission_of, wanted_in, wanted_of};
+ghost use Rattle.contest_desk.specs.SubmissionBodies.{entry_point_in, file_in, is_own, key_in, refusal_of_decoding, submission_in, submission_of, wanted_in, wanted_of};
 
 use crate::KeyField;
 use crate::json_body::{id_in, only_item, optional_id_in, present_in, text_in, value_of};
@@ -127,6 +127,7 @@ fn submission_of(alloc: Global, value: &Value) -> Result<SubmissionBody, Refusal
 fn entry_point_in(alloc: Global, value: &Value) -> Result<Option<Name>, Refusal>
     ensures ok { IfOk result (λ entry_point. entry_point_in (view value.now) ≡ Some entry_point) }
     ensures err { IfErr result (λ e. IsRefused e (entry_point_in (view value.now))) }
+    ensures memory { IfErr result (λ e. e ≡ Refusal.Memory → is_some (entry_point_in (view value.now)) ≡ true) }
 {
     let Some(member) = present_in(value, "entry_point") else {
         return Ok(None);
@@ -160,14 +161,22 @@ fn file_in(alloc: Global, value: &Value) -> Result<Rows<u8>, Refusal>
 }
 
 // The bytes that a text stands for (RFC 4648, section 4, with its padding).
-#[tactic(auto, using(crate::proofs::BodyLemmas::decoded_of_ok, crate::proofs::BodyLemmas::decoded_of_err))]
+#[tactic(auto, using(crate::proofs::BodyLemmas::decoded_of_ok, crate::proofs::BodyLemmas::decoding_refused))]
 fn decoded(alloc: Global, text: &str) -> Result<Vec<u8>, Refusal>
     ensures ok { IfOk result (λ bytes. decoded_of standard text.now ≡ Some bytes.items) }
     ensures err { IfErr result (λ e. IsRefused e (decoded_of standard text.now)) }
 {
     match STANDARD.decode(alloc, text.as_bytes()) {
         Ok(bytes) => Ok(bytes),
-        Err(DecodeAllocError::OutOfMemory) => Err(Refusal::Memory),
-        Err(DecodeAllocError::DecodeError(_)) => Err(Refusal::Malformed),
+        Err(error) => Err(refusal_of_decoding(error)),
+    }
+}
+
+fn refusal_of_decoding(error: DecodeAllocError) -> Refusal
+    ensures { result ≡ refusal_of_decoding error }
+{
+    match error {
+        DecodeAllocError::OutOfMemory => Refusal::Memory,
+        DecodeAllocError::DecodeError(_) => Refusal::Malformed,
     }
 }
