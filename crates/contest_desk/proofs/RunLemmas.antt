@@ -1,9 +1,10 @@
 -- A run, request by request.
-use Rattle.std.proofs.Common.{◌≡◌, ◌∙◌, List, [], ◌∷◌, ◌++◌, append-nil, length, arith, refl, sym, ap, subst, inl, inr}
+use Rattle.std.proofs.Common.{ℕ, ◌≡◌, ◌∙◌, List, [], ◌∷◌, ◌++◌, append-nil, length, arith, refl, sym, ap, subst, inl, inr}
 use Rattle.std.specs.Prelude.{◌⊎◌, Bool, IsTrue}
 use Rattle.std.proofs.lemmas.List.{append_assoc}
 use Rattle.contest_types.specs.State.{ContestState}
-use Rattle.contest_desk.specs.Runs.{IsServed, IsRun, RunsTo}
+use Rattle.contest_types.specs.Streams.{one_more}
+use Rattle.contest_desk.specs.Runs.{IsServed, IsRun, RunsTo, CountsReply, CountsReplies}
 use Rattle.contest_desk.specs.Serving.{IsStoreReply}
 use Rattle.contest_desk.specs.Step.{step}
 use Rattle.contest_desk.specs.declared.reply.Reply.{Reply}
@@ -50,3 +51,8 @@ module _ {L : Type 0} (contest : L → ContestState) (is_open : L → Bool) wher
   unfolding GoesOn
   ends first now items rest replies none (m, goes, same) =
       (m, subst (λ rs. IsRun (contest first) items rs m) (append-nil replies) (goes [] m (subst (λ is. IsRun m is [] m) (sym (nothing rest none)) refl)), same)
+
+-- one more reply is counted
+pub counts_more : (replies : List Reply) (reply : Reply) (old mid new : ℕ) → CountsReplies replies old mid → CountsReply reply mid new → CountsReplies (replies ++ reply ∷ []) old new
+counts_more [] reply old mid new none counts = (new, (λ is. counts.0 is ∙ ap one_more none, λ other. counts.1 other ∙ none), refl)
+counts_more (first ∷ replies) reply old mid new (next, told, rest) counts = (next, told, counts_more replies reply next mid new rest counts)

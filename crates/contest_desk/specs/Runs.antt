@@ -1,6 +1,9 @@
 -- Requests handled one after another (own).
-use Rattle.std.specs.Prelude.{◌≡◌, ◌⊎◌, Bool, IsTrue, List, [], ◌∷◌}
+use Rattle.std.specs.Prelude.{◌≡◌, ◌⊎◌, ℕ, Bool, IsTrue, List, [], ◌∷◌}
 use Rattle.contest_types.specs.State.{ContestState}
+use Rattle.contest_types.specs.Streams.{one_more}
+use Rattle.contest_types.specs.declared.refusal.Refusal.TheVariants.{StoreFault}
+use Rattle.contest_desk.specs.Replies.{refused}
 use Rattle.contest_desk.specs.Serving.{IsStoreReply}
 use Rattle.contest_desk.specs.Step.{step}
 use Rattle.contest_desk.specs.declared.reply.Reply.{Reply}
@@ -21,3 +24,11 @@ IsRun x (item ∷ items) [] y = ⊥
 -- the requests are a run from the contest before, to the contest after if the store is still open
 abbrev pub RunsTo : {L : Type 0} → (L → ContestState) → (L → Bool) → (old new : L) → List Item → List Reply → Type 0
 RunsTo contest is_open old new items replies = (y : ContestState) × IsRun (contest old) items replies y × (IsTrue (is_open new) → contest new ≡ y)
+
+-- a fault that is answered is counted, and nothing else is
+abbrev pub CountsReply : Reply → ℕ → ℕ → Type 0
+CountsReply reply old new = (reply ≡ refused StoreFault → new ≡ one_more old) × ((reply ≡ refused StoreFault → ⊥) → new ≡ old)
+
+abbrev pub CountsReplies : List Reply → ℕ → ℕ → Type 0
+CountsReplies [] old new = new ≡ old
+CountsReplies (reply ∷ replies) old new = (mid : ℕ) × CountsReply reply old mid × CountsReplies replies mid new

@@ -1,6 +1,6 @@
 //! Requests handled one after another.
-ghost use Rattle.std.specs.Prelude.{◌≡◌, IfOk, OnErr};
-ghost use Rattle.contest_desk.specs.Runs.{RunsTo};
+ghost use Rattle.std.specs.Prelude.{◌≡◌, IfOk, IsTrue, OnErr};
+ghost use Rattle.contest_desk.specs.Runs.{CountsReplies, RunsTo};
 
 use crate::{Credential, Desk, Reply, Request};
 use contest_store::Records;
@@ -26,6 +26,9 @@ impl<L: Records> Desk<L> {
     /// Want of memory alone, before the first request: nothing is handled then.
     pub fn run(&mut self, alloc: Global, items: Vec<Item>) -> Result<Vec<Reply>, AllocError>
         ensures run { L.is_clean self.new → IfOk result (λ replies. RunsTo L.contest L.is_open self.old self.new items.items replies.items) }
+        ensures faults { IfOk result (λ replies. CountsReplies replies.items (L.faults self.old) (L.faults self.new)) }
+        ensures clean { L.is_clean self.new → L.is_clean self.old }
+        ensures up { L.is_clean self.new → IsTrue (L.is_open self.new) → IsTrue (L.is_open self.old) }
         ensures early { OnErr result (self.new ≡ self.old) }
     {
         let mut replies = Vec::with_capacity(alloc, items.len())?;
