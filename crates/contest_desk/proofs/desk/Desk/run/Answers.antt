@@ -18,7 +18,7 @@ loop-item-preserved g c = record {
       c.loop-item.replies.items c.push.new.self.items c.in-Some.item c.handle-reply.result c.in-Some.ensures.steps.0 (search rules) (c.handle-reply.ensures.open clean)
       (c.handle-reply.ensures.reply clean) (c.handle-reply.ensures.contest clean) (c.handle-reply.ensures.unchanged clean) (c.handle-reply.ensures.up clean) (c.loop-item.invariant.run (c.handle-reply.ensures.clean clean));
   faults = subst (λ rs. CountsReplies rs (g.L.Records.faults c.args.self.now) (g.L.Records.faults c.handle-reply.new.self)) (let e : c.push.new.self.items ≡ c.loop-item.replies.items ++ c.handle-reply.result ∷ [] = search rules in sym e)
-    (counts_more c.loop-item.replies.items c.handle-reply.result _ _ _ c.loop-item.invariant.faults (c.handle-reply.ensures.fault, c.handle-reply.ensures.no_fault));
+      (counts_more c.loop-item.replies.items c.handle-reply.result _ _ _ c.loop-item.invariant.faults (c.handle-reply.ensures.fault, c.handle-reply.ensures.no_fault));
   clean = λ clean. c.loop-item.invariant.clean (c.handle-reply.ensures.clean clean);
   up = λ clean opened. c.loop-item.invariant.up (c.handle-reply.ensures.clean clean) (c.handle-reply.ensures.up clean opened);
   room = search rules;
