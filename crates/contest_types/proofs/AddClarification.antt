@@ -25,11 +25,11 @@ use Rattle.contest_types.proofs.SeriesLemmas.{IsTogether, in_each_push, in_any, 
 use Rattle.contest_types.proofs.ValidParts.{Parts, parts, whole, four, fourth_of_five}
 use Rattle.contest_types.proofs.AddLemmas.{next_number, next_key, clock_kept}
 
-addressed_itself : (to : Addressee) → same_addressee to to ≡ true
+pub addressed_itself : (to : Addressee) → same_addressee to to ≡ true
 addressed_itself addressee.All = refl
 addressed_itself (addressee.Team team) = eq-eqb team team refl
 
-one_addressee : IsTogether to_one_addressee
+pub one_addressee : IsTogether to_one_addressee
 one_addressee = record {
   itself = λ c. addressed_itself c.addressee;
   same = λ c d e h. ap (same_addressee e.addressee) (sym (same_is_one d.addressee c.addressee h));

@@ -32,4 +32,6 @@ pub mod Different
 pub mod InOrderLemmas
 pub mod Rising
 pub mod SeenWhole
+pub mod DashedNumbers
+pub mod HeardWhole
 pub mod SettingsTest

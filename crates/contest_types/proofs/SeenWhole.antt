@@ -55,14 +55,14 @@ has_place first (suc n) (suc k) l =
     let e : (first + 1) + k ≡ first + suc k = omega arith in
     inr (subst (λ m. Has (range_with_len (first + 1) n) m) e (has_place (first + 1) n k (omega (arith, l))))
 
-has_team : (s : Setup) (team : ℕ) → team < length s.teams → Has (team_places s) team
+pub has_team : (s : Setup) (team : ℕ) → team < length s.teams → Has (team_places s) team
 has_team s team l = let e : 0 + team ≡ team = omega arith in subst (λ m. Has (range_with_len 0 (length s.teams)) m) e (has_place 0 (length s.teams) team l)
 
 pub all_has : {X : Type 0} (p : X → Bool) (xs : List X) (x : X) → list_all p xs ≡ true → Has xs x → p x ≡ true
 all_has p [] x a h = absurd h
 all_has p (y ∷ xs) x a h = elim h [ inl e ↦ ap p e ∙ and_left _ _ a | inr t ↦ all_has p xs x (and_right (p y) _ a) t ]
 
-below : (m n : ℕ) → nat_lt m n ≡ true → m < n
+pub below : (m n : ℕ) → nat_lt m n ≡ true → m < n
 below m n h = grind (arith, nat_tests)
 
 -- of rows that count up from a first number, none has a smaller one
@@ -73,8 +73,16 @@ not_smaller {X} number first (y ∷ xs) x e h =
     let tail : map number xs ≡ range_with_len (first + 1) (length xs) = cc e in
     elim h [ inl i ↦ (let same : number x ≡ number y = ap number i in omega (arith, same, head)) | inr t ↦ omega (arith, not_smaller number (first + 1) xs x tail t) ]
 
+-- nor a number past as many as they are
+pub not_greater : {X : Type 0} (number : X → ℕ) (first : ℕ) (xs : List X) (x : X) → map number xs ≡ range_with_len first (length xs) → Has xs x → number x < first + length xs
+not_greater number first [] x e h = absurd h
+not_greater {X} number first (y ∷ xs) x e h =
+    let head : number y ≡ first = cc e in
+    let tail : map number xs ≡ range_with_len (first + 1) (length xs) = cc e in
+    elim h [ inl i ↦ (let same : number x ≡ number y = ap number i in omega (arith, same, head)) | inr t ↦ (let rest = not_greater number (first + 1) xs x tail t in omega (arith, rest)) ]
+
 -- the number tells the row
-one_row : {X : Type 0} (number : X → ℕ) (first : ℕ) (xs : List X) (x y : X) → map number xs ≡ range_with_len first (length xs) → Has xs x → Has xs y → number x ≡ number y → x ≡ y
+pub one_row : {X : Type 0} (number : X → ℕ) (first : ℕ) (xs : List X) (x y : X) → map number xs ≡ range_with_len first (length xs) → Has xs x → Has xs y → number x ≡ number y → x ≡ y
 one_row number first [] x y e h k n = absurd h
 one_row {X} number first (z ∷ xs) x y e h k n =
     let head : number z ≡ first = cc e in
@@ -149,7 +157,7 @@ seen_listed a now x valid v i =
     let here : Has (gathered a now x) v = subst (λ w. Has (gathered a now x) w) (sym i.shown) (flat_has (seen_of_team a now x) (team_places x.fixed.settings) team (seen_submission a now x i.submission) (has_team x.fixed.settings team (team_there x i.submission valid i.there)) shown) in
     nothing_lost (submission_order x.fixed.settings) (gathered a now x) v here (λ w h e. no_ties a now x valid v w i (from_gathered a now x w h) e)
 
-clarification_order : IsTotalOrder clarification_cmp
+pub clarification_order : IsTotalOrder clarification_cmp
 clarification_order = then_total (on_total (λ (c : SeenClarification). c.time) nat_cmp_total) (on_total (λ (c : SeenClarification). clarification_id c.addressee c.number) nat_list_cmp_total)
 
 pub seen_rises : (a : Audience) (now : ℕ) (x : ContestState) → IsInOrder (λ v w. is_lt (submission_cmp x.fixed.settings v w)) (seen_submissions a now x)

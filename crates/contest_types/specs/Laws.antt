@@ -3,7 +3,7 @@ use Rattle.std.specs.Prelude.{◌≡◌, ◌↔◌, ℕ, Bool, true, List}
 use Rattle.std.specs.Ordering.{is_lt}
 use Rattle.contest_types.specs.Order.{Has, IsInOrder, IsStrict}
 use Rattle.contest_types.specs.State.{ContestState, Entry, add_all}
-use Rattle.contest_types.specs.Sight.{SeenSubmission, sees_submission, seen_submission, submission_cmp, seen_submissions, clarification_cmp, seen_clarifications}
+use Rattle.contest_types.specs.Sight.{SeenSubmission, sees_submission, seen_submission, submission_cmp, seen_submissions, SeenClarification, sees_clarification, seen_clarification, clarification_cmp, seen_clarifications}
 use Rattle.contest_types.specs.Alike.{Alike, MayBeHeld}
 use Rattle.contest_types.specs.Setup.{IsValid}
 use Rattle.contest_types.specs.ValidFixed.{has_valid_settings}
@@ -11,6 +11,7 @@ use Rattle.contest_types.specs.Valid.{is_valid}
 use Rattle.contest_types.specs.Addable.{are_addable}
 use Rattle.contest_types.specs.declared.audience.Audience.{Audience}
 use Rattle.contest_types.specs.declared.submission.Submission.{Submission}
+use Rattle.contest_types.specs.declared.clarification.Clarification.{Clarification}
 
 -- a contest is alike to itself
 abbrev pub IsAlikeToItself : Type 0
@@ -57,6 +58,23 @@ abbrev pub OneListIsSeen : Type 0
 OneListIsSeen =
     (a : Audience) (now : ℕ) (x : ContestState) → is_valid x ≡ true → (vs : List SeenSubmission)
     → IsInOrder (λ v w. is_lt (submission_cmp x.fixed.settings v w)) vs → ((v : SeenSubmission) → Has vs v ↔ IsSeen a now x v) → vs ≡ seen_submissions a now x
+
+-- this is what the audience hears of a clarification that stands and that it may hear
+pub record IsHeard (a : Audience) (x : ContestState) (v : SeenClarification) : Type 0 where
+  pub clarification : Clarification
+  pub there : Has x.clarifications clarification
+  pub hears : sees_clarification a clarification ≡ true
+  pub told : v ≡ seen_clarification a clarification
+
+-- in a valid contest all clarifications that an audience may hear are listed for it, and nothing else
+abbrev pub HeardIsListed : Type 0
+HeardIsListed = (a : Audience) (x : ContestState) → is_valid x ≡ true → (v : SeenClarification) → Has (seen_clarifications a x) v ↔ IsHeard a x v
+
+-- in a valid contest whoever lists in strict order just what is heard has the same list
+abbrev pub OneListIsHeard : Type 0
+OneListIsHeard =
+    (a : Audience) (x : ContestState) → is_valid x ≡ true → (vs : List SeenClarification)
+    → IsInOrder (λ c d. is_lt (clarification_cmp c d)) vs → ((v : SeenClarification) → Has vs v ↔ IsHeard a x v) → vs ≡ seen_clarifications a x
 
 -- two lists in strict order with the same elements are one
 abbrev pub OneOrder : Type 0 → Type 0

@@ -1,5 +1,5 @@
 //! Laws of the model: functions that do nothing, and whose contracts say what holds of every contest.
-ghost use Rattle.contest_types.specs.Laws.{IsAlikeToItself, IsAlikeBothWays, IsAlikeOnward, AlikeShowTheSame, AlikeTellTheSame, SeenIsListed, SeenIsInOrder, OneListIsSeen, OneOrder, SettingsAreTested, AddingKeepsValid};
+ghost use Rattle.contest_types.specs.Laws.{IsAlikeToItself, IsAlikeBothWays, IsAlikeOnward, AlikeShowTheSame, AlikeTellTheSame, SeenIsListed, SeenIsInOrder, OneListIsSeen, HeardIsListed, OneListIsHeard, OneOrder, SettingsAreTested, AddingKeepsValid};
 ghost use Rattle.contest_types.specs.Sight.{SeenSubmission, SeenClarification};
 
 /// A contest is alike to itself.
@@ -42,6 +42,18 @@ pub fn seen_is_in_order()
 /// the same list.
 pub fn one_list_is_seen()
     ensures { OneListIsSeen }
+{}
+
+/// In a valid contest all clarifications that an audience may hear are listed for it, and nothing
+/// else.
+pub fn heard_is_listed()
+    ensures { HeardIsListed }
+{}
+
+/// In a valid contest whoever lists in strict order just the clarifications that an audience may hear
+/// has the same list.
+pub fn one_list_is_heard()
+    ensures { OneListIsHeard }
 {}
 
 /// Two lists of submissions in strict order with the same elements are one list.

@@ -28,7 +28,7 @@ use Rattle.contest_types.proofs.ValidParts.{parts}
 use Rattle.contest_types.proofs.AddLemmas.{one_team}
 use Rattle.contest_types.proofs.AddSettings.{tests_of}
 use Rattle.contest_types.proofs.InOrderLemmas.{map_has, filter_has, has_filter}
-use Rattle.contest_types.proofs.SeenWhole.{both_equal, same_nat, not_smaller, team_there}
+use Rattle.contest_types.proofs.SeenWhole.{both_equal, same_nat, not_greater, not_smaller, team_there}
 
 -- the numbers of a team's submissions count up from some first one
 record CountsUp (rows : List Submission) : Type 0 where
@@ -113,13 +113,6 @@ counts_up x valid team =
 pub seen_apart : (a : Audience) (now : ℕ) (x : ContestState) → is_valid x ≡ true → IsDistinct (eq_by_cmp (submission_cmp x.fixed.settings)) (map (seen_submission a now x) (filter (sees_submission a x) x.submissions))
 seen_apart a now x valid = apart_from a now x valid x.submissions (counts_up x valid) (λ s h. h)
 
-not_greater : (first : ℕ) (rows : List Submission) (t : Submission) → map (λ (s : Submission). s.number) rows ≡ range_with_len first (length rows) → Has rows t → t.number < first + length rows
-not_greater first [] t e h = absurd h
-not_greater first (row ∷ rows) t e h =
-    let head : row.number ≡ first = cc e in
-    let tail : map (λ (s : Submission). s.number) rows ≡ range_with_len (first + 1) (length rows) = cc e in
-    elim h [ inl i ↦ (let same : t.number ≡ row.number = ap (λ (s : Submission). s.number) i in omega (arith, same, head)) | inr k ↦ (let rest = not_greater (first + 1) rows t tail k in omega (arith, rest)) ]
-
 pub within_limit : (m n : ℕ) → nat_le m n ≡ true → m ≤ n
 within_limit m n h = grind (arith, nat_tests)
 
@@ -130,5 +123,5 @@ number_small x valid s h =
     let own = submissions_of s.team x.submissions in
     let numbers : List ℕ = map (λ (r : Submission). r.number) own in
     let few : nat_le (length own) TEAM_SUBMISSIONS ≡ true = and_right (count_up numbers && never_fall (map (λ (r : Submission). r.time) own) && have_own_keys (map (λ (r : Submission). r.key) own)) _ (series x valid s.team) in
-    let low = not_greater 1 own s (counts_up x valid s.team).numbers (has_filter (λ (r : Submission). r.team == s.team) x.submissions s h (eq-eqb s.team s.team refl)) in
+    let low = not_greater (λ (r : Submission). r.number) 1 own s (counts_up x valid s.team).numbers (has_filter (λ (r : Submission). r.team == s.team) x.submissions s h (eq-eqb s.team s.team refl)) in
     omega (arith, low, within_limit (length own) TEAM_SUBMISSIONS few)
