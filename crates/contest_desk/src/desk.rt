@@ -1,11 +1,11 @@
 //! The desk of a contest.
-ghost use Rattle.std.specs.Prelude.{◌≡◌, ◌⊎◌, true, IfErr, IfOk, IsTrue};
+ghost use Rattle.std.specs.Prelude.{◌≡◌, ◌⊎◌, true, IfErr, IfOk, IsFalse, IsTrue};
 ghost use Rattle.contest_types.specs.Alike.{Alike, MayBeHeld};
 ghost use Rattle.contest_types.specs.State.{ContestState};
 ghost use Rattle.contest_types.specs.Valid.{is_valid};
 ghost use Rattle.contest_types.specs.Streams.{one_more};
 ghost use Rattle.contest_types.specs.declared.audience.Audience.{Audience as TheAudience};
-ghost use Rattle.contest_store.specs.Keeping.{LeavesOnly, LeavesOr};
+ghost use Rattle.contest_store.specs.Keeping.{LeavesNoMore, LeavesOnly, LeavesOr};
 ghost use Rattle.contest_desk.specs.Replies.{refused};
 ghost use Rattle.contest_desk.specs.Laws.{HasSight};
 ghost use Rattle.contest_desk.specs.Serving.{IsSettled, IsStoreReply};
@@ -87,6 +87,7 @@ impl<L: Records> Desk<L> {
         ensures kept { L.is_clean self.new → ¬ IsStoreReply result → LeavesOnly L.may_leave self.old (L.contest self.old)
             → LeavesOnly L.may_leave self.new (step (L.contest self.old) now credential request).1 }
         ensures crash { L.is_clean self.new → LeavesOr L.may_leave self.old self.new (step (L.contest self.old) now credential request).1 }
+        ensures shut { L.is_clean self.new → IsFalse (L.is_open self.old) → LeavesNoMore L.may_leave self.old self.new }
         ensures clean { L.is_clean self.new → L.is_clean self.old }
         ensures up { L.is_clean self.new → IsTrue (L.is_open self.new) → IsTrue (L.is_open self.old) }
         ensures open { L.is_clean self.new → IsStoreReply result ⊎ (IsTrue (L.is_open self.new) × ¬ IsStoreReply result) }

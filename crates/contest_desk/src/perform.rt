@@ -1,6 +1,6 @@
 //! One request served, whoever keeps the contest.
-ghost use Rattle.std.specs.Prelude.{◌≡◌, ◌<◌, IfOk, IfSome, IsTrue, OnErr, OnOk, is_some, length, true};
-ghost use Rattle.contest_store.specs.Keeping.{CountsFaults, LeavesOnly, LeavesOr, RollsBack};
+ghost use Rattle.std.specs.Prelude.{◌≡◌, ◌<◌, IfOk, IfSome, IsFalse, IsTrue, OnErr, OnOk, is_some, length, true};
+ghost use Rattle.contest_store.specs.Keeping.{CountsFaults, LeavesNoMore, LeavesOnly, LeavesOr, RollsBack};
 ghost use Rattle.contest_desk.specs.Callers.{team_of};
 ghost use Rattle.contest_desk.specs.Routes.{routes};
 ghost use Rattle.contest_desk.specs.Serving.{IsOrdinary, IsReady, IsSettled, Serves, after};
@@ -40,6 +40,7 @@ pub fn serve<L: Records>(
     ensures kept { L.is_clean records.new → LeavesOnly L.may_leave records.old (L.contest records.old)
         → OnOk result (LeavesOnly L.may_leave records.new (after (λ x. outcome x now credential.now request) (L.contest records.old))) }
     ensures crash { L.is_clean records.new → LeavesOr L.may_leave records.old records.new (after (λ x. outcome x now credential.now request) (L.contest records.old)) }
+    ensures shut { L.is_clean records.new → IsFalse (L.is_open records.old) → LeavesNoMore L.may_leave records.old records.new }
     ensures clean { L.is_clean records.new → L.is_clean records.old }
     ensures up { L.is_clean records.new → IsTrue (L.is_open records.new) → IsTrue (L.is_open records.old) }
     ensures count { CountsFaults result (L.faults records.old) (L.faults records.new) }
