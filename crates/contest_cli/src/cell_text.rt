@@ -1,6 +1,5 @@
 //! How a cell of the board is written.
-ghost use Rattle.std.specs.Prelude.{◌≡◌, ◌++◌, [], OnOk, string_bytes};
-ghost use Rattle.std.specs.Fmt.{decimal};
+ghost use Rattle.std.specs.Prelude.{◌≡◌, ◌++◌, OnOk, string_bytes};
 ghost use Rattle.contest_cli.specs.CellText.{judged_text, pending_text, cell_text};
 
 use contest_score::Cell;

@@ -1,6 +1,6 @@
 //! Texts in columns of a terminal.
 ghost use Rattle.std.specs.Prelude.{◌≡◌, ◌++◌, OnOk, string_bytes};
-ghost use Rattle.contest_cli.specs.Columns.{columns_of, fill, left, right};
+ghost use Rattle.contest_cli.specs.Columns.{fill, left, right};
 
 use std::alloc::AllocError;
 use unicode_width::UnicodeWidthStr;

@@ -1,5 +1,5 @@
 //! The program's commands: which one the words name, and the help that tells of them.
-ghost use Rattle.std.specs.Prelude.{◌≡◌, ◌≤◌, ◌⊎◌, codes, map, string_bytes, IfErr, IfOk};
+ghost use Rattle.std.specs.Prelude.{◌≡◌, ◌≤◌, codes, map, string_bytes, IfErr, IfOk};
 ghost use Rattle.std.specs.List.{list_any};
 ghost use Rattle.contest_types.specs.Streams.{Tells, stream};
 ghost use Rattle.contest_cli.specs.Commands.{AsksHelp, IsReplay, NamesNone, Shows, ShowsSome, TellsNone, TellsWords, is_help, unknown_command};

@@ -1,11 +1,11 @@
 //! The lines that tell of a refusal, made without memory.
-ghost use Rattle.std.specs.Prelude.{◌≡◌, ◌≤◌, ◌+◌, ◌++◌, length};
+ghost use Rattle.std.specs.Prelude.{◌≡◌, ◌≤◌, ◌+◌, ◌++◌};
 ghost use Rattle.std.specs.Fmt.{decimal};
 ghost use Rattle.arrayvec.specs.ArrayString.{array_string_len};
 ghost use Rattle.contest_cli.specs.Lines.{refusal_line, detail_of};
 
 use arrayvec::ArrayString;
-use contest_types::{Cause, Refusal};
+use contest_types::Refusal;
 use itoa::{Buffer, Integer};
 
 /// Room for the longest line.

@@ -1,6 +1,6 @@
 //! A replay file, judged as it is read.
 ghost use Rattle.std.specs.Prelude.{◌≡◌, ◌≤◌, ◌+◌, ◌∷◌, ◌^◌, ◌||◌, ℕ, Bool, true, false, List, [], None, Ok, Err, OnOk, IfOk, IfErr, IsSome, length};
-ghost use Rattle.csv.specs.Reading.{default_config, strip_bom, records};
+ghost use Rattle.csv.specs.Reading.{records};
 ghost use Rattle.csv.specs.Records.{fields_of};
 ghost use Rattle.contest_types.specs.Valid.{is_valid};
 ghost use Rattle.contest_cli.specs.ReplayedContest.{contest_of};

@@ -17,7 +17,7 @@ use contest_types::{
     Audience, Cause, ContestHead, Id, JudgementType, Language, Marks, Moment, Name, Problem,
     Refusal, RelTime, RowFault, Settings, Team, TimeSpan, limits,
 };
-use std::alloc::{AllocError, Global};
+use std::alloc::Global;
 use std::marker::Model;
 
 /// A replayed contest. Its start is moment 0, and each verdict is released at its submission's time.

@@ -1,7 +1,6 @@
 //! The text that `replay` gives of a file.
-ghost use Rattle.std.specs.Prelude.{◌≡◌, ◌⊎◌, ◌≤◌, Ok, Err, Some, IfOk, IfErr, string_bytes};
-ghost use Rattle.contest_types.specs.declared.limits.TheConstants.{LAST_MOMENT};
-ghost use Rattle.contest_cli.specs.Text.{board_of, audience_for, marks_for, moment_for, replay_marks};
+ghost use Rattle.std.specs.Prelude.{◌≡◌, ◌⊎◌, Ok, Err, Some, IfOk, IfErr, string_bytes};
+ghost use Rattle.contest_cli.specs.Text.{board_of, audience_for, marks_for, moment_for};
 
 use crate::replay_csv::read_replay_csv;
 use crate::words::Options;

@@ -3,7 +3,7 @@ ghost use Rattle.std.specs.Prelude.{◌≡◌, ◌<◌, ◌+◌, ◌^◌, IfSome
 ghost use Rattle.contest_types.specs.declared.audience.Audience.TheVariants.{Team as TheTeam};
 ghost use Rattle.contest_desk.specs.Callers.{audience_of, caller_of, holder_of, place_of_digest, team_of};
 
-use crate::{Credential, Operation};
+use crate::Credential;
 use contest_types::{Account, Audience, Digest, Fixed, Role};
 use sha2::{Digest as _, Sha256};
 

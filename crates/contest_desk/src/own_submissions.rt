@@ -7,7 +7,6 @@ ghost use Rattle.contest_types.specs.Valid.{is_valid};
 ghost use Rattle.contest_types.specs.declared.submission.Submission.{Submission};
 ghost use Rattle.contest_store.specs.Keeping.{CountsFaults, LeavesNoMore, RollsBack, Shows};
 ghost use Rattle.contest_desk.specs.OwnSubmissions.{loaded_for, with_file};
-ghost use Rattle.contest_desk.specs.Serving.{IsReady};
 
 use contest_rules::place_of_key;
 use contest_store::Records;

@@ -1,5 +1,5 @@
 //! Reading submissions.
-ghost use Rattle.std.specs.Prelude.{◌≡◌, IfOk, IsTrue, OnErr, OnOk};
+ghost use Rattle.std.specs.Prelude.{IfOk, IsTrue, OnErr};
 ghost use Rattle.contest_store.specs.Keeping.{CountsFaults, LeavesNoMore, RollsBack};
 ghost use Rattle.contest_desk.specs.ReadSubmissions.{get_submission, list_submissions};
 ghost use Rattle.contest_desk.specs.Serving.{IsOrdinary, IsReady, Serves};

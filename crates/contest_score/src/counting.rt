@@ -1,5 +1,5 @@
 //! The cells of a list of submissions, counted in one pass.
-ghost use Rattle.std.specs.Prelude.{◌≡◌, ◌<◌, ◌≤◌, ◌^◌, length, IfOk, IfErr, map, All, IsSome};
+ghost use Rattle.std.specs.Prelude.{◌≡◌, ◌<◌, ◌^◌, length, IfOk, IfErr, map, All};
 ghost use Rattle.std.specs.List.{range_with_len};
 ghost use Rattle.contest_score.specs.Counting.{HasRoom, cell_with};
 ghost use Rattle.contest_score.specs.Table.{no_attempts, cell_in, cells_table, row_at, with_cell};

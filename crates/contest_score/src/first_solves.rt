@@ -1,6 +1,6 @@
 //! Who solved a problem first.
-ghost use Rattle.std.specs.Prelude.{◌≡◌, ◌==◌, ◌<◌, ◌++◌, [], IfOk, OnOk, codes, length, map};
-ghost use Rattle.std.specs.List.{list_any, range_with_len};
+ghost use Rattle.std.specs.Prelude.{◌≡◌, ◌==◌, ◌<◌, ◌++◌, [], IfOk, OnOk, codes, map};
+ghost use Rattle.std.specs.List.{range_with_len};
 ghost use Rattle.contest_score.specs.declared.solve.Solve.{Solve};
 ghost use Rattle.contest_score.specs.Ranking.{problem_order as problems_in_order};
 ghost use Rattle.contest_score.specs.Awards.{award_to, first_solves, first_to_solve, listed};

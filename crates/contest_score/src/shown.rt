@@ -1,5 +1,5 @@
 //! Which teams a board shows.
-ghost use Rattle.std.specs.Prelude.{◌≡◌, ℕ, ◌<◌, Bool, length};
+ghost use Rattle.std.specs.Prelude.{◌≡◌, ℕ, ◌<◌, Bool};
 ghost use Rattle.contest_score.specs.Ranking.{is_public};
 
 use contest_types::Settings;

@@ -1,5 +1,5 @@
 //! Submissions as scoring reads them.
-ghost use Rattle.std.specs.Prelude.{◌≡◌, ◌↔◌, ◌<◌, IsTrue, IfSome, All, length};
+ghost use Rattle.std.specs.Prelude.{◌≡◌, ◌↔◌, ◌<◌, IsTrue, IfSome, All};
 ghost use Rattle.contest_types.specs.Clock.{reached};
 ghost use Rattle.contest_score.specs.Masks.{IsAdmitted};
 

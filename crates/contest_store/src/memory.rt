@@ -1,10 +1,9 @@
 //! A contest in memory: for tests of what stands above a store.
-ghost use Rattle.std.specs.Prelude.{◌≡◌, ◌≤◌, ◌==◌, ◌&&◌, IfOk, IfErr, IsTrue, OnErr, OnOk, [], ◌∷◌, ◌++◌, None, Some, false, length, map, take, find, option_map};
+ghost use Rattle.std.specs.Prelude.{◌≡◌, ◌≤◌, ◌==◌, ◌&&◌, IfOk, IfErr, IsTrue, OnOk, [], None, Some, false, length, map, find, option_map};
 ghost use Rattle.contest_store.specs.InMemory.{contest_of, committed_of, counted, failed, gone_on, is_due, rolled_back, with_submissions};
 ghost use Rattle.contest_types.specs.Loads.{file_of, without_file};
 ghost use Rattle.contest_types.specs.State.{add};
 ghost use Rattle.contest_types.specs.declared.entry.Entry.TheVariants.{NewSubmission};
-ghost use Rattle.contest_types.specs.Streams.{one_more};
 
 use crate::Records;
 use contest_types::{Entry, Fixed, Refusal, Rows, Submission};

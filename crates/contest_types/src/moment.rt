@@ -1,8 +1,7 @@
 //! Moments, and their texts.
-ghost use Rattle.std.specs.Prelude.{◌≡◌, ◌*◌, ◌≤◌, ◌≤ℤ◌, ◌∷◌, ◌++◌, ℕ, List, [], Ok, IfOk, IfSome, IfNone, IsOk, pos, length, SomeIff};
+ghost use Rattle.std.specs.Prelude.{◌≡◌, ◌*◌, ◌≤◌, ℕ, List, Ok, IfOk, IfSome, IfNone, IsOk, pos, SomeIff};
 ghost use Rattle.std.specs.Str.{IsUtf8};
-ghost use Rattle.jiff.specs.Words.{civil_nanos};
-ghost use Rattle.contest_types.specs.MomentText.{latest, IsMomentText, ShowsMoment, moment_text, time_text};
+ghost use Rattle.contest_types.specs.MomentText.{latest, IsMomentText, ShowsMoment, moment_text};
 
 use crate::Refusal;
 use crate::limits::LAST_MOMENT;

@@ -1,9 +1,8 @@
 //! Relative times: lengths of time, and their texts.
-ghost use Rattle.std.specs.Prelude.{◌≡◌, ◌≢◌, ◌+◌, ◌-◌, ◌-ℤ◌, ◌*◌, ◌/◌, ◌%◌, ◌<◌, ◌≤◌, ◌∷◌, ◌++◌, ◌↔◌, ◌==◌, ℕ, ℤ, List, [], Bool, Option, Some, None, SomeIff, IsTrue, IsFalse, ◌⊎◌, MatchOption, IfSome, IfNone, length, pos, neg_ℤ, drop, take, false, slice_index, unsigned_abs};
+ghost use Rattle.std.specs.Prelude.{◌≡◌, ◌≢◌, ◌+◌, ◌-◌, ◌-ℤ◌, ◌*◌, ◌/◌, ◌%◌, ◌<◌, ◌≤◌, ◌++◌, ◌==◌, ℕ, ℤ, List, Option, Some, None, SomeIff, IsTrue, IsFalse, ◌⊎◌, IfSome, IfNone, length, pos, neg_ℤ, drop, take, false, slice_index, unsigned_abs};
 ghost use Rattle.std.specs.Str.{IsUtf8};
-ghost use Rattle.std.specs.Str.Parse.{IsNumeral, digits_value};
 ghost use Rattle.contest_types.specs.RelTimeRead.{reltime_of};
-ghost use Rattle.contest_types.specs.RelTimeText.{farthest, AreDigits, Field, IsSplit, IsClock, IsRelTimeText, sign, rel_time_text, clock_text};
+ghost use Rattle.contest_types.specs.RelTimeText.{farthest, Field, IsSplit, IsClock, IsRelTimeText, sign, rel_time_text, clock_text};
 
 use crate::Moment;
 use crate::backwards::Backwards;

@@ -1,5 +1,5 @@
 //! What a contest is set up with.
-ghost use Rattle.std.specs.Prelude.{◌≡◌, ◌<◌, Ok, Err, Some, None, false, [], IfOk, IfErr, IfSome, IsSome, OnErr, length, map};
+ghost use Rattle.std.specs.Prelude.{◌≡◌, ◌<◌, Ok, Err, Some, None, false, IfOk, IfErr, IfSome, IsSome, OnErr, length, map};
 ghost use Rattle.contest_types.specs.IdText.{IsId};
 ghost use Rattle.contest_types.specs.Setup.{Setup, IsValid, is_valid_head, has_valid_freeze, has_valid_medals, labels_of, refers};
 ghost use Rattle.contest_types.specs.Additions.{IsFaultOf};

@@ -1,5 +1,5 @@
 //! Lengths of time that aren't below zero.
-ghost use Rattle.std.specs.Prelude.{◌≡◌, ◌≤◌, ℕ, SomeIff, pos, ◌≤ℤ◌, ℤ, IfSome, IfNone, ◌<ℤ◌};
+ghost use Rattle.std.specs.Prelude.{◌≡◌, ◌≤◌, ℕ, SomeIff, pos, ℤ, IfSome, IfNone, ◌<ℤ◌};
 ghost use Rattle.contest_types.specs.RelTimeText.{farthest};
 
 use crate::RelTime;

@@ -1,6 +1,5 @@
 //! The members of a JSON object, put in one by one, and values that come as texts.
 ghost use Rattle.std.specs.Prelude.{◌≡◌, ◌-ℤ◌, pos, IfOk, OnOk, option_map};
-ghost use Rattle.std.specs.Str.{IsUtf8};
 ghost use Rattle.serde_json.specs.Data.{string, put as with_member};
 ghost use Rattle.serde_json.specs.View.{view, members_view};
 ghost use Rattle.contest_types.specs.MomentText.{moment_text};
