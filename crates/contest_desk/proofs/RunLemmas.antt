@@ -74,18 +74,22 @@ module _ {L : Type 0} (contest : L → ContestState) (is_open : L → Bool) wher
     leaves_more first old new items rest left replies replied item reply one more crash shut g before c left_now =
         let longer : (rs : List Reply) → replied ++ rs ≡ replies ++ reply ∷ rs = λ rs. ap (λ qs. qs ++ rs) more ∙ append_assoc replies (reply ∷ []) rs in
         let earlier : may_leave old c → may_leave first c ⊎ ((y : ContestState) × (c ≡ Some y) × ((rs : List Reply) → IsOnTheWay (contest first) items (replied ++ rs) y)) =
-          λ was. elim (before c was) [
-            | (inl at_first) ↦ inl at_first
-            | (inr (y, is, way)) ↦ inr (y, is, λ rs. subst (λ qs. IsOnTheWay (contest first) items qs y) (sym (longer rs)) (way (reply ∷ rs)))
-          ] in
+        λ was. elim (before c was) [
+          | (inl at_first) ↦ inl at_first
+          | (inr (y, is, way)) ↦ inr (y, is, λ rs. subst (λ qs. IsOnTheWay (contest first) items qs y) (sym (longer rs)) (way (reply ∷ rs)))
+        ] in
         let go : (b : Bool) → is_open old ≡ b → may_leave first c ⊎ ((y : ContestState) × (c ≡ Some y) × ((rs : List Reply) → IsOnTheWay (contest first) items (replied ++ rs) y)) = elim [
           | false ↦ λ was_shut. earlier (shut was_shut c left_now)
           | true ↦ λ opened. elim (crash c left_now) [
             | (inl was) ↦ earlier was
             | (inr is) ↦
-              let n : ContestState = (step g.here item.now item.credential item.request).1 in
-              inr (n, is ∙ ap (λ x. Some (step x item.now item.credential item.request).1) (g.same opened), λ rs.
-                subst (λ qs. IsOnTheWay (contest first) items qs n) (sym (longer rs)) (g.ways (reply ∷ rs) n (subst (λ is'. IsOnTheWay g.here is' (reply ∷ rs) n) (sym one) (inl refl))))
+                let n : ContestState = (step g.here item.now item.credential item.request).1 in
+                inr (
+                  n,
+                  is ∙ ap (λ x. Some (step x item.now item.credential item.request).1) (g.same opened),
+                  λ rs.
+                      subst (λ qs. IsOnTheWay (contest first) items qs n) (sym (longer rs)) (g.ways (reply ∷ rs) n (subst (λ is'. IsOnTheWay g.here is' (reply ∷ rs) n) (sym one) (inl refl))),
+                )
           ]
         ] in go (is_open old) refl
 

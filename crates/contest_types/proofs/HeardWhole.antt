@@ -163,7 +163,7 @@ no_ties a x valid v w iv iw e =
     let ids : clarification_id c.addressee c.number ≡ clarification_id d.addressee d.number = exact_bytes _ _ (both_equal _ _ e').1 in
     let few : length x.fixed.settings.teams ≤ TEAMS = at_most _ TEAMS (tests_of x (parts x valid).settings).few_teams in
     let both = one_id x.fixed c.addressee d.addressee c.number d.number few (goes_to x c valid iw.there) (goes_to x d valid iv.there)
-      (omega (arith, own_number x c valid iw.there)) (omega (arith, own_number x d valid iv.there)) ids in
+    (omega (arith, own_number x c valid iw.there)) (omega (arith, own_number x d valid iv.there)) ids in
     iw.told ∙ (ap (seen_clarification a) (one_clarification x c d valid iw.there iv.there both.0 both.1) ∙ sym iv.told)
 
 pub heard_listed : (a : Audience) (x : ContestState) → is_valid x ≡ true → (v : SeenClarification) → IsHeard a x v → Has (seen_clarifications a x) v
@@ -171,11 +171,11 @@ heard_listed a x valid v i =
     let c = i.clarification in
     let rows = map (seen_clarification a) (clarifications_to c.addressee x.clarifications) in
     let row : Has rows (seen_clarification a c) = has_map (seen_clarification a) (clarifications_to c.addressee x.clarifications) c
-      (has_filter (λ (d : Clarification). same_addressee d.addressee c.addressee) x.clarifications c i.there (addressed_itself c.addressee)) in
+    (has_filter (λ (d : Clarification). same_addressee d.addressee c.addressee) x.clarifications c i.there (addressed_itself c.addressee)) in
     let go : (b : Bool) → b ≡ true → Has (if b then rows else []) (seen_clarification a c) = elim [ true ↦ λ e. row | false ↦ λ e. absurd (false≢true e) ] in
     let told : Has (heard_of a x c.addressee) (seen_clarification a c) = go (hears a c.addressee) i.hears in
     let here : Has (gathered a x) v = subst (λ w. Has (gathered a x) w) (sym i.told)
-      (flat_has (heard_of a x) (addressees x.fixed.settings) c.addressee (seen_clarification a c) (has_addressee x.fixed c.addressee (goes_to x c valid i.there)) told) in
+    (flat_has (heard_of a x) (addressees x.fixed.settings) c.addressee (seen_clarification a c) (has_addressee x.fixed c.addressee (goes_to x c valid i.there)) told) in
     nothing_lost clarification_order (gathered a x) v here (λ w h e. no_ties a x valid v w i (from_gathered a x w h) e)
 
 -- whoever lists in order just what is heard has the same list
