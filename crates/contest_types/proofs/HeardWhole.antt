@@ -159,11 +159,12 @@ no_ties : (a : Audience) (x : ContestState) → is_valid x ≡ true → (v w : S
 no_ties a x valid v w iv iw e =
     let c = iw.clarification in
     let d = iv.clarification in
+    let small_c : c.number < 2 ^ 64 = omega (arith, own_number x c valid iw.there) in
+    let small_d : d.number < 2 ^ 64 = omega (arith, own_number x d valid iv.there) in
     let e' : clarification_cmp (seen_clarification a c) (seen_clarification a d) ≡ Equal = ap (λ z. clarification_cmp z (seen_clarification a d)) (sym iw.told) ∙ (ap (clarification_cmp w) (sym iv.told) ∙ e) in
     let ids : clarification_id c.addressee c.number ≡ clarification_id d.addressee d.number = exact_bytes _ _ (both_equal _ _ e').1 in
     let few : length x.fixed.settings.teams ≤ TEAMS = at_most _ TEAMS (tests_of x (parts x valid).settings).few_teams in
-    let both = one_id x.fixed c.addressee d.addressee c.number d.number few (goes_to x c valid iw.there) (goes_to x d valid iv.there)
-    (omega (arith, own_number x c valid iw.there)) (omega (arith, own_number x d valid iv.there)) ids in
+    let both = one_id x.fixed c.addressee d.addressee c.number d.number few (goes_to x c valid iw.there) (goes_to x d valid iv.there) small_c small_d ids in
     iw.told ∙ (ap (seen_clarification a) (one_clarification x c d valid iw.there iv.there both.0 both.1) ∙ sym iv.told)
 
 pub heard_listed : (a : Audience) (x : ContestState) → is_valid x ≡ true → (v : SeenClarification) → IsHeard a x v → Has (seen_clarifications a x) v
