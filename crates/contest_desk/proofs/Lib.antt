@@ -7,6 +7,7 @@ pub mod PostLemmas
 pub mod ServingLemmas
 pub mod CallerLemmas
 pub mod UnseenLemmas
+pub mod QuietSteps
 mod ExamplesUnseen
 pub mod StepLemmas
 pub mod AddedAlike

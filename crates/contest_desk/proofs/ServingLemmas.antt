@@ -4,7 +4,7 @@ use Rattle.std.specs.Prelude.{IsTrue, IfOk, OnErr}
 use Rattle.contest_types.specs.State.{ContestState, add_all}
 use Rattle.contest_types.specs.Valid.{is_valid}
 use Rattle.contest_types.specs.declared.refusal.Refusal.{Refusal}
-use Rattle.contest_store.specs.Keeping.{Shows, RollsBack, LeavesOnly, LeavesNoMore, LeavesOr}
+use Rattle.contest_store.specs.Keeping.{Shows, RollsBack, LeavesNoMore, LeavesOr}
 use Rattle.contest_desk.specs.Outcomes.{Outcome, replying}
 use Rattle.contest_desk.specs.Serving.{IsSettled, Serves, after}
 use Rattle.contest_desk.specs.declared.reply.Reply.{Reply}
@@ -32,13 +32,6 @@ module _ {L : Type 0} (contest committed : L → ContestState) (is_open : L → 
       }
 
 module _ {L : Type 0} (may_leave : L → Option ContestState → Type 0) where
-  pub reply_keeps : (old new : L) (x : ContestState) (o : ContestState → Outcome) (reply : Reply) → o x ≡ replying reply → LeavesNoMore may_leave old new
-      → LeavesOnly may_leave old x → LeavesOnly may_leave new (after o x)
-  reply_keeps old new x o reply come more only c left = only c (more c left) ∙ ap Some (λ i. add_all x (sym come i).entries)
-
-  pub no_more_or : (old new : L) (x : ContestState) → LeavesNoMore may_leave old new → LeavesOr may_leave old new x
-  no_more_or old new x more c left = inl (more c left)
-
   -- a call that leaves no more, and then one that leaves this too
   pub then_or : (old mid new : L) (x y : ContestState) → x ≡ y → LeavesNoMore may_leave old mid → LeavesOr may_leave mid new x → LeavesOr may_leave old new y
   then_or old mid new x y e more or c left = elim (or c left) [ inl before ↦ inl (more c before) | inr is ↦ inr (is ∙ ap Some e) ]

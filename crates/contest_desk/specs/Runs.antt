@@ -25,18 +25,17 @@ IsRun x (item ∷ items) [] y = ⊥
 abbrev pub RunsTo : {L : Type 0} → (L → ContestState) → (L → Bool) → (old new : L) → List Item → List Reply → Type 0
 RunsTo contest is_open old new items replies = (y : ContestState) × IsRun (contest old) items replies y × (IsTrue (is_open new) → contest new ≡ y)
 
--- a contest that one of these requests makes on the way, whether it is answered or fails
-abbrev pub IsOnTheWay : ContestState → List Item → List Reply → ContestState → Type 0
-IsOnTheWay x [] [] y = ⊥
-IsOnTheWay x [] (reply ∷ replies) y = ⊥
-IsOnTheWay x (item ∷ items) [] y = ⊥
-IsOnTheWay x (item ∷ items) (reply ∷ replies) y =
-    (y ≡ (step x item.now item.credential item.request).1) ⊎ ((mid : ContestState) × IsServed x item reply mid × IsOnTheWay mid items replies y)
-
--- a crash leaves what it could leave before, or a contest on the way of these requests
-abbrev pub LeavesOnTheWay : {L : Type 0} → (L → ContestState) → (L → Option ContestState → Type 0) → (old new : L) → List Item → List Reply → Type 0
-LeavesOnTheWay contest may_leave old new items replies =
-    (c : Option ContestState) → may_leave new c → may_leave old c ⊎ ((y : ContestState) × (c ≡ Some y) × IsOnTheWay (contest old) items replies y)
+-- what a crash may leave after these requests with these replies, where before them it might leave `before`:
+-- a request that is answered leaves its contest and no other, and one that fails what might be left
+-- before it, or its contest
+abbrev pub LeavesAfter : (before : Option ContestState → Type 0) → ContestState → List Item → List Reply → Option ContestState → Type 0
+LeavesAfter before x [] [] c = before c
+LeavesAfter before x (item ∷ items) (reply ∷ replies) c =
+    let y = (step x item.now item.credential item.request).1 in
+    ((IsStoreReply reply → ⊥) × LeavesAfter (λ d. d ≡ Some y) y items replies c)
+    ⊎ (IsStoreReply reply × LeavesAfter (λ d. before d ⊎ (d ≡ Some y)) x items replies c)
+LeavesAfter before x [] (reply ∷ replies) c = ⊥
+LeavesAfter before x (item ∷ items) [] c = ⊥
 
 -- a fault that is answered is counted, and nothing else is
 abbrev pub CountsReply : Reply → ℕ → ℕ → Type 0

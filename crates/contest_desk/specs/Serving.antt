@@ -1,8 +1,8 @@
 -- What serving a request asks of a kept contest, and what it leaves of it, whoever keeps it (own).
-use Rattle.std.specs.Prelude.{◌≡◌, ◌⊎◌, ◌==◌, Bool, true, false, IsTrue}
+use Rattle.std.specs.Prelude.{◌≡◌, ◌⊎◌, ◌==◌, Bool, true, false, Option, IsTrue}
 use Rattle.contest_types.specs.State.{FixedPart, ContestState, add_all}
 use Rattle.contest_types.specs.Valid.{is_valid}
-use Rattle.contest_store.specs.Keeping.{Shows}
+use Rattle.contest_store.specs.Keeping.{LeavesOnly, Shows}
 use Rattle.contest_types.specs.declared.refusal.Refusal.TheVariants.{StoreFault, Memory}
 use Rattle.contest_desk.specs.Outcomes.{Outcome}
 use Rattle.contest_desk.specs.Replies.{refused}
@@ -13,10 +13,12 @@ abbrev pub IsSettled : {L : Type 0} → (L → ContestState) → (L → ContestS
 IsSettled contest committed is_open is_clean store =
     is_clean store → IsTrue (is_open store) → (contest store ≡ committed store) × (is_valid (contest store) ≡ true)
 
--- it is open, no append stands, and the contest is valid and has this fixed part
-pub record IsReady {L : Type 0} (contest committed : L → ContestState) (is_open : L → Bool) (store : L) (fixed : FixedPart) : Type 0 where
+-- it is open, no append stands, a crash leaves the last commit and no other, and the contest is valid and
+-- has this fixed part
+pub record IsReady {L : Type 0} (contest committed : L → ContestState) (is_open : L → Bool) (may_leave : L → Option ContestState → Type 0) (store : L) (fixed : FixedPart) : Type 0 where
   pub up : IsTrue (is_open store)
   pub settled : contest store ≡ committed store
+  pub left : LeavesOnly may_leave store (committed store)
   pub valid : is_valid (contest store) ≡ true
   pub has_fixed : (contest store).fixed ≡ fixed
 

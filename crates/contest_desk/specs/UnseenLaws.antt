@@ -1,6 +1,6 @@
 -- What an audience can't notice leaves the contest alike for it. Each law is the contract of a function
 -- of src/unseen.rt.
-use Rattle.std.specs.Prelude.{◌≡◌, ℕ, List, []}
+use Rattle.std.specs.Prelude.{◌≡◌, ◌≢◌, ◌⊎◌, ℕ, List}
 use Rattle.contest_types.specs.State.{ContestState, add, add_all}
 use Rattle.contest_types.specs.Alike.{Alike}
 use Rattle.contest_types.specs.declared.entry.Entry.{Entry}
@@ -8,6 +8,7 @@ use Rattle.contest_types.specs.declared.audience.Audience.{Audience}
 use Rattle.contest_desk.specs.Step.{outcome, step}
 use Rattle.contest_desk.specs.Unseen.{IsUnseen, AreUnseen}
 use Rattle.contest_desk.specs.declared.request.Credential.{Credential}
+use Rattle.contest_desk.specs.declared.request.Method.TheVariants.{Get}
 use Rattle.contest_desk.specs.declared.request.Request.{Request}
 
 -- one entry that can't be noticed leaves the contest alike
@@ -18,14 +19,25 @@ UnseenEntry = (a : Audience) (x : ContestState) (e : Entry) → IsUnseen a x e �
 abbrev pub UnseenEntries : Type 0
 UnseenEntries = (a : Audience) (x : ContestState) (es : List Entry) → AreUnseen a x es → Alike a (add_all x es) x
 
--- whoever asks: a request that adds only such entries leaves the contest alike
-abbrev pub UnseenStep : Type 0
-UnseenStep =
-    (a : Audience) (x : ContestState) (now : ℕ) (credential : Credential) (request : Request)
-    → AreUnseen a x (outcome x now credential request).entries → Alike a (step x now credential request).1 x
-
--- a request that adds nothing leaves the contest as it was
+-- a request that is refused leaves the contest as it was, whoever asks
 abbrev pub RefusedStep : Type 0
 RefusedStep =
     (x : ContestState) (now : ℕ) (credential : Credential) (request : Request)
-    → (outcome x now credential request).entries ≡ [] → (step x now credential request).1 ≡ x
+    → (step x now credential request).0.status ≢ 200 → (step x now credential request).1 ≡ x
+
+-- and so does one that reads
+abbrev pub ReadStep : Type 0
+ReadStep =
+    (x : ContestState) (now : ℕ) (credential : Credential) (request : Request)
+    → request.method ≡ Get → (step x now credential request).1 ≡ x
+
+-- a request that is refused, or reads, or adds only what an audience can't notice
+abbrev pub IsUnnoticed : Audience → ContestState → (now : ℕ) → Credential → Request → Type 0
+IsUnnoticed a x now credential request =
+    ((step x now credential request).0.status ≢ 200) ⊎ ((request.method ≡ Get) ⊎ AreUnseen a x (outcome x now credential request).entries)
+
+-- whoever asks: such a request leaves the contest alike
+abbrev pub UnseenStep : Type 0
+UnseenStep =
+    (a : Audience) (x : ContestState) (now : ℕ) (credential : Credential) (request : Request)
+    → IsUnnoticed a x now credential request → Alike a (step x now credential request).1 x

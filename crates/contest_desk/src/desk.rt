@@ -69,7 +69,8 @@ impl<L: Records> Desk<L> {
     /// method, token, role, body, references, domain.
     ///
     /// The reply and the contest afterwards are what one step of the machine gives; where the store
-    /// fails or a growth is refused the reply says so and the contest is as before. Until the thaw
+    /// fails or a growth is refused the reply says so and, while the store is open, the contest is as
+    /// before. Until the thaw
     /// the reply is the same over every contest that is alike for the caller.
     pub fn handle(
         &mut self,
@@ -84,8 +85,8 @@ impl<L: Records> Desk<L> {
         ensures isolated { L.is_clean self.new → ¬ IsStoreReply result → (a : TheAudience) (y : ContestState) → HasSight (L.contest self.old).fixed credential a
             → MayBeHeld a now (L.contest self.old) → is_valid y ≡ true → Alike a (L.contest self.old) y
             → (result ≡ (step y now credential request).0) × Alike a (L.contest self.new) (step y now credential request).1 }
-        ensures kept { L.is_clean self.new → ¬ IsStoreReply result → LeavesOnly L.may_leave self.old (L.contest self.old)
-            → LeavesOnly L.may_leave self.new (step (L.contest self.old) now credential request).1 }
+        ensures kept { L.is_clean self.new → ¬ IsStoreReply result → LeavesOnly L.may_leave self.new (step (L.contest self.old) now credential request).1 }
+        ensures settled { L.is_clean self.new → IsTrue (L.is_open self.new) → LeavesOnly L.may_leave self.new (L.contest self.new) }
         ensures crash { L.is_clean self.new → LeavesOr L.may_leave self.old self.new (step (L.contest self.old) now credential request).1 }
         ensures shut { L.is_clean self.new → IsFalse (L.is_open self.old) → LeavesNoMore L.may_leave self.old self.new }
         ensures clean { L.is_clean self.new → L.is_clean self.old }

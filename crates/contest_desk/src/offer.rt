@@ -1,4 +1,4 @@
-//! What may be asked on each route, and by whom.
+//! What may be asked on each route.
 ghost use Rattle.std.specs.Prelude.{◌≡◌};
 ghost use Rattle.contest_desk.specs.Offers.{allowed_on, is_of_contest, methods_text, operation_of};
 

@@ -5,7 +5,7 @@ ghost use Rattle.contest_types.specs.State.{submissions_of};
 ghost use Rattle.contest_types.specs.Loads.{file_of};
 ghost use Rattle.contest_types.specs.Valid.{is_valid};
 ghost use Rattle.contest_types.specs.declared.submission.Submission.{Submission};
-ghost use Rattle.contest_store.specs.Keeping.{CountsFaults, LeavesNoMore, RollsBack, Shows};
+ghost use Rattle.contest_store.specs.Keeping.{CountsFaults, LeavesNoMore, LeavesOnly, RollsBack, Shows};
 ghost use Rattle.contest_desk.specs.OwnSubmissions.{loaded_for, with_file};
 
 use contest_rules::place_of_key;
@@ -25,6 +25,7 @@ pub fn own_submissions<L: Records>(
     ensures value { L.is_clean records.new → IfOk result (λ own. own.items ≡ loaded_for key.now (submissions_of team (L.contest records.old).submissions)) }
     ensures ok { L.is_clean records.new → OnOk result (Shows L.contest L.committed L.is_open records.new (L.contest records.old) (L.committed records.old)) }
     ensures err { L.is_clean records.new → IsTrue (L.is_open records.new) → OnErr result (RollsBack L.contest L.committed L.is_open records.old records.new) }
+    ensures settled { L.is_clean records.new → IsTrue (L.is_open records.new) → LeavesOnly L.may_leave records.new (L.committed records.new) }
     ensures crash { L.is_clean records.new → LeavesNoMore L.may_leave records.old records.new }
     ensures clean { L.is_clean records.new → L.is_clean records.old }
     ensures up { L.is_clean records.new → IsTrue (L.is_open records.new) → IsTrue (L.is_open records.old) }
@@ -46,6 +47,7 @@ fn rows_of_team<L: Records>(
     ensures value { L.is_clean records.new → IfOk result (λ own. own.items ≡ map without_file (submissions_of team (L.contest records.old).submissions)) }
     ensures ok { L.is_clean records.new → OnOk result (Shows L.contest L.committed L.is_open records.new (L.contest records.old) (L.committed records.old)) }
     ensures err { L.is_clean records.new → IsTrue (L.is_open records.new) → OnErr result (RollsBack L.contest L.committed L.is_open records.old records.new) }
+    ensures settled { L.is_clean records.new → IsTrue (L.is_open records.new) → LeavesOnly L.may_leave records.new (L.committed records.new) }
     ensures crash { L.is_clean records.new → LeavesNoMore L.may_leave records.old records.new }
     ensures clean { L.is_clean records.new → L.is_clean records.old }
     ensures up { L.is_clean records.new → IsTrue (L.is_open records.new) → IsTrue (L.is_open records.old) }
@@ -76,6 +78,7 @@ fn with_file_at<L: Records>(
         → file_of (L.contest records.old) team s.number ≡ Some file → rows.items ≡ slice_set own.items place (with_file file s)) }
     ensures ok { L.is_clean records.new → OnOk result (Shows L.contest L.committed L.is_open records.new (L.contest records.old) (L.committed records.old)) }
     ensures err { L.is_clean records.new → IsTrue (L.is_open records.new) → OnErr result (RollsBack L.contest L.committed L.is_open records.old records.new) }
+    ensures settled { L.is_clean records.new → IsTrue (L.is_open records.new) → LeavesOnly L.may_leave records.new (L.committed records.new) }
     ensures crash { L.is_clean records.new → LeavesNoMore L.may_leave records.old records.new }
     ensures clean { L.is_clean records.new → L.is_clean records.old }
     ensures up { L.is_clean records.new → IsTrue (L.is_open records.new) → IsTrue (L.is_open records.old) }

@@ -37,8 +37,7 @@ pub fn serve<L: Records>(
     ensures step { L.is_clean records.new → IfOk result (Serves L.contest L.committed L.is_open records.old records.new (λ x. outcome x now credential.now request)) }
     ensures ordinary { IfOk result IsOrdinary }
     ensures err { L.is_clean records.new → IsTrue (L.is_open records.new) → OnErr result (RollsBack L.contest L.committed L.is_open records.old records.new) }
-    ensures kept { L.is_clean records.new → LeavesOnly L.may_leave records.old (L.contest records.old)
-        → OnOk result (LeavesOnly L.may_leave records.new (after (λ x. outcome x now credential.now request) (L.contest records.old))) }
+    ensures settled { L.is_clean records.new → IsTrue (L.is_open records.new) → LeavesOnly L.may_leave records.new (L.committed records.new) }
     ensures crash { L.is_clean records.new → LeavesOr L.may_leave records.old records.new (after (λ x. outcome x now credential.now request) (L.contest records.old)) }
     ensures shut { L.is_clean records.new → IsFalse (L.is_open records.old) → LeavesNoMore L.may_leave records.old records.new }
     ensures clean { L.is_clean records.new → L.is_clean records.old }
@@ -67,13 +66,12 @@ fn perform<L: Records>(
     operation: Operation,
     request: Request,
 ) -> Result<Reply, Refusal>
-    requires ready { L.is_clean records.old → IsReady L.contest L.committed L.is_open records.old fixed.now }
+    requires ready { L.is_clean records.old → IsReady L.contest L.committed L.is_open L.may_leave records.old fixed.now }
     requires there { L.is_clean records.old → IfSome (team_of caller) (λ team. team < length fixed.now.settings.teams) }
     ensures step { L.is_clean records.new → IfOk result (Serves L.contest L.committed L.is_open records.old records.new (λ x. perform x now caller operation request)) }
     ensures ordinary { IfOk result IsOrdinary }
     ensures err { L.is_clean records.new → IsTrue (L.is_open records.new) → OnErr result (RollsBack L.contest L.committed L.is_open records.old records.new) }
-    ensures kept { L.is_clean records.new → LeavesOnly L.may_leave records.old (L.contest records.old)
-        → OnOk result (LeavesOnly L.may_leave records.new (after (λ x. perform x now caller operation request) (L.contest records.old))) }
+    ensures settled { L.is_clean records.new → IsTrue (L.is_open records.new) → LeavesOnly L.may_leave records.new (L.committed records.new) }
     ensures crash { L.is_clean records.new → LeavesOr L.may_leave records.old records.new (after (λ x. perform x now caller operation request) (L.contest records.old)) }
     ensures clean { L.is_clean records.new → L.is_clean records.old }
     ensures up { L.is_clean records.new → IsTrue (L.is_open records.new) → IsTrue (L.is_open records.old) }
@@ -100,13 +98,12 @@ fn post<L: Records>(
     team: Option<usize>,
     request: Request,
 ) -> Result<Reply, Refusal>
-    requires ready { L.is_clean records.old → IsReady L.contest L.committed L.is_open records.old fixed.now }
+    requires ready { L.is_clean records.old → IsReady L.contest L.committed L.is_open L.may_leave records.old fixed.now }
     requires there { L.is_clean records.old → IfSome team (λ team. team < length fixed.now.settings.teams) }
     ensures step { L.is_clean records.new → IfOk result (Serves L.contest L.committed L.is_open records.old records.new (λ x. posted x now team request)) }
     ensures ordinary { IfOk result IsOrdinary }
     ensures err { L.is_clean records.new → IsTrue (L.is_open records.new) → OnErr result (RollsBack L.contest L.committed L.is_open records.old records.new) }
-    ensures kept { L.is_clean records.new → LeavesOnly L.may_leave records.old (L.contest records.old)
-        → OnOk result (LeavesOnly L.may_leave records.new (after (λ x. posted x now team request) (L.contest records.old))) }
+    ensures settled { L.is_clean records.new → IsTrue (L.is_open records.new) → LeavesOnly L.may_leave records.new (L.committed records.new) }
     ensures crash { L.is_clean records.new → LeavesOr L.may_leave records.old records.new (after (λ x. posted x now team request) (L.contest records.old)) }
     ensures clean { L.is_clean records.new → L.is_clean records.old }
     ensures up { L.is_clean records.new → IsTrue (L.is_open records.new) → IsTrue (L.is_open records.old) }

@@ -37,13 +37,12 @@ pub fn post_submission<L: Records>(
     key: KeyField,
     body: &[u8],
 ) -> Result<Reply, Refusal>
-    requires ready { L.is_clean records.old → IsReady L.contest L.committed L.is_open records.old fixed.now }
+    requires ready { L.is_clean records.old → IsReady L.contest L.committed L.is_open L.may_leave records.old fixed.now }
     requires there { L.is_clean records.old → team < length fixed.now.settings.teams }
     ensures step { L.is_clean records.new → IfOk result (Serves L.contest L.committed L.is_open records.old records.new (λ x. post_submission x.fixed now team (submissions_of team x.submissions) key body.now)) }
     ensures ordinary { IfOk result IsOrdinary }
     ensures err { L.is_clean records.new → IsTrue (L.is_open records.new) → OnErr result (RollsBack L.contest L.committed L.is_open records.old records.new) }
-    ensures kept { L.is_clean records.new → LeavesOnly L.may_leave records.old (L.contest records.old)
-        → OnOk result (LeavesOnly L.may_leave records.new (after (λ x. post_submission x.fixed now team (submissions_of team x.submissions) key body.now) (L.contest records.old))) }
+    ensures settled { L.is_clean records.new → IsTrue (L.is_open records.new) → LeavesOnly L.may_leave records.new (L.committed records.new) }
     ensures crash { L.is_clean records.new → LeavesOr L.may_leave records.old records.new (after (λ x. post_submission x.fixed now team (submissions_of team x.submissions) key body.now) (L.contest records.old)) }
     ensures clean { L.is_clean records.new → L.is_clean records.old }
     ensures up { L.is_clean records.new → IsTrue (L.is_open records.new) → IsTrue (L.is_open records.old) }
@@ -66,13 +65,13 @@ fn decide<L: Records>(
     team: usize,
     wanted: WantedSubmission,
 ) -> Result<Reply, Refusal>
-    requires ready { L.is_clean records.old → IsReady L.contest L.committed L.is_open records.old fixed.now }
+    requires ready { L.is_clean records.old → IsReady L.contest L.committed L.is_open L.may_leave records.old fixed.now }
     requires there { L.is_clean records.old → team < length fixed.now.settings.teams }
     requires limit { length wanted.file ≤ posted_file }
     ensures step { L.is_clean records.new → IfOk result (Serves L.contest L.committed L.is_open records.old records.new (deciding now team wanted)) }
     ensures ordinary { IfOk result IsOrdinary }
     ensures err { L.is_clean records.new → IsTrue (L.is_open records.new) → OnErr result (RollsBack L.contest L.committed L.is_open records.old records.new) }
-    ensures kept { L.is_clean records.new → LeavesOnly L.may_leave records.old (L.contest records.old) → OnOk result (LeavesOnly L.may_leave records.new (after (deciding now team wanted) (L.contest records.old))) }
+    ensures settled { L.is_clean records.new → IsTrue (L.is_open records.new) → LeavesOnly L.may_leave records.new (L.committed records.new) }
     ensures crash { L.is_clean records.new → LeavesOr L.may_leave records.old records.new (after (deciding now team wanted) (L.contest records.old)) }
     ensures clean { L.is_clean records.new → L.is_clean records.old }
     ensures up { L.is_clean records.new → IsTrue (L.is_open records.new) → IsTrue (L.is_open records.old) }
@@ -116,13 +115,13 @@ fn accept<L: Records>(
     team: usize,
     submission: Submission,
 ) -> Result<Reply, Refusal>
-    requires ready { L.is_clean records.old → IsReady L.contest L.committed L.is_open records.old fixed.now }
+    requires ready { L.is_clean records.old → IsReady L.contest L.committed L.is_open L.may_leave records.old fixed.now }
     requires addable { L.is_clean records.old → is_addable (L.contest records.old) (NewSubmission submission) ≡ true }
     requires number { L.is_clean records.old → team + 1 < 2 ^ 64 }
     ensures step { L.is_clean records.new → IfOk result (Serves L.contest L.committed L.is_open records.old records.new (λ x. adding (NewSubmission submission) (own_submission x.fixed team submission))) }
     ensures ordinary { IfOk result IsOrdinary }
     ensures err { L.is_clean records.new → IsTrue (L.is_open records.new) → OnErr result (RollsBack L.contest L.committed L.is_open records.old records.new) }
-    ensures kept { L.is_clean records.new → OnOk result (LeavesOnly L.may_leave records.new (add (L.contest records.old) (NewSubmission submission))) }
+    ensures settled { L.is_clean records.new → IsTrue (L.is_open records.new) → LeavesOnly L.may_leave records.new (L.committed records.new) }
     ensures crash { L.is_clean records.new → LeavesOr L.may_leave records.old records.new (add (L.contest records.old) (NewSubmission submission)) }
     ensures clean { L.is_clean records.new → L.is_clean records.old }
     ensures up { L.is_clean records.new → IsTrue (L.is_open records.new) → IsTrue (L.is_open records.old) }

@@ -1,6 +1,6 @@
 //! Reading submissions.
 ghost use Rattle.std.specs.Prelude.{IfOk, IsTrue, OnErr};
-ghost use Rattle.contest_store.specs.Keeping.{CountsFaults, LeavesNoMore, RollsBack};
+ghost use Rattle.contest_store.specs.Keeping.{CountsFaults, LeavesNoMore, LeavesOnly, RollsBack};
 ghost use Rattle.contest_desk.specs.ReadSubmissions.{get_submission, list_submissions};
 ghost use Rattle.contest_desk.specs.Serving.{IsOrdinary, IsReady, Serves};
 
@@ -22,10 +22,11 @@ pub fn list_submissions<L: Records>(
     now: Moment,
     audience: Audience,
 ) -> Result<Reply, Refusal>
-    requires ready { L.is_clean records.old → IsReady L.contest L.committed L.is_open records.old fixed.now }
+    requires ready { L.is_clean records.old → IsReady L.contest L.committed L.is_open L.may_leave records.old fixed.now }
     ensures step { L.is_clean records.new → IfOk result (Serves L.contest L.committed L.is_open records.old records.new (list_submissions audience now)) }
     ensures ordinary { IfOk result IsOrdinary }
     ensures err { L.is_clean records.new → IsTrue (L.is_open records.new) → OnErr result (RollsBack L.contest L.committed L.is_open records.old records.new) }
+    ensures settled { L.is_clean records.new → IsTrue (L.is_open records.new) → LeavesOnly L.may_leave records.new (L.committed records.new) }
     ensures crash { L.is_clean records.new → LeavesNoMore L.may_leave records.old records.new }
     ensures clean { L.is_clean records.new → L.is_clean records.old }
     ensures up { L.is_clean records.new → IsTrue (L.is_open records.new) → IsTrue (L.is_open records.old) }
@@ -50,10 +51,11 @@ pub fn get_submission<L: Records>(
     audience: Audience,
     id: &[u8],
 ) -> Result<Reply, Refusal>
-    requires ready { L.is_clean records.old → IsReady L.contest L.committed L.is_open records.old fixed.now }
+    requires ready { L.is_clean records.old → IsReady L.contest L.committed L.is_open L.may_leave records.old fixed.now }
     ensures step { L.is_clean records.new → IfOk result (Serves L.contest L.committed L.is_open records.old records.new (λ x. get_submission audience now x id.now)) }
     ensures ordinary { IfOk result IsOrdinary }
     ensures err { L.is_clean records.new → IsTrue (L.is_open records.new) → OnErr result (RollsBack L.contest L.committed L.is_open records.old records.new) }
+    ensures settled { L.is_clean records.new → IsTrue (L.is_open records.new) → LeavesOnly L.may_leave records.new (L.committed records.new) }
     ensures crash { L.is_clean records.new → LeavesNoMore L.may_leave records.old records.new }
     ensures clean { L.is_clean records.new → L.is_clean records.old }
     ensures up { L.is_clean records.new → IsTrue (L.is_open records.new) → IsTrue (L.is_open records.old) }

@@ -1,7 +1,7 @@
 //! Requests handled one after another.
-ghost use Rattle.std.specs.Prelude.{◌≡◌, All, IfOk, IsTrue, OnErr};
-ghost use Rattle.contest_store.specs.Keeping.{LeavesOnly};
-ghost use Rattle.contest_desk.specs.Runs.{CountsReplies, LeavesOnTheWay, RunsTo};
+ghost use Rattle.std.specs.Prelude.{◌≡◌, All, Option, IfOk, IsTrue, OnErr};
+ghost use Rattle.contest_types.specs.State.{ContestState};
+ghost use Rattle.contest_desk.specs.Runs.{CountsReplies, LeavesAfter, RunsTo};
 ghost use Rattle.contest_desk.specs.Serving.{IsStoreReply};
 
 use crate::{Credential, Desk, Reply, Request};
@@ -21,18 +21,18 @@ pub struct Item {
 }
 
 impl<L: Records> Desk<L> {
-    /// Handles requests one after another, and gives their replies in order. After a run in which
-    /// nothing failed a crash leaves the contest at its end; after any other, what it could leave
-    /// before, or a contest on the way.
+    /// Handles requests one after another, and gives their replies in order. What was answered before
+    /// a failure is not lost by it: a crash leaves the contest of the last request that was answered,
+    /// or that of one which failed since.
     ///
     /// # Errors
     ///
     /// Want of memory alone, before the first request: nothing is handled then.
     pub fn run(&mut self, alloc: Global, items: Vec<Item>) -> Result<Vec<Reply>, AllocError>
         ensures run { L.is_clean self.new → IfOk result (λ replies. RunsTo L.contest L.is_open self.old self.new items.items replies.items) }
-        ensures kept { L.is_clean self.new → LeavesOnly L.may_leave self.old (L.contest self.old)
-            → IfOk result (λ replies. All (λ reply. ¬ IsStoreReply reply) replies.items → LeavesOnly L.may_leave self.new (L.contest self.new)) }
-        ensures crash { L.is_clean self.new → IfOk result (λ replies. LeavesOnTheWay L.contest L.may_leave self.old self.new items.items replies.items) }
+        ensures crash { L.is_clean self.new → IfOk result (λ replies. (c : Option ContestState) → L.may_leave self.new c
+            → LeavesAfter (L.may_leave self.old) (L.contest self.old) items.items replies.items c) }
+        ensures open { L.is_clean self.new → IfOk result (λ replies. All (λ reply. ¬ IsStoreReply reply) replies.items → IsTrue (L.is_open self.old) → IsTrue (L.is_open self.new)) }
         ensures faults { IfOk result (λ replies. CountsReplies replies.items (L.faults self.old) (L.faults self.new)) }
         ensures clean { L.is_clean self.new → L.is_clean self.old }
         ensures up { L.is_clean self.new → IsTrue (L.is_open self.new) → IsTrue (L.is_open self.old) }

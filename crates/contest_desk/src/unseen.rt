@@ -1,6 +1,6 @@
 //! Laws of what goes unnoticed: functions that do nothing, and whose contracts say what holds of every
 //! contest.
-ghost use Rattle.contest_desk.specs.UnseenLaws.{UnseenEntry, UnseenEntries, UnseenStep, RefusedStep};
+ghost use Rattle.contest_desk.specs.UnseenLaws.{UnseenEntry, UnseenEntries, RefusedStep, ReadStep, UnseenStep};
 
 /// A change that an audience can't notice before the thaw leaves the contest alike for it: a verdict on
 /// another team's frozen submission, a hidden team's submission or a verdict on one, a clarification of
@@ -15,13 +15,18 @@ pub fn unseen_entries()
     ensures { UnseenEntries }
 {}
 
-/// Whoever asks, and for whatever: where a request adds only what an audience can't notice, the
-/// contest after it is alike for that audience to the contest before it.
-pub fn unseen_step()
-    ensures { UnseenStep }
-{}
-
-/// A request that adds nothing leaves the contest exactly as it was.
+/// A request that is refused leaves the contest exactly as it was.
 pub fn refused_step()
     ensures { RefusedStep }
+{}
+
+/// And so does one that reads.
+pub fn read_step()
+    ensures { ReadStep }
+{}
+
+/// Whoever asks, and for whatever: where a request is refused, or reads, or adds only what an audience
+/// can't notice, the contest after it is alike for that audience to the contest before it.
+pub fn unseen_step()
+    ensures { UnseenStep }
 {}

@@ -17,7 +17,7 @@ RollsBack contest committed is_open old new = Shows contest committed is_open ne
 
 -- a crash leaves this contest, and no other
 abbrev pub LeavesOnly : {L : Type 0} → (L → Option ContestState → Type 0) → L → ContestState → Type 0
-LeavesOnly may_leave new x = (c : Option ContestState) → may_leave new c → c ≡ Some x
+LeavesOnly may_leave new x = may_leave new (Some x) × ((c : Option ContestState) → may_leave new c → c ≡ Some x)
 
 -- a crash leaves what it could leave before
 abbrev pub LeavesNoMore : {L : Type 0} → (L → Option ContestState → Type 0) → L → L → Type 0

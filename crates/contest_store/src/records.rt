@@ -12,10 +12,10 @@ use std::rc::Rc;
 /// A contest, whoever keeps it. Appends stand in one transaction until `commit`.
 ///
 /// Every call has the same facts: what an `Ok` gives; that an `Err` leaves no append and the last
-/// commit; that a crash leaves no more than before, or for `commit` the contest that it commits; that
-/// a fault of the store is counted, and nothing else is; and that the premise on the disk, and being
-/// open, hold for the store before where they hold for it afterwards. A store that a fault has shut
-/// stays shut.
+/// commit; that while the store is open a crash leaves the last commit and no other, and in any case
+/// no more than before, or for `commit` the contest that it commits; that a fault of the store is
+/// counted, and nothing else is; and that the premise on the disk, and being open, hold for the store
+/// before where they hold for it afterwards. A store that a fault has shut stays shut.
 ///
 /// # Errors
 ///
@@ -44,6 +44,7 @@ pub trait Records {
         ensures value { is_clean self.new → IfOk result (λ found. found.value ≡ (contest self.old).fixed) }
         ensures ok { is_clean self.new → OnOk result (Shows contest committed is_open self.new (contest self.old) (committed self.old)) }
         ensures err { is_clean self.new → IsTrue (is_open self.new) → OnErr result (RollsBack contest committed is_open self.old self.new) }
+        ensures settled { is_clean self.new → IsTrue (is_open self.new) → LeavesOnly may_leave self.new (committed self.new) }
         ensures crash { is_clean self.new → LeavesNoMore may_leave self.old self.new }
         ensures clean { is_clean self.new → is_clean self.old }
         ensures up { is_clean self.new → IsTrue (is_open self.new) → IsTrue (is_open self.old) }
@@ -54,6 +55,7 @@ pub trait Records {
         ensures value { is_clean self.new → IfOk result (λ found. found ≡ loaded_submissions (contest self.old)) }
         ensures ok { is_clean self.new → OnOk result (Shows contest committed is_open self.new (contest self.old) (committed self.old)) }
         ensures err { is_clean self.new → IsTrue (is_open self.new) → OnErr result (RollsBack contest committed is_open self.old self.new) }
+        ensures settled { is_clean self.new → IsTrue (is_open self.new) → LeavesOnly may_leave self.new (committed self.new) }
         ensures crash { is_clean self.new → LeavesNoMore may_leave self.old self.new }
         ensures clean { is_clean self.new → is_clean self.old }
         ensures up { is_clean self.new → IsTrue (is_open self.new) → IsTrue (is_open self.old) }
@@ -70,6 +72,7 @@ pub trait Records {
         ensures value { is_clean self.new → IfOk result (λ found. found ≡ file_of (contest self.old) team number) }
         ensures ok { is_clean self.new → OnOk result (Shows contest committed is_open self.new (contest self.old) (committed self.old)) }
         ensures err { is_clean self.new → IsTrue (is_open self.new) → OnErr result (RollsBack contest committed is_open self.old self.new) }
+        ensures settled { is_clean self.new → IsTrue (is_open self.new) → LeavesOnly may_leave self.new (committed self.new) }
         ensures crash { is_clean self.new → LeavesNoMore may_leave self.old self.new }
         ensures clean { is_clean self.new → is_clean self.old }
         ensures up { is_clean self.new → IsTrue (is_open self.new) → IsTrue (is_open self.old) }
@@ -80,16 +83,17 @@ pub trait Records {
         requires addable { is_clean self.old → is_addable (contest self.old) entry ≡ true }
         ensures ok { is_clean self.new → OnOk result (Shows contest committed is_open self.new (add (contest self.old) entry) (committed self.old)) }
         ensures err { is_clean self.new → IsTrue (is_open self.new) → OnErr result (RollsBack contest committed is_open self.old self.new) }
+        ensures settled { is_clean self.new → IsTrue (is_open self.new) → LeavesOnly may_leave self.new (committed self.new) }
         ensures crash { is_clean self.new → LeavesNoMore may_leave self.old self.new }
         ensures clean { is_clean self.new → is_clean self.old }
         ensures up { is_clean self.new → IsTrue (is_open self.new) → IsTrue (is_open self.old) }
         ensures count { CountsFaults result (faults self.old) (faults self.new) };
 
-    /// Keeps all changes that were made since the last commit. Without one it does nothing.
+    /// Keeps all changes that were made since the last commit. Without one the contest stays as it is.
     fn commit(&mut self) -> Result<(), Refusal>
         ensures ok { is_clean self.new → OnOk result (Shows contest committed is_open self.new (contest self.old) (contest self.old)) }
-        ensures kept { is_clean self.new → OnOk result (LeavesOnly may_leave self.new (contest self.old)) }
         ensures err { is_clean self.new → IsTrue (is_open self.new) → OnErr result (RollsBack contest committed is_open self.old self.new) }
+        ensures settled { is_clean self.new → IsTrue (is_open self.new) → LeavesOnly may_leave self.new (committed self.new) }
         ensures crash { is_clean self.new → LeavesOr may_leave self.old self.new (contest self.old) }
         ensures clean { is_clean self.new → is_clean self.old }
         ensures up { is_clean self.new → IsTrue (is_open self.new) → IsTrue (is_open self.old) }

@@ -1,11 +1,11 @@
-use Rattle.std.proofs.Common.{◌∙◌, ap, Some, refl}
+use Rattle.std.proofs.Common.{refl}
 use Rattle.std.proofs.lemmas.Result.{IfOk-weaker}
 use Rattle.contest_desk.specs.Callers.{team_of}
 use Rattle.contest_desk.specs.ReadSubmissions.{get_submission, list_submissions}
 use Rattle.contest_desk.specs.Step.{perform}
 use Rattle.contest_desk.proofs.CallerLemmas.{caller_fits}
 use Rattle.contest_desk.proofs.ServingLemmas.{serves_same}
-use Rattle.contest_desk.proofs.StepLemmas.{any_ok, listing_is, getting_is, getting_leaves}
+use Rattle.contest_desk.proofs.StepLemmas.{listing_is, getting_is}
 use Rattle.contest_desk.proofs.perform.perform.Goals as goal
 
 pub returns-in-ListSubmissions-clause-step : goal.returns-in-ListSubmissions-clause-step
@@ -28,13 +28,3 @@ returns-in-GetSubmission-clause-step g c = λ clean.
     let is = getting_is x c.args.now c.args.caller c.args.operation c.args.request c.audience_of-in-GetSubmission.result c.as_slice.result.now id c.in-GetSubmission.is (c.audience_of-in-GetSubmission.ensures fits) c.as_slice.ensures c.object_piece-id.ensures in
     IfOk-weaker c.get_submission.result _ _ (λ reply s. serves_same g.L.Records.contest g.L.Records.committed g.L.Records.is_open c.args.records.now c.args.records.now c.get_submission.new.records
     (λ y. get_submission c.audience_of-in-GetSubmission.result c.args.now y id) (λ y. perform y c.args.now c.args.caller c.args.operation c.args.request) reply refl is s) (c.get_submission.ensures.step clean)
-
-pub returns-in-GetSubmission-clause-kept : goal.returns-in-GetSubmission-clause-kept
-returns-in-GetSubmission-clause-kept g c = λ clean only.
-    let x = g.L.Records.contest c.args.records.now in
-    let before = c.get_submission.ensures.clean clean in
-    let ready = c.requires.ready before in
-    let fits = caller_fits x c.args.fixed.now (team_of c.args.caller) ready.valid ready.has_fixed (c.requires.there before) in
-    let id = c.object_piece-id.result.now in
-    let is = getting_is x c.args.now c.args.caller c.args.operation c.args.request c.audience_of-in-GetSubmission.result c.as_slice.result.now id c.in-GetSubmission.is (c.audience_of-in-GetSubmission.ensures fits) c.as_slice.ensures c.object_piece-id.ensures in
-    any_ok c.get_submission.result (λ left more. only left (c.get_submission.ensures.crash clean left more) ∙ ap Some (getting_leaves x _ _ c.args.now id is))

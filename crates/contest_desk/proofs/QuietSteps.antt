@@ -1,0 +1,136 @@
+-- A step adds nothing unless it is answered as done, and nothing where it reads.
+use Rattle.std.proofs.Common.{◌≡◌, ℕ, List, [], Option, Some, None, Result, Ok, Err, refl, sym, ap, subst, inl, inr, if◌then◌else◌}
+use Rattle.std.specs.Prelude.{◌≢◌, ◌⊎◌, Bool, true, false, slice_get}
+use Rattle.contest_types.specs.Alike.{Alike}
+use Rattle.contest_types.specs.State.{ContestState, FixedPart, submissions_of, add_all}
+use Rattle.contest_types.specs.TeamPlaces.{team_id_at}
+use Rattle.contest_types.specs.declared.audience.Audience.{Audience}
+use Rattle.contest_types.specs.declared.refusal.Refusal.{Refusal}
+use Rattle.contest_types.specs.declared.refusal.Refusal.TheVariants.{NotFound}
+use Rattle.contest_types.specs.declared.submission.Submission.{Submission}
+use Rattle.contest_rules.specs.Submitting.{submit}
+use Rattle.contest_rules.specs.declared.decision.Decision.{Decision}
+use Rattle.contest_rules.specs.declared.decision.Decision.TheVariants.{Add, Stands, Refused}
+use Rattle.contest_rules.specs.declared.submitting.WantedSubmission.{WantedSubmission}
+use Rattle.contest_view.specs.Reads.{submission_found}
+use Rattle.contest_desk.specs.Callers.{caller_of, audience_of, team_of}
+use Rattle.contest_desk.specs.Offers.{allowed_on, operation_of}
+use Rattle.contest_desk.specs.Outcomes.{Outcome, refusing}
+use Rattle.contest_desk.specs.Paths.{object_piece}
+use Rattle.contest_desk.specs.PostSubmission.{repeating, decided}
+use Rattle.contest_desk.specs.Replies.{refused, refused_method}
+use Rattle.contest_desk.specs.Routes.{route_of}
+use Rattle.contest_desk.specs.Step.{is_here, offered, asked, posted, perform, outcome_of, outcome, step}
+use Rattle.contest_desk.specs.SubmissionBodies.{wanted_in}
+use Rattle.contest_desk.specs.UnseenLaws.{IsUnnoticed}
+use Rattle.contest_desk.specs.declared.caller.Caller.{Caller}
+use Rattle.contest_desk.specs.declared.offer.AllowedMethods.{AllowedMethods}
+use Rattle.contest_desk.specs.declared.offer.Operation.{Operation}
+use Rattle.contest_desk.specs.declared.offer.Operation.TheVariants.{ListSubmissions, PostSubmission, GetSubmission}
+use Rattle.contest_desk.specs.declared.reply.Reply.{Reply}
+use Rattle.contest_desk.specs.declared.request.Credential.{Credential}
+use Rattle.contest_desk.specs.declared.request.Method.{Method}
+use Rattle.contest_desk.specs.declared.request.Method.TheVariants.{Get}
+use Rattle.contest_desk.specs.declared.request.Request.{Request}
+use Rattle.contest_desk.specs.declared.route.Route.{Route}
+use Rattle.contest_desk.specs.declared.route.Route.TheVariants.{Submissions, Submission as OneSubmission}
+use Rattle.contest_desk.proofs.StepLemmas.{telling_only}
+use Rattle.contest_desk.proofs.UnseenLemmas.{unseen_entries}
+
+-- it adds nothing, or it is answered as done
+abbrev IsQuiet : Outcome → Type 0
+IsQuiet o = (o.entries ≡ []) ⊎ (o.reply.status ≡ 200)
+
+repeating_quiet : (f : FixedPart) (team : ℕ) (standing : Option Submission) → IsQuiet (repeating f team standing)
+repeating_quiet f team None = inl refl
+repeating_quiet f team (Some s) = inl refl
+
+decided_quiet : (f : FixedPart) (team : ℕ) (own : List Submission) (d : Decision Submission) → IsQuiet (decided f team own d)
+decided_quiet f team own (Add s) = inr refl
+decided_quiet f team own (Stands place) = repeating_quiet f team (slice_get own place)
+decided_quiet f team own (Refused r) = inl refl
+
+wanted_quiet : (f : FixedPart) (now team : ℕ) (own : List Submission) (r : Result WantedSubmission Refusal)
+    → IsQuiet (elim r as (λ _. Outcome) [ (Err refusal) ↦ refusing refusal | (Ok wanted) ↦ decided f team own (submit f now team own wanted) ])
+wanted_quiet f now team own (Ok wanted) = decided_quiet f team own (submit f now team own wanted)
+wanted_quiet f now team own (Err refusal) = inl refl
+
+posted_quiet : (x : ContestState) (now : ℕ) (team : Option ℕ) (request : Request) → IsQuiet (posted x now team request)
+posted_quiet x now None request = inl refl
+posted_quiet x now (Some team) request = wanted_quiet x.fixed now team (submissions_of team x.submissions) (wanted_in (team_id_at x.fixed.settings team) request.key request.body)
+
+perform_quiet : (x : ContestState) (now : ℕ) (who : Caller) (operation : Operation) (request : Request) → IsQuiet (perform x now who operation request)
+perform_quiet x now who ListSubmissions request = inl refl
+perform_quiet x now who GetSubmission request = inl (telling_only (submission_found (audience_of who) now x (object_piece request.path)))
+perform_quiet x now who PostSubmission request = posted_quiet x now (team_of who) request
+
+asked_quiet : (x : ContestState) (now : ℕ) (who : Option Caller) (request : Request) (asks : Result Operation Reply) → IsQuiet (outcome_of x now who request asks)
+asked_quiet x now who request (Err reply) = inl refl
+asked_quiet x now None request (Ok operation) = inl refl
+asked_quiet x now (Some who) request (Ok operation) = perform_quiet x now who operation request
+
+pub refused_adds_nothing : (x : ContestState) (now : ℕ) (credential : Credential) (request : Request) → (step x now credential request).0.status ≢ 200 → (step x now credential request).1 ≡ x
+refused_adds_nothing x now credential request fails =
+    elim (asked_quiet x now (caller_of x.fixed credential) request (asked x.fixed.settings.head.id request.path request.method)) [
+      | inl none ↦ ap (add_all x) none
+      | inr done ↦ absurd (fails done)
+    ]
+
+-- it asks to read, or for nothing that is there
+abbrev Reads : Operation → Type 0
+Reads ListSubmissions = Unit {0}
+Reads GetSubmission = Unit {0}
+Reads PostSubmission = ⊥
+
+abbrev MayRead : Option Operation → Type 0
+MayRead None = Unit {0}
+MayRead (Some operation) = Reads operation
+
+abbrev AsksToRead : Result Operation Reply → Type 0
+AsksToRead (Ok operation) = Reads operation
+AsksToRead (Err reply) = Unit {0}
+
+got_reads : (route : Route) → MayRead (operation_of route Get)
+got_reads Submissions = tt
+got_reads OneSubmission = tt
+got_reads _ = tt
+
+allowed_reads : (allowed : AllowedMethods) (o : Option Operation) → MayRead o → AsksToRead (elim o as (λ _. Result Operation Reply) [ None ↦ Err (refused_method allowed) | (Some operation) ↦ Ok operation ])
+allowed_reads allowed None h = tt
+allowed_reads allowed (Some operation) h = h
+
+offered_reads : (route : Route) (o : Option AllowedMethods) → AsksToRead (offered Get route o)
+offered_reads route None = tt
+offered_reads route (Some allowed) = allowed_reads allowed (operation_of route Get) (got_reads route)
+
+here_reads : (route : Route) (b : Bool) → AsksToRead (if b then offered Get route (allowed_on route) else Err (refused NotFound))
+here_reads route true = offered_reads route (allowed_on route)
+here_reads route false = tt
+
+route_reads : (contest path : List ℕ) (o : Option Route)
+    → AsksToRead (elim o as (λ _. Result Operation Reply) [ None ↦ Err (refused NotFound) | (Some route) ↦ if is_here contest path route then offered Get route (allowed_on route) else Err (refused NotFound) ])
+route_reads contest path None = tt
+route_reads contest path (Some route) = here_reads route (is_here contest path route)
+
+asked_reads : (contest path : List ℕ) (method : Method) → method ≡ Get → AsksToRead (asked contest path method)
+asked_reads contest path method e = subst (λ m. AsksToRead (asked contest path m)) (sym e) (route_reads contest path (route_of path))
+
+reads_add_nothing : (x : ContestState) (now : ℕ) (who : Option Caller) (request : Request) (asks : Result Operation Reply) → AsksToRead asks → (outcome_of x now who request asks).entries ≡ []
+reads_add_nothing x now who request (Err reply) h = refl
+reads_add_nothing x now None request (Ok operation) h = refl
+reads_add_nothing x now (Some who) request (Ok ListSubmissions) h = refl
+reads_add_nothing x now (Some who) request (Ok GetSubmission) h = telling_only (submission_found (audience_of who) now x (object_piece request.path))
+reads_add_nothing x now (Some who) request (Ok PostSubmission) h = absurd h
+
+pub read_adds_nothing : (x : ContestState) (now : ℕ) (credential : Credential) (request : Request) → request.method ≡ Get → (step x now credential request).1 ≡ x
+read_adds_nothing x now credential request e =
+    let contest = x.fixed.settings.head.id in
+    ap (add_all x) (reads_add_nothing x now (caller_of x.fixed credential) request (asked contest request.path request.method) (asked_reads contest request.path request.method e))
+
+alike_as_it_was : (a : Audience) (x y : ContestState) → y ≡ x → Alike a y x
+alike_as_it_was a x y e = subst (λ z. Alike a z x) (sym e) (record { fixed = refl; teams = λ team. refl; told = λ to. refl })
+
+pub unnoticed : (a : Audience) (x : ContestState) (now : ℕ) (credential : Credential) (request : Request) → IsUnnoticed a x now credential request → Alike a (step x now credential request).1 x
+unnoticed a x now credential request (inl fails) = alike_as_it_was a x _ (refused_adds_nothing x now credential request fails)
+unnoticed a x now credential request (inr (inl got)) = alike_as_it_was a x _ (read_adds_nothing x now credential request got)
+unnoticed a x now credential request (inr (inr unseen)) = unseen_entries a x (outcome x now credential request).entries unseen
