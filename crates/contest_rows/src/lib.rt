@@ -1,6 +1,7 @@
 //! Tests of the command `replay` over memory: a file and options, and the board or the refusal that
-//! they must give; and of the desk over memory: a request, and its reply. The expected values come
-//! from worked examples, from tests/second_opinion.py and from counting by hand.
+//! they must give; of scoring, of decisions, of what is served and of the store in memory; and of the
+//! desk over it: a request, and its reply. The expected values come from worked examples, from
+//! tests/second_opinion.py and from counting by hand.
 #![tactic(auto)]
 
 #[cfg(test)]

@@ -29,8 +29,8 @@ pub struct WantedSubmission {
 /// A problem or a language that isn't there is refused first (`UnknownReference`), then a missing
 /// entry point (`EntryPointMissing`). A key that stands answers for itself, whatever now is: with
 /// equal content its submission stands, with other content it is refused (`KeyReused`). Then come
-/// the clock (`NotOpen` unless the contest runs and isn't finalized) and the team's limit of 500
-/// (`TeamLimit`). A submission counts as of now, but never before the team's last (own).
+/// the clock (`NotOpen` unless the contest runs and no finalized mark is set) and the team's limit of
+/// 500 (`TeamLimit`). A submission counts as of now, but never before the team's last (own).
 pub fn decide_submission(
     fixed: &Fixed,
     own: &[Submission],
