@@ -22,8 +22,8 @@ pub struct Item {
 
 impl<L: Records> Desk<L> {
     /// Handles requests one after another, and gives their replies in order. What was answered before
-    /// a failure is not lost by it: a crash leaves the contest of the last request that was answered,
-    /// or that of one which failed since.
+    /// a failure is not lost by it: a crash leaves the contest of the last request that was answered
+    /// (where none was, what it could leave before), or that of one which failed since.
     ///
     /// # Errors
     ///

@@ -7,7 +7,6 @@ use Rattle.std.specs.Option.{option_map_or}
 use Rattle.std.specs.Ordering.{is_lt}
 use Rattle.std.specs.declared.cmp.Ordering.TheVariants.{Equal}
 use Rattle.std.proofs.lemmas.Bool.{false≢true}
-use Rattle.std.proofs.lemmas.Bool.Decides.{nat_tests}
 use Rattle.std.proofs.lemmas.Fmt.{decimal_injective}
 use Rattle.std.proofs.lemmas.List.{append_assoc, length-map}
 use Rattle.std.proofs.lemmas.Map.Lookups.{exact_bytes}
@@ -34,11 +33,9 @@ use Rattle.contest_types.proofs.PlaceLemmas.{and_left, and_right}
 use Rattle.contest_types.proofs.Rising.{strict}
 use Rattle.contest_types.proofs.SeenWhole.{all_has, below, both_equal, clarification_order, has_team, heard_rises, not_greater, one_row}
 use Rattle.contest_types.proofs.SeriesLemmas.{in_any}
+use Rattle.contest_types.proofs.SettingsTest.{at_most}
 use Rattle.contest_types.proofs.SightLemmas.{same_is_one}
 use Rattle.contest_types.proofs.ValidParts.{parts}
-
-at_most : (m n : ℕ) → nat_le m n ≡ true → m ≤ n
-at_most m n h = grind (arith, nat_tests)
 
 abbrev from_jury : Clarification → Bool
 from_jury c = c.from_jury

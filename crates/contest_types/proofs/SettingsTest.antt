@@ -7,7 +7,7 @@ use Rattle.contest_types.specs.State.{ContestState}
 use Rattle.contest_types.specs.ValidFixed.{has_valid_settings}
 use Rattle.contest_types.proofs.AddSettings.{TestsOf, tests_of, all_tests}
 
-at_most : (m n : ℕ) → nat_le m n ≡ true → m ≤ n
+pub at_most : (m n : ℕ) → nat_le m n ≡ true → m ≤ n
 at_most m n h = grind (arith, nat_tests)
 
 tested : (m n : ℕ) → m ≤ n → nat_le m n ≡ true
