@@ -1,0 +1,162 @@
+"""Tries a round of wrong bodies in one check, and says of each edit what the prover made of it.
+
+Why a round is as good as single tries: a function is proved from its own body and from the contracts of what it calls,
+and an edit changes no contract. Should the check refuse a function for itself that no edit of the round touches, that
+is not so, and each edit of the round is tried alone.
+"""
+
+import dataclasses
+import enum
+import os
+import re
+
+from . import kit
+from .edits import Round, applied
+
+# What is said where a proof file names what the edit took away. Alone it says little of the contract.
+GONE = re.compile(r"has no field|is not in scope|has no `|was not admitted|is no name")
+# What is said of a function that is refused only for what it calls.
+BELOW = re.compile(r"it [^;]* which (?:is|are) not proved\Z")
+STATUS = re.compile(r"(?m)^fn (\S+): (.*)$")
+ERROR = re.compile(r"(?m)^(?:\./)?\S+:\d+:\d+: error.*$")
+GOAL = re.compile(r"`search` did not prove `([^`]*)`|: error[^:]*: `([^`]*)`: ")
+# A goal that is shown to be false: the file, the line and the goal.
+FALSE = re.compile(r"(?m)^note: (\S+):(\d+):\d+: it is not proved .*\(`([^`]*)`\); the facts known there allow values at")
+
+
+class Kind(enum.Enum):
+    REFUSED = "refused"
+    GONE = "refused only because an answer names a goal that is gone: mend the edit"
+    PASSED = "NOT REFUSED"
+    UNREADABLE = "NOT READABLE"
+
+
+@dataclasses.dataclass(frozen=True)
+class Verdict:
+    kind: Kind
+    detail: str
+
+    def __str__(self):
+        return f"{self.kind.value}: {self.detail}" if self.detail else self.kind.value
+
+
+PROVED = Verdict(Kind.PASSED, "the crate is proved with it")
+
+
+@dataclasses.dataclass(frozen=True)
+class Report:
+    """What a check said: its status for each function, its errors, the goals that it found false, its last line."""
+
+    status: int
+    functions: dict
+    errors: list
+    false_goals: list
+    last: str
+
+    @classmethod
+    def of(cls, status, said):
+        last = said.rstrip("\n").rpartition("\n")[2]
+        return cls(status, dict(STATUS.findall(said)), ERROR.findall(said), FALSE.findall(said), last)
+
+    @property
+    def is_refusal(self):
+        return self.status == 1 and self.last.startswith("logic=not-proved")
+
+    def faulty(self):
+        """The functions that are refused for themselves."""
+        return {name for name, status in self.functions.items() if is_own_fault(status)}
+
+    def near(self, name):
+        """The errors in the function's own proof files."""
+        folder = f"proofs/{'/'.join(name.split('::')[1:])}/"
+        return [it for it in self.errors if folder in it]
+
+    def false_in(self, place):
+        """The goals of the function at the place that the known facts refute."""
+        return [goal for path, line, goal in self.false_goals if path == place.path and place.first <= int(line) <= place.last]
+
+
+def is_own_fault(status):
+    """Whether a function is refused for itself, and not only since it calls one that is refused."""
+    if status == "proved" or status.startswith(("assumed", "could not tell")):
+        return False
+    reasons = status.removeprefix("no proof: ").split("; ")
+    return not status.startswith("no proof: ") or not all(BELOW.match(it) for it in reasons)
+
+
+def module_of(crate, path):
+    words = os.path.splitext(path)[0].split("/")[1:]
+    words = words[:-1] if words[-1] in ("mod", "lib", "main") else words
+    return "::".join([crate.name, *words])
+
+
+def names(crate, place, name):
+    """Whether a report's name is that of the function at the place, or of a closure in it."""
+    if place.owner:
+        # a method stands under its type, whichever file has the impl, and that of a trait under both names as one
+        words = name.split("::")[1:]
+        at = next((i for i, word in enumerate(words) if word.startswith(place.owner)), len(words))
+        return place.function in words[at + 1 :]
+    above = module_of(crate, place.path) + "::"
+    return name.startswith(above) and place.function in name[len(above) :].split("::")
+
+
+def refused(report, place, name):
+    """What the check says of a function that it refuses for itself."""
+    near, false_goals = report.near(name), report.false_in(place)
+    if near and all(GONE.search(it) for it in near) and not report.functions[name].startswith("no proof") and not false_goals:
+        return Verdict(Kind.GONE, f"{name}, {near[0][:160]}")
+    said = "\n".join([report.functions[name], *[it for it in near if not GONE.search(it)]])
+    goals = [one or other for one, other in GOAL.findall(said)] + false_goals
+    return Verdict(Kind.REFUSED, f"{name}, `{goals[0]}`" if goals else f"{name}, {said[:160]}")
+
+
+def verdict_of(crate, report, places):
+    """The verdict on one edit, from a check in which each of its functions has to be refused for itself."""
+    found, faulty = [], report.faulty()
+    for place in sorted(places):
+        mine = sorted(name for name in faulty if names(crate, place, name))
+        if not mine:
+            return Verdict(Kind.PASSED, f"{place.path}, {place.function}")
+        found += [refused(report, place, name) for name in mine]
+    return next((it for it in found if it.kind is Kind.GONE), found[0])
+
+
+def try_alone(crate, edit, places, jobs, kept):
+    texts = applied(crate, edit, {})
+    status, said = kit.check(crate, texts, jobs, kept)
+    report = Report.of(status, said)
+    unread = next((it for it in said.split("\n") if kit.is_unread(it, texts)), None)
+    if unread:
+        return Verdict(Kind.UNREADABLE, unread[:200])
+    if report.is_refusal:
+        return verdict_of(crate, report, places)
+    if status == 0:
+        return PROVED
+    return Verdict(Kind.UNREADABLE, f"it came to no verdict: {(report.errors or [report.last])[0][:200]}")
+
+
+def not_believed(crate, report, said, texts, places):
+    """Why the round says nothing of its edits, None where it does."""
+    if not report.is_refusal:
+        return f"it came to no verdict ({(report.errors or [report.last])[0][:120]})"
+    if any(kit.is_unread(it, texts) for it in said.split("\n")):
+        return "a text of it can't be read"
+    beside = [it for it in report.faulty() if not any(names(crate, place, it) for place in places)]
+    return f"{', '.join(sorted(beside))} is refused for itself, but not edited" if beside else None
+
+
+def try_round(crate, made: Round, places, jobs, kept):
+    """The verdict on each edit of the round, by its label, and why the round as a whole was not believed, if so."""
+    status, said = kit.check(crate, made.texts, jobs, kept)
+    if status == 0:
+        return {edit.label: PROVED for edit in made.edits}, None
+    report = Report.of(status, said)
+    why = not_believed(crate, report, said, made.texts, made.places)
+    verdicts = {}
+    for edit in made.edits:
+        verdict = None if why else verdict_of(crate, report, places[edit])
+        if verdict is None or verdict.kind is not Kind.REFUSED:
+            verdict = try_alone(crate, edit, places[edit], jobs, kept)
+        verdicts[edit.label] = verdict
+    return verdicts, why
