@@ -1,10 +1,9 @@
 //! Small contests whose boards were worked out by hand: what is shown at a moment, in a freeze and
 //! after the thaw.
 
-use crate::support::{Worked, assert_prints};
-use std::test::Fail;
+use contest_fixtures::Worked;
 
-const CONTESTS: [Worked; 19] = [
+pub static CONTESTS: [Worked; 19] = [
     Worked {
         shows: "the freeze goes by the millisecond",
         options: "",
@@ -386,12 +385,3 @@ Rank  Team      Solved    Time          A
 ",
     },
 ];
-
-#[test]
-fn prints_the_boards_worked_by_hand(rt: HostRuntime) -> Result<(), Fail> {
-    for worked in &CONTESTS {
-        let file = worked.file.as_bytes();
-        assert_prints(&rt, worked.shows, worked.options, file, worked.board)?;
-    }
-    Ok(())
-}

@@ -1,11 +1,12 @@
 //! What is refused, by which cause and at which record.
 
-use crate::support::{FIRST, HEAD, SETTINGS, assert_refuses};
+use crate::asserted::assert_refuses;
+use contest_fixtures::{FIRST, HEAD, SETTINGS};
 use std::process::Abort;
 use std::test::Fail;
 
 /// The last record of the first example, and the line that refuses the file.
-const LAST_RECORDS: [(&str, &str); 2] = [
+static LAST_RECORDS: [(&str, &str); 2] = [
     (
         "submission,t7,a,0:30:00,AC\n",
         "refused: E22 ImportRow 11 UnknownReference\n",
@@ -18,7 +19,7 @@ const LAST_RECORDS: [(&str, &str); 2] = [
 
 #[test]
 fn refuses_the_first_example_changed(rt: HostRuntime) -> Result<(), Fail> {
-    for (last, line) in LAST_RECORDS {
+    for (last, line) in &LAST_RECORDS {
         let file = format!(in rt.alloc(); "{HEAD}{FIRST}{last}")?;
         assert_refuses(&rt, last, file.as_bytes(), line)?;
     }
@@ -26,7 +27,7 @@ fn refuses_the_first_example_changed(rt: HostRuntime) -> Result<(), Fail> {
 }
 
 /// Records off their form, some of them with another fault as well.
-const MALFORMED: [&str; 35] = [
+static MALFORMED: [&str; 35] = [
     "submission,t1,a,0:05:00\n",
     "submission,t1,a,0:05:00,AC,\n",
     "submission\n",
@@ -65,7 +66,7 @@ const MALFORMED: [&str; 35] = [
 ];
 
 /// Records that name what isn't there, some of them with a time outside the contest.
-const UNKNOWN_REFERENCE: [&str; 5] = [
+static UNKNOWN_REFERENCE: [&str; 5] = [
     "submission,t1,c,0:05:00,AC\n",
     "submission,t1,a,0:05:00,OK\n",
     "submission,t1,A,0:05:00,AC\n",
@@ -74,7 +75,7 @@ const UNKNOWN_REFERENCE: [&str; 5] = [
 ];
 
 /// Keys and labels that stand with other content.
-const KEY_REUSED: [&str; 8] = [
+static KEY_REUSED: [&str; 8] = [
     "type,AC,accepted,true,false\n",
     "type,AC,correct,true,true\n",
     "problem,a,A,Apples,1\n",
@@ -86,7 +87,7 @@ const KEY_REUSED: [&str; 8] = [
 ];
 
 /// Times outside the contest.
-const NOT_OPEN: [&str; 3] = [
+static NOT_OPEN: [&str; 3] = [
     "submission,t1,a,5:00:00,AC\n",
     "submission,t1,a,-0:00:00.001,AC\n",
     "submission,t1,a,70380767:59:59.999,\n",
@@ -115,7 +116,7 @@ fn names_the_cause(rt: HostRuntime) -> Result<(), Fail> {
 }
 
 /// What is shown, the file, and the line that refuses it.
-const FILES: [(&str, &str, &str); 26] = [
+static FILES: [(&str, &str, &str); 26] = [
     ("nothing at all", "", "refused: E1 Malformed\n"),
     ("line ends alone", "\n\r\n", "refused: E1 Malformed\n"),
     (
@@ -242,7 +243,7 @@ const FILES: [(&str, &str, &str); 26] = [
 
 #[test]
 fn refuses_files(rt: HostRuntime) -> Result<(), Fail> {
-    for (what, file, line) in FILES {
+    for (what, file, line) in &FILES {
         assert_refuses(&rt, what, file.as_bytes(), line)?;
     }
     Ok(())

@@ -1,10 +1,9 @@
 //! Small contests whose boards were worked out by hand: which attempts count, what they cost, and
 //! who stands where. None of them has a freeze.
 
-use crate::support::{Worked, assert_prints};
-use std::test::Fail;
+use contest_fixtures::Worked;
 
-const CONTESTS: [Worked; 17] = [
+pub static CONTESTS: [Worked; 17] = [
     Worked {
         shows: "equal solved and total go by the last minute",
         options: "",
@@ -428,12 +427,3 @@ Rank  Team  Solved    Time          A          B
 ",
     },
 ];
-
-#[test]
-fn prints_the_boards_worked_by_hand(rt: HostRuntime) -> Result<(), Fail> {
-    for worked in &CONTESTS {
-        let file = worked.file.as_bytes();
-        assert_prints(&rt, worked.shows, worked.options, file, worked.board)?;
-    }
-    Ok(())
-}

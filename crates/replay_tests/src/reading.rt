@@ -1,6 +1,7 @@
 //! One file in many spellings: each prints the same board.
 
-use crate::support::{FIRST, FIRST_BOARD, HEAD, LAST, assert_prints};
+use crate::asserted::assert_prints;
+use contest_fixtures::{FIRST, FIRST_BOARD, HEAD, LAST};
 use std::alloc::{AllocError, Global};
 use std::test::Fail;
 
@@ -31,7 +32,7 @@ fn spelled(
 }
 
 /// The start of the file, the end of each line, and the marks round each field.
-const SPELLINGS: [(&str, &str, &str); 8] = [
+static SPELLINGS: [(&str, &str, &str); 8] = [
     ("\u{feff}", "\n", ""),
     ("", "\r\n", ""),
     ("", "\r", ""),
@@ -45,7 +46,7 @@ const SPELLINGS: [(&str, &str, &str); 8] = [
 #[test]
 fn reads_any_spelling(rt: HostRuntime) -> Result<(), Fail> {
     let file = format!(in rt.alloc(); "{HEAD}{FIRST}{LAST}")?;
-    for (start, end, mark) in SPELLINGS {
+    for (start, end, mark) in &SPELLINGS {
         let spelling = spelled(rt.alloc(), file.as_str(), start, end, mark)?;
         assert_prints(&rt, end, "", spelling.as_bytes(), FIRST_BOARD)?;
     }
@@ -54,7 +55,7 @@ fn reads_any_spelling(rt: HostRuntime) -> Result<(), Fail> {
 
 /// Records that add nothing to the first example: they stand there already, with other spellings of
 /// the same values.
-const REPEATS: [&str; 5] = [
+static REPEATS: [&str; 5] = [
     "type,CE,compile error,false,false\n",
     "problem,a,A,Apples,0\n",
     "problem,a,\"A\",Apples,00000\n",
@@ -64,7 +65,7 @@ const REPEATS: [&str; 5] = [
 
 #[test]
 fn takes_equal_repeats(rt: HostRuntime) -> Result<(), Fail> {
-    for repeat in REPEATS {
+    for repeat in &REPEATS {
         let file = format!(in rt.alloc(); "{HEAD}{FIRST}{repeat}{LAST}{repeat}")?;
         assert_prints(&rt, repeat, "", file.as_bytes(), FIRST_BOARD)?;
     }
@@ -72,7 +73,7 @@ fn takes_equal_repeats(rt: HostRuntime) -> Result<(), Fail> {
 }
 
 /// Last records that read as the last one of the first example.
-const LAST_RECORDS: [&str; 6] = [
+static LAST_RECORDS: [&str; 6] = [
     "submission,t2,a,0:30:00,AC",
     "submission,t2,a,00000:30:00.000,AC\r",
     "submission,t2,a,0:30:00,\"AC",
@@ -83,7 +84,7 @@ const LAST_RECORDS: [&str; 6] = [
 
 #[test]
 fn reads_the_last_record(rt: HostRuntime) -> Result<(), Fail> {
-    for last in LAST_RECORDS {
+    for last in &LAST_RECORDS {
         let file = format!(in rt.alloc(); "{HEAD}{FIRST}{last}")?;
         assert_prints(&rt, last, "", file.as_bytes(), FIRST_BOARD)?;
     }

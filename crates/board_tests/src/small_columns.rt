@@ -1,10 +1,9 @@
 //! Small contests whose boards were worked out by hand: the order of rows and columns, and their
 //! widths.
 
-use crate::support::{Worked, assert_prints};
-use std::test::Fail;
+use contest_fixtures::Worked;
 
-const CONTESTS: [Worked; 11] = [
+pub static CONTESTS: [Worked; 11] = [
     Worked {
         shows: "equal teams stand by the bytes of their names",
         options: "",
@@ -227,12 +226,3 @@ Rank  Team  Solved    Time
 ",
     },
 ];
-
-#[test]
-fn prints_the_boards_worked_by_hand(rt: HostRuntime) -> Result<(), Fail> {
-    for worked in &CONTESTS {
-        let file = worked.file.as_bytes();
-        assert_prints(&rt, worked.shows, worked.options, file, worked.board)?;
-    }
-    Ok(())
-}

@@ -1,20 +1,28 @@
 //! Cells of a contest's own lists: which release on a submission counts.
 
-use super::{moment, settings};
-use crate::{Cell, Cells, can_be_scored, contest_cells};
+use contest_fixtures::{SettingRow, demo_settings, moment};
+use contest_score::{Cell, Cells, can_be_scored, contest_cells};
 use contest_types::{Audience, Fixed, Marks, Minute, Release, Rows, Submission};
 use std::alloc::Global;
 use std::test::Fail;
 
+static ROWS: [SettingRow; 5] = [
+    SettingRow::Type("AC", true, false),
+    SettingRow::Type("WA", false, true),
+    SettingRow::Problem("a", "A", 1),
+    SettingRow::Team("t1", "Alpha", None, false),
+    SettingRow::Team("t2", "Beta", None, false),
+];
+
 /// Team, number and milliseconds of each submission, all at the first problem.
-const SENT: [(usize, usize, u64); 4] = [
+static SENT: [(usize, usize, u64); 4] = [
     (0, 1, 60_000),
     (1, 1, 120_000),
     (0, 2, 300_000),
     (1, 2, 660_000),
 ];
 
-/// What was released, and the cells of the first two teams that come of it.
+/// What was released, and the cells of the two teams that come of it.
 struct Case {
     name: &'static str,
     /// Team, number, round and judgement type: 0 is accepted, 1 wrong.
@@ -57,7 +65,7 @@ const WRONG_AND_ACCEPTED_AT_11: Cell = Cell {
     penalties: 1,
 };
 
-const CASES: [Case; 4] = [
+static CASES: [Case; 4] = [
     Case {
         name: "wrong, then accepted",
         released: [(0, 1, 1, 1), (0, 1, 2, 0)],
@@ -82,11 +90,11 @@ const CASES: [Case; 4] = [
 
 fn sent(alloc: Global) -> Result<Vec<Submission>, Fail> {
     let mut submissions = Vec::new(alloc);
-    for (team, number, milliseconds) in SENT {
+    for (team, number, milliseconds) in &SENT {
         submissions.push(Submission {
-            team,
-            number,
-            time: moment(milliseconds)?,
+            team: *team,
+            number: *number,
+            time: moment(*milliseconds)?,
             problem: 0,
             language: 0,
             entry_point: None,
@@ -114,7 +122,7 @@ fn released(alloc: Global, rows: &[(usize, usize, usize, usize)]) -> Result<Vec<
 fn fixed(alloc: Global) -> Result<Fixed, Fail> {
     let start = moment(0)?;
     Ok(Fixed {
-        settings: settings(alloc)?,
+        settings: demo_settings(alloc, &ROWS)?,
         accounts: Rows::new(alloc),
         marks: Marks {
             start: Some(start),
@@ -124,7 +132,7 @@ fn fixed(alloc: Global) -> Result<Fixed, Fail> {
     })
 }
 
-/// The first two teams' cells, to the public.
+/// The two teams' cells, to the public.
 fn cells_of(alloc: Global, fixed: &Fixed, case: &Case) -> Result<[Cell; 2], Fail> {
     let submissions = sent(alloc)?;
     let releases = released(alloc, &case.released)?;
@@ -136,19 +144,11 @@ fn cells_of(alloc: Global, fixed: &Fixed, case: &Case) -> Result<[Cell; 2], Fail
     Ok([cells.cell(0, 0), cells.cell(1, 0)])
 }
 
-/// The name of a case that doesn't come out as expected, if there is one.
-fn unexpected(alloc: Global) -> Result<Option<&'static str>, Fail> {
-    let fixed = fixed(alloc)?;
-    for case in &CASES {
-        if cells_of(alloc, &fixed, case)? != case.cells {
-            return Ok(Some(case.name));
-        }
-    }
-    Ok(None)
-}
-
 #[test]
 fn the_last_release_counts(rt: HostRuntime) -> Result<(), Fail> {
-    assert_eq!(rt; unexpected(rt.alloc())?, None);
+    let fixed = fixed(rt.alloc())?;
+    for case in &CASES {
+        assert_eq!(rt; cells_of(rt.alloc(), &fixed, case)?, case.cells, "{}", case.name);
+    }
     Ok(())
 }

@@ -1,7 +1,8 @@
 //! The greatest numbers of rows and bytes, and one more.
 
+use crate::asserted::{assert_prints, assert_refuses};
 use crate::streams::take_piece;
-use crate::support::{HEAD, SETTINGS, assert_prints, assert_refuses, replay, run, text_of};
+use contest_fixtures::{HEAD, SETTINGS, answer_to, run};
 use std::alloc::{AllocError, Global};
 use std::io;
 use std::io::Read;
@@ -21,7 +22,7 @@ fn rows(alloc: Global, kind: &str, tail: &str, count: u32) -> Result<String, All
 
 /// A kind, the rest of each row, how many rows there may be, a first row with other content, and a
 /// row off its form.
-const TABLES: [(&str, &str, u32, &str, &str); 3] = [
+static TABLES: [(&str, &str, u32, &str, &str); 3] = [
     (
         "type",
         "true,true",
@@ -41,13 +42,13 @@ const TABLES: [(&str, &str, u32, &str, &str); 3] = [
 
 #[test]
 fn takes_so_many_rows_and_no_more(rt: HostRuntime) -> Result<(), Fail> {
-    for (kind, tail, limit, reused, malformed) in TABLES {
-        let most = rows(rt.alloc(), kind, tail, limit)?;
+    for (kind, tail, limit, reused, malformed) in &TABLES {
+        let most = rows(rt.alloc(), kind, tail, *limit)?;
         let repeat = rows(rt.alloc(), kind, tail, 1)?;
         let file = format!(in rt.alloc(); "{START}{most}{repeat}")?;
         let answer = run(rt.alloc(), "", file.as_bytes())?;
-        assert_eq!(rt; text_of(&answer.err), "", "{kind}");
-        assert_eq!(rt; answer.status, 0, "{kind}");
+        let (status, _, err) = answer.told();
+        assert_eq!(rt; (status, err), (0, ""), "{kind}");
 
         let record = limit + 2;
         let over = format!(in rt.alloc(); "{kind},k0,L0,{tail}\n")?;
@@ -95,19 +96,10 @@ Rank  Team   Solved    Time          A          B
         let line = format!(in rt.alloc(); "refused: E22 ImportRow 511 {cause}\n")?;
         assert_refuses(&rt, last, file.as_bytes(), line.as_str())?;
     }
-    Ok(())
-}
-
-#[test]
-fn counts_submissions_that_are_left_out(rt: HostRuntime) -> Result<(), Fail> {
-    let full = with_submissions(rt.alloc())?;
     let file = format!(in rt.alloc(); "{full}submission,t1,a,1:00:00,WA\n")?;
     let answer = run(rt.alloc(), "--at 0:30:00", file.as_bytes())?;
-    assert_eq!(rt;
-        text_of(&answer.err),
-        "refused: E22 ImportRow 511 TableFull\n"
-    );
-    assert_eq!(rt; answer.status, 1);
+    let line = "refused: E22 ImportRow 511 TableFull\n";
+    assert_eq!(rt; answer.told(), (1, "", line), "one that is left out counts");
     Ok(())
 }
 
@@ -143,76 +135,37 @@ Rank  Team  Solved    Time
 ";
 
 /// A text, the bytes that it is filled up to, whether the reader then fails, and what comes of it:
-/// the board or the line.
-const SIZES: [(&str, usize, bool, &str, &str); 6] = [
-    (START, FILE_LIMIT, false, EMPTY_BOARD, ""),
-    (
-        START,
-        FILE_LIMIT + 1,
-        false,
-        "",
-        "refused: E6 BodyTooLarge\n",
-    ),
-    (START, FILE_LIMIT, true, "", "refused: File\n"),
-    (
-        START,
-        FILE_LIMIT + 1,
-        true,
-        "",
-        "refused: E6 BodyTooLarge\n",
-    ),
+/// the status, the board and the line.
+static SIZES: [(&str, usize, bool, (u8, &str, &str)); 7] = [
+    (START, FILE_LIMIT, false, (0, EMPTY_BOARD, "")),
+    (START, FILE_LIMIT, true, (1, "", "refused: File\n")),
+    (START, FILE_LIMIT + 1, false, TOO_LARGE),
+    (START, FILE_LIMIT + 1, true, TOO_LARGE),
+    (START, FILE_LIMIT + 1000, false, TOO_LARGE),
     (
         "kind,id,f1,f2,f3\ncontest,c,Cup,1:00:00,\nnonsense\n",
         FILE_LIMIT + 1,
         false,
-        "",
-        "refused: E6 BodyTooLarge\n",
+        TOO_LARGE,
     ),
-    (
-        "nonsense\n",
-        FILE_LIMIT + 1,
-        false,
-        "",
-        "refused: E6 BodyTooLarge\n",
-    ),
+    ("nonsense\n", FILE_LIMIT + 1, false, TOO_LARGE),
 ];
 
+const TOO_LARGE: (u8, &str, &str) = (1, "", "refused: E6 BodyTooLarge\n");
+
+/// What is past the limit is left unread.
 #[test]
 fn takes_a_byte_past_the_limit_and_no_more(rt: HostRuntime) -> Result<(), Fail> {
-    for (text, length, fails, board, line) in SIZES {
+    for (text, length, fails, told) in &SIZES {
         let mut reader = Padded {
             text: text.as_bytes(),
             taken: 0,
-            length,
-            fails,
+            length: *length,
+            fails: *fails,
         };
-        let mut out = Vec::new(rt.alloc());
-        let mut err = Vec::new(rt.alloc());
-        let status = replay(rt.alloc(), &["replay"], &mut reader, &mut out, &mut err);
-        assert_eq!(rt; text_of(&err), line, "{length} bytes of {text}");
-        assert_eq!(rt; text_of(&out), board, "{length} bytes of {text}");
-        assert_eq!(rt;
-            status,
-            if line.is_empty() { 0 } else { 1 },
-            "{length} bytes of {text}"
-        );
+        let answer = answer_to(rt.alloc(), &["replay"], &mut reader);
+        assert_eq!(rt; answer.told(), *told, "{length} bytes of {text}");
+        assert_eq!(rt; reader.taken, (*length).min(FILE_LIMIT + 1), "{length} bytes of {text}");
     }
-    Ok(())
-}
-
-#[test]
-fn leaves_what_is_past_the_limit_unread(rt: HostRuntime) -> Result<(), Fail> {
-    let length = FILE_LIMIT + 1000;
-    let mut reader = Padded {
-        text: START.as_bytes(),
-        taken: 0,
-        length,
-        fails: false,
-    };
-    let mut out = Vec::new(rt.alloc());
-    let mut err = Vec::new(rt.alloc());
-    let status = replay(rt.alloc(), &["replay"], &mut reader, &mut out, &mut err);
-    assert_eq!(rt; status, 1);
-    assert_eq!(rt; reader.taken, FILE_LIMIT + 1);
     Ok(())
 }

@@ -3,11 +3,9 @@
 
 ghost use Rattle.std.specs.Prelude.{◌<◌};
 
+use contest_fixtures::{SettingRow, add_row, fill, id, moment, name, span};
 use contest_score::JudgedSubmission;
-use contest_types::{
-    Audience, ContestHead, Id, JudgementType, Marks, Medals, Moment, Name, Problem, Rows, Settings,
-    Team, TimeSpan,
-};
+use contest_types::{Audience, ContestHead, Marks, Medals, Moment, Settings};
 use std::alloc::Global;
 use std::test::Fail;
 
@@ -77,7 +75,7 @@ const VERDICTS: [Option<u32>; 6] = [None, Some(0), Some(0), Some(1), Some(2), So
 /// The next contest.
 pub fn make_contest(alloc: Global, dice: &mut Dice) -> Result<MadeContest, Fail> {
     let mut settings = Settings::new(alloc, head(alloc, dice)?)?;
-    add_types(alloc, &mut settings)?;
+    fill(alloc, &mut settings, &TYPES)?;
     let problems = dice.below(6);
     add_problems(alloc, &mut settings, dice, problems)?;
     let teams = dice.below(9);
@@ -93,26 +91,6 @@ pub fn make_contest(alloc: Global, dice: &mut Dice) -> Result<MadeContest, Fail>
         audience: audience(dice),
         now,
     })
-}
-
-fn moment(milliseconds: u64) -> Result<Moment, Fail> {
-    let moment = Moment::from_milliseconds(milliseconds).ok_or("no moment")?;
-    Ok(moment)
-}
-
-fn span(milliseconds: u64) -> Result<TimeSpan, Fail> {
-    let span = TimeSpan::new(milliseconds).ok_or("no length of time")?;
-    Ok(span)
-}
-
-fn id(alloc: Global, text: &str) -> Result<Id, Fail> {
-    let id = Id::parse(alloc, text)?.ok_or("no id")?;
-    Ok(id)
-}
-
-fn name(alloc: Global, text: &str) -> Result<Name, Fail> {
-    let name = Name::parse(alloc, text)?.ok_or("no name")?;
-    Ok(name)
 }
 
 /// Half an hour, with any penalty time, and in four of five with a freeze.
@@ -137,23 +115,12 @@ fn head(alloc: Global, dice: &mut Dice) -> Result<ContestHead, Fail> {
 }
 
 /// A type of each kind: solving or not, penalised or not.
-fn add_types(alloc: Global, settings: &mut Settings) -> Result<(), Fail> {
-    for (text, solved, penalty) in [
-        ("AC", true, false),
-        ("WA", false, true),
-        ("CE", false, false),
-        ("OK", true, true),
-    ] {
-        let judgement_type = JudgementType {
-            id: id(alloc, text)?,
-            name: name(alloc, text)?,
-            solved,
-            penalty,
-        };
-        let _ = settings.add_judgement_type(alloc, judgement_type)?;
-    }
-    Ok(())
-}
+static TYPES: [SettingRow; 4] = [
+    SettingRow::Type("AC", true, false),
+    SettingRow::Type("WA", false, true),
+    SettingRow::Type("CE", false, false),
+    SettingRow::Type("OK", true, true),
+];
 
 /// An id for each place up to 8, in an order that hangs on the turn.
 fn id_text(turn: u32, place: u32) -> &'static str {
@@ -169,13 +136,8 @@ fn add_problems(
     let turn = dice.below(8);
     for place in 0..count {
         let text = id_text(turn, place);
-        let problem = Problem {
-            id: id(alloc, text)?,
-            label: name(alloc, text)?,
-            name: name(alloc, text)?,
-            ordinal: dice.below(3) as u16,
-        };
-        let _ = settings.add_problem(alloc, problem)?;
+        let ordinal = dice.below(3) as u16;
+        let _ = add_row(alloc, settings, SettingRow::Problem(text, text, ordinal))?;
     }
     Ok(())
 }
@@ -188,13 +150,10 @@ fn add_teams(
 ) -> Result<(), Fail> {
     let turn = dice.below(8);
     for place in 0..count {
-        let team = Team {
-            id: id(alloc, id_text(turn, place))?,
-            name: name(alloc, NAMES[dice.below(3) as usize])?,
-            groups: Rows::new(alloc),
-            hidden: dice.below(5) == 0,
-        };
-        let _ = settings.add_team(alloc, team)?;
+        let text = id_text(turn, place);
+        let named = NAMES[dice.below(3) as usize];
+        let hidden = dice.below(5) == 0;
+        let _ = add_row(alloc, settings, SettingRow::Team(text, named, None, hidden))?;
     }
     Ok(())
 }

@@ -1,10 +1,11 @@
 //! The boards of the first example, and of one contest at several moments.
 
-use crate::support::{FIRST, HEAD, SETTINGS, assert_prints};
+use crate::asserted::assert_prints;
+use contest_fixtures::{FIRST, HEAD, SETTINGS};
 use std::test::Fail;
 
 /// Options, the last record, and the board.
-const LAST_RECORDS: [(&str, &str, &str); 5] = [
+static LAST_RECORDS: [(&str, &str, &str); 5] = [
     (
         "",
         "submission,t2,a,0:30:00,AC\n",
@@ -59,7 +60,7 @@ Rank  Team   Solved    Time          A
 
 #[test]
 fn prints_the_first_example(rt: HostRuntime) -> Result<(), Fail> {
-    for (options, last, board) in LAST_RECORDS {
+    for (options, last, board) in &LAST_RECORDS {
         let file = format!(in rt.alloc(); "{HEAD}{FIRST}{last}")?;
         assert_prints(&rt, options, options, file.as_bytes(), board)?;
     }
@@ -74,7 +75,7 @@ submission,t2,b,4:30:00,WA
 ";
 
 /// Options and the board.
-const MOMENTS: [(&str, &str); 9] = [
+static MOMENTS: [(&str, &str); 9] = [
     (
         "--at 0:00:00",
         "Demo Cup
@@ -170,7 +171,7 @@ Rank  Team   Solved    Time          A          B
 #[test]
 fn shows_the_board_of_a_moment(rt: HostRuntime) -> Result<(), Fail> {
     let file = format!(in rt.alloc(); "{HEAD}{SETTINGS}{SUBMISSIONS}")?;
-    for (options, board) in MOMENTS {
+    for (options, board) in &MOMENTS {
         assert_prints(&rt, options, options, file.as_bytes(), board)?;
     }
     Ok(())

@@ -1,6 +1,7 @@
 //! Which attempts count, what they cost, and who stands where.
 
-use crate::support::{HEAD, SETTINGS, assert_prints};
+use crate::worked::assert_prints;
+use contest_fixtures::{HEAD, SETTINGS};
 use std::test::Fail;
 
 /// The lines above the rows, for the problems and the names of `SETTINGS`.
@@ -10,7 +11,7 @@ Rank  Team   Solved    Time          A          B
 ";
 
 /// What is shown, the submissions, and the rows of the board.
-const CASES: [(&str, &str, &str); 12] = [
+static CASES: [(&str, &str, &str); 12] = [
     (
         "equal scores share a rank, by name, and the next rank is skipped",
         "submission,t2,a,0:30:45,AC
@@ -152,7 +153,7 @@ submission,t2,a,0:02:00,OK
 
 #[test]
 fn counts_attempts_and_ranks(rt: HostRuntime) -> Result<(), Fail> {
-    for (what, records, rows) in CASES {
+    for (what, records, rows) in &CASES {
         let file = format!(in rt.alloc(); "{HEAD}{SETTINGS}{records}")?;
         let board = format!(in rt.alloc(); "{TOP}{rows}")?;
         assert_prints(&rt, what, "", file.as_bytes(), board.as_str())?;

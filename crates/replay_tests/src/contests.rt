@@ -1,10 +1,10 @@
 //! Contests with and without a freeze, and the columns of names and labels.
 
-use crate::support::assert_prints;
+use crate::asserted::assert_prints;
 use std::test::Fail;
 
 /// What is shown, options, the file, and the board.
-const CASES: [(&str, &str, &str, &str); 9] = [
+static CASES: [(&str, &str, &str, &str); 9] = [
     (
         "no freeze, at the end",
         "",
@@ -154,7 +154,7 @@ Rank  Team  Solved    Time
 
 #[test]
 fn prints_any_contest(rt: HostRuntime) -> Result<(), Fail> {
-    for (what, options, file, board) in CASES {
+    for (what, options, file, board) in &CASES {
         assert_prints(&rt, what, options, file.as_bytes(), board)?;
     }
     Ok(())
