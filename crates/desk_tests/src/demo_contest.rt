@@ -1,91 +1,49 @@
-//! The demo contest of tests above the desk's rules: five hours from nine o'clock, the last of them
-//! frozen.
+//! The demo contest of tests, which begins at nine o'clock.
 
-use contest_types::{
-    ContestHead, Fixed, Id, Language, Marks, Medals, Moment, Name, Problem, Rows, Settings, Team,
-    TimeSpan,
-};
+use contest_fixtures::{SettingRow, demo_settings, moment};
+use contest_types::{Fixed, Marks, Moment, Rows};
 use std::alloc::Global;
 use std::test::Fail;
 
 /// 2024-03-02T09:00:00Z.
 const START: u64 = 1_709_370_000_000;
 
-pub fn id(alloc: Global, text: &str) -> Result<Id, Fail> {
-    match Id::parse(alloc, text)? {
-        Some(id) => Ok(id),
-        None => Err(Fail::from("no id")),
-    }
-}
+/// Two languages, one problem and two teams.
+pub static TWO_TEAMS: [SettingRow; 5] = [
+    SettingRow::Language("cpp", false),
+    SettingRow::Language("java", true),
+    SettingRow::Problem("a", "A", 0),
+    SettingRow::Team("t1", "Alpha", None, false),
+    SettingRow::Team("t2", "Beta", None, false),
+];
 
-pub fn name(alloc: Global, text: &str) -> Result<Name, Fail> {
-    match Name::parse(alloc, text)? {
-        Some(name) => Ok(name),
-        None => Err(Fail::from("no name")),
-    }
-}
-
-pub fn span(milliseconds: u64) -> Result<TimeSpan, Fail> {
-    Ok(TimeSpan::new(milliseconds).ok_or("no span")?)
-}
+/// Beta, Alpha and the hidden Staff.
+pub static BETA_FIRST: [SettingRow; 5] = [
+    SettingRow::Language("cpp", false),
+    SettingRow::Problem("a", "A", 0),
+    SettingRow::Team("t2", "Beta", None, false),
+    SettingRow::Team("t1", "Alpha", None, false),
+    SettingRow::Team("t9", "Staff", None, true),
+];
 
 /// So many milliseconds after nine o'clock.
 pub fn after(milliseconds: u32) -> Result<Moment, Fail> {
-    Ok(Moment::from_milliseconds(START + u64::from(milliseconds)).ok_or("no moment")?)
+    moment(START + u64::from(milliseconds))
 }
 
-/// Five hours, the last of them frozen.
-pub fn head(alloc: Global) -> Result<ContestHead, Fail> {
-    Ok(ContestHead {
-        id: id(alloc, "demo")?,
-        name: name(alloc, "Demo Cup")?,
-        duration: span(18_000_000)?,
-        freeze: Some(span(3_600_000)?),
-        penalty_time: 20,
-        verification: false,
-        medals: Medals {
-            gold: 4,
-            silver: 4,
-            bronze: 4,
-        },
-    })
-}
-
-pub fn language(alloc: Global, text: &str, entry_point_required: bool) -> Result<Language, Fail> {
-    Ok(Language {
-        id: id(alloc, text)?,
-        name: name(alloc, text)?,
-        entry_point_required,
-    })
-}
-
-pub fn apples(alloc: Global) -> Result<Problem, Fail> {
-    Ok(Problem {
-        id: id(alloc, "a")?,
-        label: name(alloc, "A")?,
-        name: name(alloc, "Apples")?,
-        ordinal: 0,
-    })
-}
-
-pub fn team(alloc: Global, text: &str, named: &str, hidden: bool) -> Result<Team, Fail> {
-    Ok(Team {
-        id: id(alloc, text)?,
-        name: name(alloc, named)?,
-        groups: Rows::new(alloc),
-        hidden,
-    })
-}
-
-/// The contest with these settings, which begins at nine o'clock.
-pub fn begun(alloc: Global, settings: Settings) -> Result<Fixed, Fail> {
-    let marks = Marks {
+fn marks() -> Result<Marks, Fail> {
+    Ok(Marks {
         start: Some(after(0)?),
         thaw: None,
         finalized: None,
-    };
+    })
+}
+
+/// The contest with these rows and no account.
+pub fn demo(alloc: Global, rows: &[SettingRow]) -> Result<Fixed, Fail> {
+    let marks = marks()?;
     Ok(Fixed {
-        settings,
+        settings: demo_settings(alloc, rows)?,
         accounts: Rows::new(alloc),
         marks,
     })

@@ -6,8 +6,7 @@ ghost use Rattle.contest_types.specs.Clock.{reached, end_of};
 ghost use Rattle.contest_types.specs.declared.submission.Submission.{Submission};
 ghost use Rattle.contest_types.specs.ValidSubmissions.{is_valid_submission};
 
-use crate::demo_contest::after;
-use crate::submitting::demo;
+use crate::demo_contest::{TWO_TEAMS, after, demo};
 use contest_store::{MemoryRecords, Records};
 use contest_types::limits::POSTED_FILE;
 use contest_types::{Entry, Fixed, Refusal, Rows, Submission, end_of};
@@ -97,7 +96,7 @@ struct Walk {
     teams: &'static [usize],
 }
 
-const WALKS: [Walk; 5] = [
+static WALKS: [Walk; 5] = [
     Walk {
         calls: 0,
         kept: false,
@@ -203,7 +202,7 @@ fn assert_keeps(
 
 #[test]
 fn keeps_what_was_committed(rt: HostRuntime) -> Result<(), Fail> {
-    let fixed = Rc::new(rt.alloc(), demo(rt.alloc())?)?;
+    let fixed = Rc::new(rt.alloc(), demo(rt.alloc(), &TWO_TEAMS)?)?;
     for walk in &WALKS {
         let mut records = MemoryRecords::new(rt.alloc(), fixed.clone()?);
         assert_keeps(&rt, &mut records, walk)?;

@@ -1,26 +1,26 @@
 //! The submissions that an audience sees, as they are printed: all of them, and one by its id.
 
-use crate::demo_contest::{after, apples, begun, head, language, team};
-use crate::support::text_of;
-use contest_types::{Fixed, Rows, Settings, Submission};
+use crate::demo_contest::{BETA_FIRST, after, demo};
+use contest_fixtures::text_of;
+use contest_types::{Fixed, Rows, Submission};
 use contest_view::{Audience, submission_by_id, submissions_value};
 use std::alloc::Global;
 use std::process::Abort;
 use std::test::Fail;
 
 /// The first submission of Beta, the first team, as others see it.
-const BETA_FIRST: &str =
+const FIRST: &str =
     "{\"contest_time\":\"0:07:00.000\",\"id\":\"s1-1\",\"language_id\":\"cpp\",\"problem_id\":\"a\",\"team_id\":\"t2\",\"time\":\"2024-03-02T09:07:00.000+00:00\"}";
 
 /// The same as Beta sees it, and the jury.
-const BETA_FIRST_FULL: &str =
+const FIRST_FULL: &str =
     "{\"contest_time\":\"0:07:00.000\",\"files\":[{\"href\":\"contests/demo/submissions/s1-1/files\",\"mime\":\"application/zip\"}],\"id\":\"s1-1\",\"language_id\":\"cpp\",\"problem_id\":\"a\",\"team_id\":\"t2\",\"time\":\"2024-03-02T09:07:00.000+00:00\"}";
 
 /// Its second, at the same time.
-const BETA_SECOND: &str =
+const SECOND: &str =
     "{\"contest_time\":\"0:07:00.000\",\"id\":\"s1-2\",\"language_id\":\"cpp\",\"problem_id\":\"a\",\"team_id\":\"t2\",\"time\":\"2024-03-02T09:07:00.000+00:00\"}";
 
-const BETA_SECOND_FULL: &str =
+const SECOND_FULL: &str =
     "{\"contest_time\":\"0:07:00.000\",\"files\":[{\"href\":\"contests/demo/submissions/s1-2/files\",\"mime\":\"application/zip\"}],\"id\":\"s1-2\",\"language_id\":\"cpp\",\"problem_id\":\"a\",\"team_id\":\"t2\",\"time\":\"2024-03-02T09:07:00.000+00:00\"}";
 
 /// That of Alpha, the second team, at the same time again. Its id comes first.
@@ -40,26 +40,26 @@ struct Shown {
     objects: &'static [&'static str],
 }
 
-const SHOWN: [Shown; 5] = [
+static SHOWN: [Shown; 5] = [
     Shown {
         audience: Audience::Public,
-        objects: &[ALPHA, BETA_FIRST, BETA_SECOND],
+        objects: &[ALPHA, FIRST, SECOND],
     },
     Shown {
         audience: Audience::Team(1),
-        objects: &[ALPHA, BETA_FIRST_FULL, BETA_SECOND_FULL],
+        objects: &[ALPHA, FIRST_FULL, SECOND_FULL],
     },
     Shown {
         audience: Audience::Team(2),
-        objects: &[ALPHA_FULL, BETA_FIRST, BETA_SECOND],
+        objects: &[ALPHA_FULL, FIRST, SECOND],
     },
     Shown {
         audience: Audience::Team(3),
-        objects: &[STAFF_FULL, ALPHA, BETA_FIRST, BETA_SECOND],
+        objects: &[STAFF_FULL, ALPHA, FIRST, SECOND],
     },
     Shown {
         audience: Audience::Jury,
-        objects: &[STAFF_FULL, ALPHA_FULL, BETA_FIRST_FULL, BETA_SECOND_FULL],
+        objects: &[STAFF_FULL, ALPHA_FULL, FIRST_FULL, SECOND_FULL],
     },
 ];
 
@@ -70,21 +70,21 @@ struct Asked {
     object: &'static str,
 }
 
-const ASKED: [Asked; 12] = [
+static ASKED: [Asked; 12] = [
     Asked {
         audience: Audience::Team(1),
         id: "s1-1",
-        object: BETA_FIRST_FULL,
+        object: FIRST_FULL,
     },
     Asked {
         audience: Audience::Team(1),
         id: "s1-2",
-        object: BETA_SECOND_FULL,
+        object: SECOND_FULL,
     },
     Asked {
         audience: Audience::Team(2),
         id: "s1-1",
-        object: BETA_FIRST,
+        object: FIRST,
     },
     Asked {
         audience: Audience::Public,
@@ -133,23 +133,8 @@ const ASKED: [Asked; 12] = [
     },
 ];
 
-/// Beta, Alpha and the hidden Staff.
-fn fill(alloc: Global, settings: &mut Settings) -> Result<(), Fail> {
-    settings.add_language(alloc, language(alloc, "cpp", false)?)?;
-    settings.add_problem(alloc, apples(alloc)?)?;
-    settings.add_team(alloc, team(alloc, "t2", "Beta", false)?)?;
-    settings.add_team(alloc, team(alloc, "t1", "Alpha", false)?)?;
-    settings.add_team(alloc, team(alloc, "t9", "Staff", true)?)?;
-    Ok(())
-}
-
-fn settings(alloc: Global) -> Result<Settings, Fail> {
-    let mut settings = Settings::new(alloc, head(alloc)?)?;
-    fill(alloc, &mut settings)?;
-    Ok(settings)
-}
-
-fn submission(
+/// The submission of the team at a place, so long after the start.
+pub fn submission(
     alloc: Global,
     team: usize,
     number: usize,
@@ -243,6 +228,6 @@ fn assert_all(rt: &(impl Abort + AllocGlobal), fixed: &Fixed) -> Result<(), Fail
 
 #[test]
 fn shows_what_is_seen(rt: HostRuntime) -> Result<(), Fail> {
-    let fixed = begun(rt.alloc(), settings(rt.alloc())?)?;
+    let fixed = demo(rt.alloc(), &BETA_FIRST)?;
     assert_all(&rt, &fixed)
 }

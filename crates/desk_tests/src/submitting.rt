@@ -2,35 +2,14 @@
 
 ghost use Rattle.std.specs.Prelude.{◌≤◌};
 
-use crate::demo_contest::{after, apples, begun, head, id, language, team};
-use crate::support::text_of;
+use crate::demo_contest::{TWO_TEAMS, after, demo};
+use contest_fixtures::{id, text_of};
 use contest_rules::{Decision, WantedSubmission, decide_submission};
-use contest_types::{Fixed, Moment, Rows, Settings, Submission};
+use contest_types::{Fixed, Moment, Rows, Submission};
 use contest_view::{Audience, submission_value};
 use std::alloc::Global;
 use std::process::Abort;
 use std::test::Fail;
-
-/// Two languages, one problem and two teams.
-fn fill(alloc: Global, settings: &mut Settings) -> Result<(), Fail> {
-    settings.add_language(alloc, language(alloc, "cpp", false)?)?;
-    settings.add_language(alloc, language(alloc, "java", true)?)?;
-    settings.add_problem(alloc, apples(alloc)?)?;
-    settings.add_team(alloc, team(alloc, "t1", "Alpha", false)?)?;
-    settings.add_team(alloc, team(alloc, "t2", "Beta", false)?)?;
-    Ok(())
-}
-
-fn settings(alloc: Global) -> Result<Settings, Fail> {
-    let mut settings = Settings::new(alloc, head(alloc)?)?;
-    fill(alloc, &mut settings)?;
-    Ok(settings)
-}
-
-/// The demo contest, which begins at nine o'clock.
-pub fn demo(alloc: Global) -> Result<Fixed, Fail> {
-    begun(alloc, settings(alloc)?)
-}
 
 fn wanted(
     alloc: Global,
@@ -158,7 +137,7 @@ struct Taken {
     time: Option<u32>,
 }
 
-const TAKEN: [Taken; 5] = [
+static TAKEN: [Taken; 5] = [
     Taken {
         team: 0,
         count: 499,
@@ -238,7 +217,7 @@ fn assert_taken(rt: &(impl Abort + AllocGlobal), fixed: &Fixed, taken: &Taken) -
 
 #[test]
 fn keeps_to_a_teams_own_submissions(rt: HostRuntime) -> Result<(), Fail> {
-    let fixed = demo(rt.alloc())?;
+    let fixed = demo(rt.alloc(), &TWO_TEAMS)?;
     for taken in &TAKEN {
         assert_taken(&rt, &fixed, taken)?;
     }
@@ -247,6 +226,6 @@ fn keeps_to_a_teams_own_submissions(rt: HostRuntime) -> Result<(), Fail> {
 
 #[test]
 fn submits(rt: HostRuntime) -> Result<(), Fail> {
-    let fixed = demo(rt.alloc())?;
+    let fixed = demo(rt.alloc(), &TWO_TEAMS)?;
     assert_submits(&rt, &fixed)
 }

@@ -1,6 +1,6 @@
 //! A store that fails at one call: the request is refused, and the contest is as before it.
 
-use crate::desk_contest::{Asked, Key, LISTS, POSTS, Who, assert_answers, failing_desk};
+use crate::demo_desk::{Asked, Key, LISTS, POSTS, Who, assert_answers, failing_desk};
 use contest_desk::Desk;
 use contest_store::MemoryRecords;
 use std::process::Abort;

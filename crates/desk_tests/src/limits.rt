@@ -1,8 +1,7 @@
 //! How large a posted file may be, and how many submissions a team has.
 
-use crate::desk_contest::{
-    Asked, LISTS, POSTS, Who, assert_is, assert_walks, desk, item, reply_to,
-};
+use crate::demo_desk::{Asked, LISTS, POSTS, Who, assert_is, desk, item, reply_to};
+use crate::walks::assert_walks;
 use contest_desk::Desk;
 use contest_store::MemoryRecords;
 use std::alloc::Global;

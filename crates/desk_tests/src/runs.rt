@@ -1,6 +1,6 @@
 //! Requests handled in one run are answered as one by one.
 
-use crate::desk_contest::{Asked, Key, LISTS, POSTS, Who, assert_answers, assert_is, desk, item};
+use crate::demo_desk::{Asked, Key, LISTS, POSTS, Who, assert_answers, assert_is, desk, item};
 use contest_desk::Item;
 use std::alloc::Global;
 use std::test::Fail;

@@ -1,10 +1,9 @@
 //! What the desk refuses by the path, the method and the token.
 
-use crate::desk_contest::{Asked, LISTS, Who, assert_walks, desk};
+use crate::demo_desk::{Asked, LISTS, Who};
 use contest_desk::{AllowedMethods, ExtraField, Method};
-use std::test::Fail;
 
-static REFUSED: [Asked; 13] = [
+pub static WALK: [Asked; 13] = [
     Asked {
         shows: "a method that the list doesn't offer",
         method: Method::Other,
@@ -109,9 +108,3 @@ static REFUSED: [Asked; 13] = [
         ..LISTS
     },
 ];
-
-#[test]
-fn refuses_what_is_not_offered(rt: HostRuntime) -> Result<(), Fail> {
-    let mut desk = desk(rt.alloc())?;
-    assert_walks(&rt, &mut desk, &REFUSED)
-}

@@ -1,13 +1,13 @@
 //! The demo contest with its accounts, on a desk that keeps it in memory, and what the tests ask
 //! there.
 
-use crate::demo_contest::{apples, begun, head, id, language, name, team};
-use crate::support::text_of;
+use crate::demo_contest::demo;
 use contest_desk::{
     ContentType, Credential, Desk, ExtraField, Item, KeyField, Method, Reply, Request,
 };
+use contest_fixtures::{SettingRow, id, text_of};
 use contest_store::{MemoryRecords, is_valid_fixed};
-use contest_types::{Account, Digest, Fixed, Moment, Problem, Role, Rows, Settings};
+use contest_types::{Account, Digest, Fixed, Moment, Role, Rows};
 use sha2::{Digest as _, Sha256};
 use std::alloc::Global;
 use std::process::Abort;
@@ -76,7 +76,7 @@ pub const POSTS: Asked = Asked {
 };
 
 /// The accounts. The token of each is `token-` and its id.
-const ACCOUNTS: [(&str, Role); 6] = [
+static ACCOUNTS: [(&str, Role); 6] = [
     ("a1", Role::Team(0)),
     ("a2", Role::Team(1)),
     ("a3", Role::Team(2)),
@@ -85,33 +85,17 @@ const ACCOUNTS: [(&str, Role); 6] = [
     ("adm", Role::Admin),
 ];
 
-fn bridges(alloc: Global) -> Result<Problem, Fail> {
-    Ok(Problem {
-        id: id(alloc, "b")?,
-        label: name(alloc, "B")?,
-        name: name(alloc, "Bridges")?,
-        ordinal: 1,
-    })
-}
-
 /// Two languages, two problems and four teams, the last of them hidden.
-fn fill(alloc: Global, settings: &mut Settings) -> Result<(), Fail> {
-    settings.add_language(alloc, language(alloc, "cpp", false)?)?;
-    settings.add_language(alloc, language(alloc, "java", true)?)?;
-    settings.add_problem(alloc, apples(alloc)?)?;
-    settings.add_problem(alloc, bridges(alloc)?)?;
-    settings.add_team(alloc, team(alloc, "t1", "Alpha", false)?)?;
-    settings.add_team(alloc, team(alloc, "t2", "Beta", false)?)?;
-    settings.add_team(alloc, team(alloc, "t3", "Gamma", false)?)?;
-    settings.add_team(alloc, team(alloc, "t9", "Staff", true)?)?;
-    Ok(())
-}
-
-fn settings(alloc: Global) -> Result<Settings, Fail> {
-    let mut settings = Settings::new(alloc, head(alloc)?)?;
-    fill(alloc, &mut settings)?;
-    Ok(settings)
-}
+static ROWS: [SettingRow; 8] = [
+    SettingRow::Language("cpp", false),
+    SettingRow::Language("java", true),
+    SettingRow::Problem("a", "A", 0),
+    SettingRow::Problem("b", "B", 1),
+    SettingRow::Team("t1", "Alpha", None, false),
+    SettingRow::Team("t2", "Beta", None, false),
+    SettingRow::Team("t3", "Gamma", None, false),
+    SettingRow::Team("t9", "Staff", None, true),
+];
 
 fn account(alloc: Global, text: &str, role: Role) -> Result<Account, Fail> {
     let mut token = Vec::from_slice(alloc, b"token-")?;
@@ -124,14 +108,14 @@ fn account(alloc: Global, text: &str, role: Role) -> Result<Account, Fail> {
 }
 
 fn enroll(alloc: Global, accounts: &mut Rows<Account>) -> Result<(), Fail> {
-    for (text, role) in ACCOUNTS {
-        accounts.push(account(alloc, text, role)?)?;
+    for (text, role) in &ACCOUNTS {
+        accounts.push(account(alloc, text, *role)?)?;
     }
     Ok(())
 }
 
 fn contest(alloc: Global) -> Result<Fixed, Fail> {
-    let mut fixed = begun(alloc, settings(alloc)?)?;
+    let mut fixed = demo(alloc, &ROWS)?;
     enroll(alloc, &mut fixed.accounts)?;
     Ok(fixed)
 }
@@ -238,17 +222,5 @@ pub fn assert_answers(
     let item = item(rt.alloc(), asked, asked.body.as_bytes())?;
     let reply = reply_to(rt.alloc(), desk, item);
     assert_is(rt, &reply, asked);
-    Ok(())
-}
-
-/// Asserts that the desk gives these replies, one after another.
-pub fn assert_walks(
-    rt: &(impl Abort + AllocGlobal),
-    desk: &mut Desk<MemoryRecords>,
-    walk: &[Asked],
-) -> Result<(), Fail> {
-    for asked in walk {
-        assert_answers(rt, desk, asked)?;
-    }
     Ok(())
 }

@@ -1,7 +1,6 @@
 //! What the desk shows of submissions: the list, and one by its id.
 
-use crate::desk_contest::{Asked, LISTS, POSTS, Who, assert_walks, desk};
-use std::test::Fail;
+use crate::demo_desk::{Asked, LISTS, POSTS, Who};
 
 /// Alpha's submission as others see it, and as Alpha and the jury do.
 const ALPHA: &str =
@@ -21,8 +20,8 @@ const BETA_FULL: &str =
 const STAFF_FULL: &str =
     r#"{"contest_time":"0:06:00.000","files":[{"href":"contests/demo/submissions/s4-1/files","mime":"application/zip"}],"id":"s4-1","language_id":"cpp","problem_id":"a","team_id":"t9","time":"2024-03-02T09:06:00.000+00:00"}"#;
 
-/// What is read, in the order of acceptance.
-static MADE: [Asked; 3] = [
+/// Three submissions, in the order of acceptance, and what is read of them.
+pub static WALK: [Asked; 22] = [
     Asked {
         shows: "Alpha's",
         ..POSTS
@@ -41,9 +40,6 @@ static MADE: [Asked; 3] = [
         answer: r#"{"contest_time":"0:07:00.000","files":[{"href":"contests/demo/submissions/s2-1/files","mime":"application/zip"}],"id":"s2-1","language_id":"cpp","problem_id":"a","team_id":"t2","time":"2024-03-02T09:07:00.000+00:00"}"#,
         ..POSTS
     },
-];
-
-static READ: [Asked; 19] = [
     Asked {
         shows: "the public sees no files, and no hidden team",
         at: "2024-03-02T10:00:00Z",
@@ -191,10 +187,3 @@ static READ: [Asked; 19] = [
         ..LISTS
     },
 ];
-
-#[test]
-fn shows_what_is_seen(rt: HostRuntime) -> Result<(), Fail> {
-    let mut desk = desk(rt.alloc())?;
-    assert_walks(&rt, &mut desk, &MADE)?;
-    assert_walks(&rt, &mut desk, &READ)
-}
