@@ -57,7 +57,7 @@ pub(crate) fn read_limited<R: Read>(
 }
 
 // So many zeros.
-pub(crate) fn zeros(alloc: Global, count: usize) -> Result<Vec<u8>, AllocError>
+fn zeros(alloc: Global, count: usize) -> Result<Vec<u8>, AllocError>
     ensures { IfOk result (λ v. length v.items ≡ count) }
 {
     vec![in alloc; 0u8; count]

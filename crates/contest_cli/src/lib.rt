@@ -24,6 +24,3 @@ mod words;
 pub use commands::{run, start};
 pub use contest_types::Counted;
 pub use replaying::replay;
-
-#[cfg(test)]
-mod tests;

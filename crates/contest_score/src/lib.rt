@@ -44,6 +44,3 @@ pub use scoreboard::Board;
 pub use solve::Solve;
 pub use submission::{JudgedSubmission, are_admitted};
 pub use table::PlainCells;
-
-#[cfg(test)]
-mod tests;

@@ -59,6 +59,3 @@ pub use settings::Settings;
 pub use submission::{Release, Submission};
 pub use text::Text;
 pub use time_span::TimeSpan;
-
-#[cfg(test)]
-mod tests;

@@ -1,0 +1,25 @@
+//! Tests of boards and awards: contests as they are printed, made from a seed and scored twice, and the
+//! awards of small ones. The expected values come from worked examples, and from counting by hand and
+//! by a plain program.
+#![tactic(auto)]
+
+#[cfg(test)]
+mod awards;
+#[cfg(test)]
+mod last_releases;
+#[cfg(test)]
+mod made_contest;
+#[cfg(test)]
+mod plain_scoring;
+#[cfg(test)]
+mod ranks;
+#[cfg(test)]
+mod scored_twice;
+#[cfg(test)]
+mod small_columns;
+#[cfg(test)]
+mod small_contests;
+#[cfg(test)]
+mod small_moments;
+#[cfg(test)]
+mod worked;

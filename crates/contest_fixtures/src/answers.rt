@@ -1,0 +1,65 @@
+//! The command `replay` over memory: words and a file, and what comes of them.
+
+use contest_cli::Counted;
+use std::alloc::{AllocError, Global};
+use std::io::{Read, Write};
+
+/// What a call gave: its status, and what it wrote to standard output and to standard error.
+#[derive(Drop)]
+pub struct Answer {
+    pub status: u8,
+    pub out: Vec<u8>,
+    pub err: Vec<u8>,
+}
+
+impl Answer {
+    /// Its status and both texts, to be compared and read in messages.
+    pub fn told(&self) -> (u8, &str, &str) {
+        (self.status, text_of(&self.out), text_of(&self.err))
+    }
+}
+
+/// The words of a command line, from options that are separated by single spaces.
+pub fn words_of(alloc: Global, options: &str) -> Result<Vec<&str>, AllocError> {
+    let mut words = vec![in alloc; "replay"]?;
+    for option in options.split(' ') {
+        if !option.is_empty() {
+            words.push(option)?;
+        }
+    }
+    Ok(words)
+}
+
+/// Runs the command over streams whose failures nobody counts.
+pub fn replay<R: Read, O: Write, E: Write>(
+    alloc: Global,
+    words: &[&str],
+    reader: &mut R,
+    out: &mut O,
+    err: &mut E,
+) -> u8 {
+    let mut reader = Counted::new(reader);
+    let mut out = Counted::new(out);
+    let mut err = Counted::new(err);
+    contest_cli::replay(alloc, words, &mut reader, &mut out, &mut err)
+}
+
+/// What the command gives for what a reader gives.
+pub fn answer_to<R: Read>(alloc: Global, words: &[&str], reader: &mut R) -> Answer {
+    let mut out = Vec::new(alloc);
+    let mut err = Vec::new(alloc);
+    let status = replay(alloc, words, reader, &mut out, &mut err);
+    Answer { status, out, err }
+}
+
+/// What the command gives for a file.
+pub fn run(alloc: Global, options: &str, file: &[u8]) -> Result<Answer, AllocError> {
+    let words = words_of(alloc, options)?;
+    let mut reader = file;
+    Ok(answer_to(alloc, words.as_slice(), &mut reader))
+}
+
+/// The bytes as a text, for messages that can be read.
+pub fn text_of(bytes: &[u8]) -> &str {
+    std::str::from_utf8(bytes).unwrap_or("(not UTF-8)")
+}

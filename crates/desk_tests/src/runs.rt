@@ -1,0 +1,46 @@
+//! Requests handled in one run are answered as one by one.
+
+use crate::demo_desk::{Asked, Key, LISTS, POSTS, Who, assert_answers, assert_is, desk, item};
+use contest_desk::Item;
+use std::alloc::Global;
+use std::test::Fail;
+
+static RUN: [Asked; 3] = [
+    Asked {
+        key: Key::Given("k1"),
+        ..POSTS
+    },
+    Asked {
+        shows: "another file under the key",
+        key: Key::Given("k1"),
+        body: r#"{"problem_id":"a","language_id":"cpp","files":[{"data":""}]}"#,
+        status: 409,
+        answer: r#"{"code":409,"message":"KeyReused"}"#,
+        ..POSTS
+    },
+    Asked {
+        who: Who::Token("token-a2"),
+        answer: r#"[{"contest_time":"0:05:00.000","id":"s1-1","language_id":"cpp","problem_id":"a","team_id":"t1","time":"2024-03-02T09:05:00.000+00:00"}]"#,
+        ..LISTS
+    },
+];
+
+fn items(alloc: Global) -> Result<Vec<Item>, Fail> {
+    let mut items = Vec::new(alloc);
+    for asked in &RUN {
+        items.push(item(alloc, asked, asked.body.as_bytes())?)?;
+    }
+    Ok(items)
+}
+
+#[test]
+fn runs_as_one_by_one(rt: HostRuntime) -> Result<(), Fail> {
+    let replies = desk(rt.alloc())?.run(rt.alloc(), items(rt.alloc())?)?;
+    assert_eq!(&rt; replies.len(), RUN.len());
+    let mut one_by_one = desk(rt.alloc())?;
+    for (asked, reply) in RUN.iter().zip(&replies) {
+        assert_is(&rt, reply, asked);
+        assert_answers(&rt, &mut one_by_one, asked)?;
+    }
+    Ok(())
+}

@@ -1,0 +1,19 @@
+//! How refusals are numbered, named and answered.
+
+use contest_types::{Cause, Refusal};
+
+static REFUSALS: [(Refusal, u8, &str, u16); 4] = [
+    (Refusal::Malformed, 1, "Malformed", 400),
+    (Refusal::HeadTooLarge, 7, "HeadTooLarge", 431),
+    (Refusal::ImportRow(3, Cause::TableFull), 22, "ImportRow", 409),
+    (Refusal::Memory, 25, "Memory", 503),
+];
+
+#[test]
+fn refusals_are_told_apart(rt: HostRuntime) {
+    for (refusal, number, name, status) in &REFUSALS {
+        let told = (refusal.number(), refusal.name(), refusal.status());
+        assert_eq!(rt; told, (*number, *name, *status));
+    }
+    assert_eq!(rt; Cause::TableFull.name(), "TableFull");
+}
