@@ -49,24 +49,21 @@ class Progress:
 
     def __init__(self):
         self.crates = crates_below("desk")
-        self.begun = []
-        self.count = ""
+        self.crate, self.count = None, ""
         self.start = time.monotonic()
 
     def take(self, line):
         begins, so_far = BEGINS.match(line), SO_FAR.match(line)
-        if begins and begins[1] not in self.begun:
-            self.begun.append(begins[1])
-            self.count = ""
+        if begins and begins[1] in self.crates:
+            self.crate, self.count = begins[1], ""
         elif so_far:
             self.count = f", {so_far[1]} of {so_far[2]} functions checked"
 
     def text(self):
         minutes, seconds = divmod(int(time.monotonic() - self.start), 60)
-        if not self.begun:
-            what = "reading the sources"
-        else:
-            what = f"{self.begun[-1]}, crate {len(self.begun)} of {len(self.crates)}{self.count}"
+        what = "reading the sources"
+        if self.crate:
+            what = f"{self.crate}, crate {self.crates.index(self.crate) + 1} of {len(self.crates)}{self.count}"
         return f"desk: {what}; {minutes}:{seconds:02} minutes gone"
 
 
@@ -75,20 +72,21 @@ def say(text):
 
 
 def renew(text):
-    """Writes a line of the terminal over itself. A longer one than the terminal is wide would wrap, and leave its front behind."""
-    print(f"\r\033[K{text[: os.get_terminal_size(sys.stderr.fileno()).columns - 1]}", end="", file=sys.stderr, flush=True)
+    """Writes a line of the terminal over itself, cut to its width: a line that wraps would leave its front behind."""
+    columns = os.get_terminal_size(sys.stderr.fileno()).columns or 80
+    print(f"\r\033[K{text[: columns - 1]}", end="", file=sys.stderr, flush=True)
 
 
 def tell(progress, reader):
     """Tells how far the build is until the reader of rt's lines ends."""
     in_place = sys.stderr.isatty() and os.environ.get("TERM") != "dumb"
-    told, begun = time.monotonic(), None
+    told, crate = None, None
     while reader.is_alive():
         now = time.monotonic()
         if in_place:
             renew(progress.text())
-        elif len(progress.begun) != begun or now - told >= SILENCE:
-            told, begun = now, len(progress.begun)
+        elif told is None or progress.crate != crate or now - told >= SILENCE:
+            told, crate = now, progress.crate
             say(progress.text())
         reader.join(1)
     if in_place:
