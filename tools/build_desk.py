@@ -64,7 +64,7 @@ class Progress:
         what = "reading the sources"
         if self.crate:
             what = f"{self.crate}, crate {self.crates.index(self.crate) + 1} of {len(self.crates)}{self.count}"
-        return f"desk: {what}; {minutes}:{seconds:02} minutes gone"
+        return f"desk: {what}, {minutes}:{seconds:02} gone"
 
 
 def say(text):
