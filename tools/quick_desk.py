@@ -1,5 +1,5 @@
 #!/usr/bin/env python3
-"""Runs `replay` or the help of `desk` unproved, within about a minute of a fresh clone.
+"""Runs `replay` or the help of `desk` unproved, in about a minute on a fresh clone.
 
     tools/quick_desk.py replay [OPTION ..] < contest.csv
     tools/quick_desk.py --help
@@ -10,8 +10,8 @@ error says that nothing was proved. Where `rt try` has no answer of the program,
 and the status is 3 or more: 4 a fault, 5 two runs that differ, 6 a limit (1 MiB of output, SECONDS),
 3 anything else. Only what keeps no file can be run so, and any other first word is status 2.
 
-Not as the proved program: all output comes at the end; a standard stream that fails isn't the program's, so
-that is told by a line of this script, with status 1.
+Not as the proved program: all output comes at the end, 8 MB of input take 45 seconds more, and a
+standard stream that fails isn't the program's, so this script tells of it, with status 1.
 """
 
 import pathlib
@@ -26,9 +26,11 @@ FIRST_WORDS = ("replay", "help", *HELP)
 NO_ANSWER = 3
 
 # The interpreter can't run a program that reads its arguments, so one step of it is as good as its
-# twenty million. The compiled run answers the largest file that replay takes within a second; the
-# rest is for a machine that is busy.
-STEPS, SECONDS = "1", "120"
+# twenty million. With all its checks the compiled program takes 45 seconds of a quiet machine for
+# 8 MB, and a file may have twice that; the rest is for a machine that is busy. Neither changes how
+# long a small file takes: its time is rt's, 42 processor seconds to
+# read and lower the sources and 15 of clang.
+STEPS, SECONDS = "1", "600"
 
 # rt cuts what it gives a program at this size, and replay refuses files that are much smaller.
 INPUT_LIMIT = (64 << 20) - 1
