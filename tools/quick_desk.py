@@ -27,9 +27,9 @@ NO_ANSWER = 3
 
 # The interpreter can't run a program that reads its arguments, so one step of it is as good as its
 # twenty million. With all its checks the compiled program takes 45 seconds of a quiet machine for
-# 8 MB, and a file may have twice that; the rest is for a machine that is busy. Neither changes how
-# long a small file takes: its time is rt's, 42 processor seconds to
-# read and lower the sources and 15 of clang.
+# 8 MB, and a file may have twice that; the rest is for a machine that is busy. Neither number changes
+# how long a small file takes: that is rt's, 42 processor seconds to read and lower the sources, and 15
+# of clang.
 STEPS, SECONDS = "1", "600"
 
 # rt cuts what it gives a program at this size, and replay refuses files that are much smaller.
@@ -37,7 +37,7 @@ INPUT_LIMIT = (64 << 20) - 1
 
 # What rt adds to the program's standard error: notes of its two runs, and last the program's status.
 CLOSING = re.compile(
-    rb"(?:^interpreter: .*\n)?^checked: ended status=(\d+)\n(?:^races: .*\n)?^run=ended status=(\d+) .*proved=no\n\Z", re.M
+    rb"(?:^interpreter: .*\n)?^checked: ended .*\n(?:^races: .*\n)?^run=ended status=(\d+) .*proved=no\n\Z", re.M
 )
 
 
@@ -47,7 +47,7 @@ def say(text):
 
 def refuse(word):
     named = f"'{word}' can't be run by --quick" if word else "--quick needs a command"
-    say(f"{named}: it runs replay and help alone, since what it runs keeps no file; ./desk builds and proves the program first")
+    say(f"{named}: it runs replay and help alone, since what it runs keeps no file")
     return 2
 
 
@@ -76,7 +76,7 @@ def hand_on(ran):
     sys.stderr.buffer.write(errors)
     sys.stderr.buffer.flush()
     if closing:
-        return int(closing[2])
+        return int(closing[1])
     say("rt try stopped, as it says above: this is no answer of the program")
     return ran.returncode if ran.returncode in (4, 5, 6) else NO_ANSWER
 
