@@ -1,11 +1,10 @@
 //! The demo contest with its accounts, on a desk that keeps it in memory, and what the tests ask
 //! there.
 
-use crate::demo_contest::demo;
 use contest_desk::{
     ContentType, Credential, Desk, ExtraField, Item, KeyField, Method, Reply, Request,
 };
-use contest_fixtures::{SettingRow, id, text_of};
+use contest_fixtures::{SettingRow, demo, id, text_of};
 use contest_store::{MemoryRecords, is_valid_fixed};
 use contest_types::{Account, Digest, Fixed, Moment, Role, Rows};
 use sha2::{Digest as _, Sha256};
