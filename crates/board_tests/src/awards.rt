@@ -4,6 +4,7 @@ use contest_fixtures::{SettingRow, demo_head, fill, moment};
 use contest_score::{Awards, Board, CellRow, Row, Score, Solve, awards};
 use contest_types::{Medals, Minute, Settings};
 use std::alloc::Global;
+use std::process::Abort;
 use std::test::Fail;
 
 /// Two problems, of which the second stands first; three groups, imported from the last to the
@@ -140,19 +141,28 @@ fn listing(alloc: Global, awards: &Awards) -> Result<String, Fail> {
     Ok(text)
 }
 
-fn listed(alloc: Global, settings: &Settings, awarded: &Awarded) -> Result<String, Fail> {
+fn listed_in(alloc: Global, settings: &Settings, awarded: &Awarded) -> Result<String, Fail> {
     let board = board_of(alloc, awarded.board)?;
     let solves = solves_of(alloc, awarded.solves)?;
     let awards = awards(alloc, settings, &board, &solves)?;
     listing(alloc, &awards)
 }
 
+fn listed(alloc: Global, awarded: &Awarded) -> Result<String, Fail> {
+    let settings = settings(alloc, awarded.medals)?;
+    listed_in(alloc, &settings, awarded)
+}
+
+fn assert_lists(rt: &(impl Abort + AllocGlobal), awarded: &Awarded) -> Result<(), Fail> {
+    let text = listed(rt.alloc(), awarded)?;
+    assert_eq!(rt; text.as_str(), awarded.listing, "{}", awarded.shows);
+    Ok(())
+}
+
 #[test]
 fn awards_go_by_rank(rt: HostRuntime) -> Result<(), Fail> {
     for awarded in &AWARDED {
-        let settings = settings(rt.alloc(), awarded.medals)?;
-        let text = listed(rt.alloc(), &settings, awarded)?;
-        assert_eq!(rt; text.as_str(), awarded.listing, "{}", awarded.shows);
+        assert_lists(&rt, awarded)?;
     }
     Ok(())
 }
