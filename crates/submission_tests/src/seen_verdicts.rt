@@ -7,6 +7,7 @@ use contest_fixtures::{after, demo};
 use contest_types::Fixed;
 use contest_view::{Audience, seen_verdict, sees_submission};
 use std::alloc::Global;
+use std::process::Abort;
 use std::test::Fail;
 
 /// Who looks at a submission, whose it is, how many milliseconds after the start, and whether it is
@@ -37,12 +38,19 @@ fn seen(
     Ok((sees, verdict))
 }
 
+fn assert_seen(rt: &(impl Abort + AllocGlobal), fixed: &Fixed) -> Result<(), Fail> {
+    for (audience, team, time, wanted) in &SEEN {
+        let answer = seen(rt.alloc(), fixed, *audience, *team, *time)?;
+        assert!(rt;
+            answer == *wanted,
+            "{audience:?}, team {team} at {time}: {answer:?}"
+        );
+    }
+    Ok(())
+}
+
 #[test]
 fn shows_what_a_caller_may_see(rt: HostRuntime) -> Result<(), Fail> {
     let fixed = demo(rt.alloc(), &BETA_FIRST)?;
-    for (audience, team, time, wanted) in &SEEN {
-        let answer = seen(rt.alloc(), &fixed, *audience, *team, *time)?;
-        assert_eq!(rt; answer, *wanted, "{audience:?}, team {team} at {time}");
-    }
-    Ok(())
+    assert_seen(&rt, &fixed)
 }

@@ -1,11 +1,9 @@
 //! A team submits: the worked examples of keys and refusals, and the value that is served.
 
-ghost use Rattle.std.specs.Prelude.{◌≤◌};
-
 use crate::teams::TWO_TEAMS;
 use contest_fixtures::{after, demo, id, text_of};
 use contest_rules::{Decision, WantedSubmission, decide_submission};
-use contest_types::{Fixed, Moment, Rows, Submission};
+use contest_types::{Fixed, Rows, Submission};
 use contest_view::{Audience, submission_value};
 use std::alloc::Global;
 use std::process::Abort;
@@ -51,17 +49,79 @@ fn first(alloc: Global, fixed: &Fixed) -> Result<Submission, Fail> {
     }
 }
 
-/// What became of a request, as its minute, its problem, its language, its file and its key say.
+/// The first team asks once more: so many milliseconds after the start, with a problem, a language, a
+/// file and a key; and what becomes of it.
+struct Asked {
+    now: u32,
+    problem: &'static str,
+    language: &'static str,
+    file: &'static [u8],
+    key: Option<&'static str>,
+    told: &'static str,
+}
+
+static ASKED: [Asked; 6] = [
+    Asked {
+        now: 330 * MINUTE,
+        problem: "a",
+        language: "cpp",
+        file: b"abc",
+        key: Some("k1"),
+        told: "stands",
+    },
+    Asked {
+        now: 330 * MINUTE,
+        problem: "a",
+        language: "cpp",
+        file: b"abd",
+        key: Some("k1"),
+        told: "KeyReused",
+    },
+    Asked {
+        now: 330 * MINUTE,
+        problem: "z",
+        language: "java",
+        file: b"abc",
+        key: Some("k1"),
+        told: "UnknownReference",
+    },
+    Asked {
+        now: 330 * MINUTE,
+        problem: "a",
+        language: "java",
+        file: b"abc",
+        key: None,
+        told: "EntryPointMissing",
+    },
+    Asked {
+        now: 300 * MINUTE,
+        problem: "a",
+        language: "cpp",
+        file: b"abc",
+        key: Some("k2"),
+        told: "NotOpen",
+    },
+    Asked {
+        now: 299 * MINUTE,
+        problem: "a",
+        language: "cpp",
+        file: b"abc",
+        key: None,
+        told: "added",
+    },
+];
+
+const MINUTE: u32 = 60_000;
+
+/// What became of a request.
 fn answer(
     alloc: Global,
     fixed: &Fixed,
     own: &[Submission],
-    minutes: u32,
-    wanted: WantedSubmission,
-) -> Result<&'static str, Fail>
-    requires { minutes ≤ 600 }
-{
-    let now = after(minutes * 60_000)?;
+    asked: &Asked,
+) -> Result<&'static str, Fail> {
+    let now = after(asked.now)?;
+    let wanted = wanted(alloc, asked.problem, asked.language, asked.file, asked.key)?;
     Ok(told(decide_submission(fixed, own, now, 0, wanted)))
 }
 
@@ -70,31 +130,10 @@ fn assert_decides(
     fixed: &Fixed,
     own: &[Submission],
 ) -> Result<(), Fail> {
-    let alloc = rt.alloc();
-    let same = wanted(alloc, "a", "cpp", b"abc", Some("k1"))?;
-    assert_eq!(rt; answer(alloc, fixed, own, 330, same)?, "stands");
-    let other = wanted(alloc, "a", "cpp", b"abd", Some("k1"))?;
-    assert_eq!(rt; answer(alloc, fixed, own, 330, other)?, "KeyReused");
-    let unknown = wanted(alloc, "z", "java", b"abc", Some("k1"))?;
-    assert_eq!(rt;
-        answer(alloc, fixed, own, 330, unknown)?,
-        "UnknownReference"
-    );
-    Ok(())
-}
-
-fn assert_keeps_the_clock(
-    rt: &(impl Abort + AllocGlobal),
-    fixed: &Fixed,
-    own: &[Submission],
-) -> Result<(), Fail> {
-    let alloc = rt.alloc();
-    let java = wanted(alloc, "a", "java", b"abc", None)?;
-    assert_eq!(rt; answer(alloc, fixed, own, 330, java)?, "EntryPointMissing");
-    let late = wanted(alloc, "a", "cpp", b"abc", Some("k2"))?;
-    assert_eq!(rt; answer(alloc, fixed, own, 300, late)?, "NotOpen");
-    let last = wanted(alloc, "a", "cpp", b"abc", None)?;
-    assert_eq!(rt; answer(alloc, fixed, own, 299, last)?, "added");
+    for asked in &ASKED {
+        let answer = answer(rt.alloc(), fixed, own, asked)?;
+        assert!(rt; answer == asked.told, "{answer} in place of {}", asked.told);
+    }
     Ok(())
 }
 
@@ -120,7 +159,6 @@ const OTHERS: &str =
 fn assert_submits(rt: &(impl Abort + AllocGlobal), fixed: &Fixed) -> Result<(), Fail> {
     let own = [first(rt.alloc(), fixed)?];
     assert_decides(rt, fixed, &own)?;
-    assert_keeps_the_clock(rt, fixed, &own)?;
     assert_served(rt, fixed, &own[0], Audience::Team(1), OWN)?;
     assert_served(rt, fixed, &own[0], Audience::Public, OTHERS)?;
     Ok(())
@@ -193,35 +231,51 @@ fn standing(alloc: Global, team: usize, count: usize) -> Result<Vec<Submission>,
     Ok(own)
 }
 
-/// From when a submission counts that is added.
-fn time_of(decision: &Decision<Submission>) -> Option<Moment> {
-    match decision {
-        Decision::Add(submission) => Some(submission.time),
+/// What became of it, and from when it counts if it is added.
+fn outcome(decision: Decision<Submission>) -> (&'static str, Option<u64>) {
+    let time = match &decision {
+        Decision::Add(submission) => Some(submission.time.milliseconds()),
         _ => None,
+    };
+    (told(decision), time)
+}
+
+fn outcome_of(
+    alloc: Global,
+    fixed: &Fixed,
+    taken: &Taken,
+) -> Result<(&'static str, Option<u64>), Fail> {
+    let now = after(taken.now)?;
+    let own = standing(alloc, taken.team, taken.count)?;
+    let wanted = wanted(alloc, "a", "cpp", b"abc", None)?;
+    Ok(outcome(decide_submission(fixed, &own, now, taken.team, wanted)))
+}
+
+fn counts_from(taken: &Taken) -> Result<Option<u64>, Fail> {
+    match taken.time {
+        Some(time) => Ok(Some(after(time)?.milliseconds())),
+        None => Ok(None),
     }
 }
 
 fn assert_taken(rt: &(impl Abort + AllocGlobal), fixed: &Fixed, taken: &Taken) -> Result<(), Fail> {
-    let alloc = rt.alloc();
-    let own = standing(alloc, taken.team, taken.count)?;
-    let wanted = wanted(alloc, "a", "cpp", b"abc", None)?;
-    let decision = decide_submission(fixed, &own, after(taken.now)?, taken.team, wanted);
-    let time = match taken.time {
-        Some(time) => Some(after(time)?),
-        None => None,
-    };
-    assert_eq!(rt; time_of(&decision), time, "after {} others", taken.count);
-    assert_eq!(rt; told(decision), taken.told, "after {} others", taken.count);
+    let (told, time) = outcome_of(rt.alloc(), fixed, taken)?;
+    let is_so = told == taken.told && time == counts_from(taken)?;
+    assert!(rt; is_so, "after {} others: {told} {time:?}", taken.count);
+    Ok(())
+}
+
+fn assert_all_taken(rt: &(impl Abort + AllocGlobal), fixed: &Fixed) -> Result<(), Fail> {
+    for taken in &TAKEN {
+        assert_taken(rt, fixed, taken)?;
+    }
     Ok(())
 }
 
 #[test]
 fn keeps_to_a_teams_own_submissions(rt: HostRuntime) -> Result<(), Fail> {
     let fixed = demo(rt.alloc(), &TWO_TEAMS)?;
-    for taken in &TAKEN {
-        assert_taken(&rt, &fixed, taken)?;
-    }
-    Ok(())
+    assert_all_taken(&rt, &fixed)
 }
 
 #[test]
