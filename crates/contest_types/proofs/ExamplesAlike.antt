@@ -86,7 +86,7 @@ reply_to_other_untold = alike_within me base with_reply_to_other refl refl (refl
 
 -- the second judge wrote for the jury, with a key
 abbrev with_other_writer : ContestState
-with_other_writer = record base { clarifications = asked 0 1 (minutes 40) ∷ record (answered 0 2 (minutes 50)) { account = 5; key = Some (codes "k1") } ∷ record (announced 1 (minutes 60) None) { account = 5 } ∷ [] }
+with_other_writer = record base { clarifications = asked 0 1 (minutes 40) ∷ record (answered 0 2 (minutes 50)) { account = codes "j2"; key = Some (codes "k1") } ∷ record (announced 1 (minutes 60) None) { account = codes "j2" } ∷ [] }
 
 writer_untold : Alike me base with_other_writer
 writer_untold = alike_within me base with_other_writer refl refl (refl, (refl, (refl, (refl, tt)))) refl (refl, (refl, (refl, (refl, tt))))

@@ -24,6 +24,7 @@ pub mod ValidParts
 pub mod AddLemmas
 pub mod AddClarification
 pub mod AddRejudging
+pub mod AccountLemmas
 pub mod AddSettings
 pub mod AddRows
 pub mod AddEntry

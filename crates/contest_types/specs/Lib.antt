@@ -15,6 +15,7 @@ pub mod SetupAdditions
 pub mod TeamPlaces
 pub mod ProblemPlaces
 pub mod Order
+pub mod Accounts
 pub mod Clock
 pub mod Masks
 pub mod State

@@ -1,6 +1,7 @@
 -- When the rejudgings of a contest are valid (own).
-use Rattle.std.specs.Prelude.{ℕ, Bool, true, false, not, ◌&&◌, ◌==◌, nat_le, nat_lt, List, [], ◌∷◌, length, filter}
+use Rattle.std.specs.Prelude.{ℕ, Bool, true, false, not, ◌&&◌, ◌==◌, nat_le, nat_lt, List, [], ◌∷◌, length, filter, is_some}
 use Rattle.std.specs.List.{list_any, list_all, flat_map}
+use Rattle.contest_types.specs.Accounts.{account_named}
 use Rattle.contest_types.specs.State.{FixedPart, ContestState}
 use Rattle.contest_types.specs.declared.limits.TheConstants.{REJUDGINGS, REJUDGING_MEMBERS}
 use Rattle.contest_types.specs.declared.submission.Release.{Release}
@@ -17,7 +18,7 @@ has_release x team number = list_any (λ (v : Release). (v.team == team) && (v.n
 -- the judgement type and the account of a member's state are there
 abbrev pub is_valid_state : FixedPart → MemberState → Bool
 is_valid_state f member.Empty = true
-is_valid_state f (member.Proposed verdict account) = nat_lt verdict (length f.settings.types) && nat_lt account (length f.accounts)
+is_valid_state f (member.Proposed verdict account) = nat_lt verdict (length f.settings.types) && is_some (account_named f.accounts account)
 is_valid_state f (member.Ready verdict) = nat_lt verdict (length f.settings.types)
 
 -- a member has a release

@@ -1,6 +1,7 @@
 -- When the submissions, the proposals and the releases of a contest are valid (own).
-use Rattle.std.specs.Prelude.{ℕ, Bool, true, false, not, ◌&&◌, ◌==◌, nat_le, nat_lt, List, length, map, count_by}
+use Rattle.std.specs.Prelude.{ℕ, Bool, true, false, not, ◌&&◌, ◌==◌, nat_le, nat_lt, List, length, map, count_by, is_some}
 use Rattle.std.specs.List.{list_any, list_all}
+use Rattle.contest_types.specs.Accounts.{account_named}
 use Rattle.contest_types.specs.Clock.{reached, end_of}
 use Rattle.contest_types.specs.Series.{in_each, count_up, never_fall, have_own_keys}
 use Rattle.contest_types.specs.State.{FixedPart, ContestState}
@@ -48,7 +49,7 @@ abbrev pub has_valid_releases : ContestState → Bool
 has_valid_releases x = list_all (is_valid_release x) x.releases && in_each on_one_submission are_valid_releases x.releases
 
 abbrev pub is_there : FixedPart → Proposer → Bool
-is_there f (proposer.Account account) = nat_lt account (length f.accounts)
+is_there f (proposer.Account id) = is_some (account_named f.accounts id)
 is_there f proposer.Import = true
 
 -- a proposal names what is there
@@ -60,7 +61,7 @@ abbrev pub for_one_submission : Proposal → Proposal → Bool
 for_one_submission p q = (q.team == p.team) && (q.number == p.number)
 
 abbrev pub is_imported_by : Proposer → Bool
-is_imported_by (proposer.Account account) = false
+is_imported_by (proposer.Account id) = false
 is_imported_by proposer.Import = true
 
 abbrev pub is_imported : Proposal → Bool
