@@ -13,7 +13,7 @@ use Rattle.contest_rules.specs.declared.decision.Decision.{Decision}
 use Rattle.contest_rules.specs.declared.decision.Decision.TheVariants.{Add, Stands, Refused}
 use Rattle.contest_rules.specs.declared.submitting.WantedSubmission.{WantedSubmission}
 use Rattle.contest_view.specs.Reads.{submission_found}
-use Rattle.contest_desk.specs.Callers.{caller_of, audience_of, team_of}
+use Rattle.contest_desk.specs.Callers.{Caller, caller_of, audience_of, team_of}
 use Rattle.contest_desk.specs.Offers.{allowed_on, operation_of}
 use Rattle.contest_desk.specs.Outcomes.{Outcome, refusing}
 use Rattle.contest_desk.specs.Paths.{object_piece}
@@ -23,7 +23,6 @@ use Rattle.contest_desk.specs.Routes.{route_of}
 use Rattle.contest_desk.specs.Step.{is_here, offered, asked, posted, perform, outcome_of, outcome, step}
 use Rattle.contest_desk.specs.SubmissionBodies.{wanted_in}
 use Rattle.contest_desk.specs.UnseenLaws.{IsUnnoticed}
-use Rattle.contest_desk.specs.declared.caller.Caller.{Caller}
 use Rattle.contest_desk.specs.declared.offer.AllowedMethods.{AllowedMethods}
 use Rattle.contest_desk.specs.declared.offer.Operation.{Operation}
 use Rattle.contest_desk.specs.declared.offer.Operation.TheVariants.{ListSubmissions, PostSubmission, GetSubmission}
