@@ -4,7 +4,6 @@ use Rattle.std.specs.Prelude.{◌&&◌, ◌||◌, ◌==◌, not, nat_le, nat_lt,
 use Rattle.std.specs.List.{list_all}
 use Rattle.std.specs.Option.{option_map_or}
 use Rattle.std.specs.Str.{bytes_eq}
-use Rattle.std.proofs.Math.Bool.{beq}
 use Rattle.std.proofs.lemmas.Bool.{false≢true, eqb-true, eq-eqb}
 use Rattle.std.proofs.lemmas.Slice.Eq.{bytes_eq-Decides}
 use Rattle.contest_types.specs.MomentText.{latest}
@@ -13,7 +12,7 @@ use Rattle.contest_types.specs.Clock.{after}
 use Rattle.contest_types.specs.Series.{in_each, count_up, is_new_key}
 use Rattle.contest_types.specs.State.{ContestState, same_addressee, clarifications_to, add, NewClarification, SetStart, SetThaw, SetFinalized}
 use Rattle.contest_types.specs.ValidSubmissions.{has_valid_submissions}
-use Rattle.contest_types.specs.ValidClarifications.{is_an_addressee, has_clarification, is_well_sent, is_valid_clarification, to_one_addressee, is_request, are_valid_clarifications, in_one_scope, keys_are_own}
+use Rattle.contest_types.specs.ValidClarifications.{is_an_addressee, has_clarification, is_well_sent, is_valid_clarification, to_one_addressee, is_request, are_valid_clarifications, Scope, OfTeam, OfAccount, same_scope, scope_of, in_one_scope, keys_are_own}
 use Rattle.contest_types.specs.Valid.{is_valid}
 use Rattle.contest_types.specs.Addable.{is_addable, is_next_clarification}
 use Rattle.contest_types.specs.declared.limits.TheConstants.{TEAM_REQUESTS, JURY_CLARIFICATIONS}
@@ -38,26 +37,23 @@ one_addressee = record {
   same = λ c d e h. ap (same_addressee e.addressee) (sym (same_is_one d.addressee c.addressee h));
 }
 
-equal_itself : (b : Bool) → beq b b ≡ true
-equal_itself true = refl
-equal_itself false = refl
-
-scoped_itself : (jury : Bool) (account : List ℕ) (to : Addressee) → (beq jury jury && (if jury then bytes_eq account account else same_addressee to to)) ≡ true
-scoped_itself true account to = (bytes_eq-Decides account account).1 refl
-scoped_itself false account to = addressed_itself to
+scoped_itself : (scope : Scope) → same_scope scope scope ≡ true
+scoped_itself (OfTeam to) = addressed_itself to
+scoped_itself (OfAccount id) = (bytes_eq-Decides id id).1 refl
 
 -- who writes in one scope writes in it with the same others
-scoped_same : (j k l : Bool) (a b c : List ℕ) (p q r : Addressee) → (beq j k && (if j then bytes_eq b a else same_addressee q p)) ≡ true
-    → (beq j l && (if j then bytes_eq c a else same_addressee r p)) ≡ (beq k l && (if k then bytes_eq c b else same_addressee r q))
-scoped_same true true l a b c p q r h = ap (λ n. beq true l && bytes_eq c n) (sym (same_bytes b a h))
-scoped_same true false l a b c p q r h = absurd (false≢true h)
-scoped_same false true l a b c p q r h = absurd (false≢true h)
-scoped_same false false l a b c p q r h = ap (λ to. beq false l && same_addressee r to) (sym (same_is_one q p h))
+scoped_same : (p q r : Scope) → same_scope p q ≡ true → same_scope p r ≡ same_scope q r
+scoped_same (OfTeam to) (OfTeam other) (OfTeam third) h = ap (same_addressee third) (sym (same_is_one other to h))
+scoped_same (OfTeam to) (OfTeam other) (OfAccount third) h = refl
+scoped_same (OfTeam to) (OfAccount other) r h = absurd (false≢true h)
+scoped_same (OfAccount id) (OfTeam other) r h = absurd (false≢true h)
+scoped_same (OfAccount id) (OfAccount other) (OfTeam third) h = refl
+scoped_same (OfAccount id) (OfAccount other) (OfAccount third) h = ap (bytes_eq third) (sym (same_bytes other id h))
 
 one_scope : IsTogether in_one_scope
 one_scope = record {
-  itself = λ c. scoped_itself c.from_jury c.account c.addressee;
-  same = λ c d e h. scoped_same c.from_jury d.from_jury e.from_jury c.account d.account e.account c.addressee d.addressee e.addressee h;
+  itself = λ c. scoped_itself (scope_of c);
+  same = λ c d e h. scoped_same (scope_of c) (scope_of d) (scope_of e) h;
 }
 
 -- one more in its direction

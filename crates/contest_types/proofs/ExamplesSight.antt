@@ -4,7 +4,8 @@ use Rattle.std.specs.Prelude.{codes}
 use Rattle.std.specs.Fmt.{digits}
 use Rattle.contest_types.specs.Clock.{end_of, freeze_of, is_frozen, is_freezing, is_finalized, phase_at}
 use Rattle.contest_types.specs.State.{ContestState}
-use Rattle.contest_types.specs.Sight.{SeenSubmission, SeenClarification, Judgement, seen_submissions, seen_clarifications, seen_verdict, sees_team, clarification_id}
+use Rattle.contest_types.specs.VisibleIds.{clarification_id}
+use Rattle.contest_types.specs.Sight.{SeenSubmission, SeenClarification, Judgement, seen_submissions, seen_clarifications, seen_verdict, sees_team}
 use Rattle.contest_types.specs.declared.audience.Audience.{Audience}
 use Rattle.contest_types.specs.declared.audience.Audience.TheVariants as audience
 use Rattle.contest_types.specs.declared.audience.Phase.TheVariants as phase

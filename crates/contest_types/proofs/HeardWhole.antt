@@ -16,7 +16,8 @@ use Rattle.contest_types.specs.Series.{in_each, count_up}
 use Rattle.contest_types.specs.TeamPlaces.{team_places}
 use Rattle.contest_types.specs.Order.{Has, IsInOrder}
 use Rattle.contest_types.specs.State.{FixedPart, ContestState, same_addressee, clarifications_to}
-use Rattle.contest_types.specs.Sight.{SeenClarification, hears, seen_clarification, heard_of, clarification_id, clarification_cmp, addressees, seen_clarifications}
+use Rattle.contest_types.specs.VisibleIds.{clarification_id}
+use Rattle.contest_types.specs.Sight.{SeenClarification, hears, seen_clarification, heard_of, clarification_cmp, addressees, seen_clarifications}
 use Rattle.contest_types.specs.ValidClarifications.{is_an_addressee, has_clarification, is_well_sent, is_valid_clarification, to_one_addressee, is_request, are_valid_clarifications, in_one_scope, keys_are_own}
 use Rattle.contest_types.specs.Valid.{is_valid}
 use Rattle.contest_types.specs.Laws.{IsHeard}

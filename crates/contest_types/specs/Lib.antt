@@ -19,7 +19,9 @@ pub mod Accounts
 pub mod Clock
 pub mod Masks
 pub mod State
+pub mod VisibleIds
 pub mod Sight
+pub mod Judging
 pub mod Alike
 pub mod Series
 pub mod ValidFixed

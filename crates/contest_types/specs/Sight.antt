@@ -1,15 +1,15 @@
 -- What an audience sees of a contest (Contest API 2023-06, submissions, judgements and
 -- clarifications; DOMjudge manual, "Scoreboard" and "Clarifications").
-use Rattle.std.specs.Prelude.{ℕ, ◌+◌, Bool, true, ◌||◌, List, [], ◌∷◌, ◌++◌, map, Option, Some, None, if◌then◌else◌, codes}
+use Rattle.std.specs.Prelude.{ℕ, Bool, true, ◌||◌, List, [], ◌∷◌, map, Option, Some, None, if◌then◌else◌}
 use Rattle.std.specs.List.{flat_map, last_or}
 use Rattle.std.specs.Option.{option_map, option_and_then}
-use Rattle.std.specs.Fmt.{decimal}
 use Rattle.std.specs.Ordering.{nat_cmp, ordering_then}
 use Rattle.std.specs.Cmp.Lexicographic.{slice_cmp}
 use Rattle.std.specs.declared.cmp.Ordering.{Ordering}
 use Rattle.contest_types.specs.Setup.{Setup}
 use Rattle.contest_types.specs.TeamPlaces.{team_places, team_id_at, is_public}
 use Rattle.contest_types.specs.Order.{in_order}
+use Rattle.contest_types.specs.VisibleIds.{clarification_id}
 use Rattle.contest_types.specs.Clock.{is_frozen}
 use Rattle.contest_types.specs.Masks.{knows_all_of, mask_for, verdict_under}
 use Rattle.contest_types.specs.State.{ContestState, submissions_of, releases_on, clarifications_to}
@@ -144,11 +144,6 @@ seen_clarification a s c = record {
 -- what is heard of one addressee's clarifications
 abbrev pub heard_of : Audience → ContestState → Addressee → List SeenClarification
 heard_of a x addressee = if hears a x.fixed.settings addressee then map (seen_clarification a x.fixed.settings) (clarifications_to addressee x.clarifications) else []
-
--- `g-<number>` for one to all, `c<team number>-<number>` for one of a team
-abbrev pub clarification_id : Addressee → ℕ → List ℕ
-clarification_id ToAll number = codes "g-" ++ decimal number
-clarification_id (ToTeam team) number = codes "c" ++ decimal (team + 1) ++ codes "-" ++ decimal number
 
 -- by time, then by the bytes of the id
 abbrev pub clarification_cmp : SeenClarification → SeenClarification → Ordering

@@ -35,13 +35,34 @@ pub record ContestState : Type 0 where
 abbrev pub submissions_of : ℕ → List Submission → List Submission
 submissions_of team = filter (λ s. s.team == team)
 
+-- what names a submission: the place of its team, and its number among that team's
+pub record SubmissionRef : Type 0 where
+  pub team : ℕ
+  pub number : ℕ
+
+abbrev pub of_submission : Submission → SubmissionRef
+of_submission s = record { team = s.team; number = s.number }
+
+abbrev pub of_release : Release → SubmissionRef
+of_release v = record { team = v.team; number = v.number }
+
+abbrev pub of_proposal : Proposal → SubmissionRef
+of_proposal p = record { team = p.team; number = p.number }
+
+abbrev pub of_member : Member → SubmissionRef
+of_member m = record { team = m.team; number = m.number }
+
+-- it is this team's submission with this number
+abbrev pub names : (team number : ℕ) → SubmissionRef → Bool
+names team number r = (r.team == team) && (r.number == number)
+
 -- the releases on a team's submission with this number
 abbrev pub releases_on : (team number : ℕ) → List Release → List Release
-releases_on team number = filter (λ v. (v.team == team) && (v.number == number))
+releases_on team number = filter (λ v. names team number (of_release v))
 
 -- the proposals for a team's submission with this number
 abbrev pub proposals_for : (team number : ℕ) → List Proposal → List Proposal
-proposals_for team number = filter (λ p. (p.team == team) && (p.number == number))
+proposals_for team number = filter (λ p. names team number (of_proposal p))
 
 abbrev pub same_addressee : Addressee → Addressee → Bool
 same_addressee ToAll ToAll = true

@@ -1,9 +1,8 @@
 -- When the clarifications of a contest are valid (own).
-use Rattle.std.specs.Prelude.{Bool, true, false, not, ◌&&◌, ◌||◌, ◌==◌, nat_le, nat_lt, List, length, map, count_by, is_some, if◌then◌else◌}
+use Rattle.std.specs.Prelude.{ℕ, Bool, true, false, not, ◌&&◌, ◌||◌, ◌==◌, nat_le, nat_lt, List, length, map, count_by, is_some, if◌then◌else◌}
 use Rattle.std.specs.List.{list_any, list_all}
 use Rattle.std.specs.Option.{option_map_or}
 use Rattle.std.specs.Str.{bytes_eq}
-use Rattle.std.proofs.Math.Bool.{beq}
 use Rattle.contest_types.specs.Setup.{Setup}
 use Rattle.contest_types.specs.Accounts.{account_named}
 use Rattle.contest_types.specs.Masks.{audience_at}
@@ -53,9 +52,21 @@ are_valid_clarifications cs =
     count_up (map (λ (c : Clarification). c.number) cs)
     && nat_le (count_by is_request cs) TEAM_REQUESTS && nat_le (count_by (λ (c : Clarification). c.from_jury) cs) JURY_CLARIFICATIONS
 
--- keys are told apart by the team, and for the jury by the account
+-- whose idempotency keys are told apart: a team's, which are its addressee's, or a jury account's
+pub data Scope : Type 0 where
+  OfTeam : Addressee → Scope
+  OfAccount : List ℕ → Scope
+
+abbrev pub same_scope : Scope → Scope → Bool
+same_scope (OfTeam to) (OfTeam other) = same_addressee other to
+same_scope (OfAccount id) (OfAccount other) = bytes_eq other id
+same_scope _ _ = false
+
+abbrev pub scope_of : Clarification → Scope
+scope_of c = if c.from_jury then OfAccount c.account else OfTeam c.addressee
+
 abbrev pub in_one_scope : Clarification → Clarification → Bool
-in_one_scope c d = beq c.from_jury d.from_jury && (if c.from_jury then bytes_eq d.account c.account else same_addressee d.addressee c.addressee)
+in_one_scope c d = same_scope (scope_of c) (scope_of d)
 
 abbrev pub keys_are_own : List Clarification → Bool
 keys_are_own cs = have_own_keys (map (λ (c : Clarification). c.key) cs)
