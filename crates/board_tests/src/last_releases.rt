@@ -148,7 +148,12 @@ fn cells_of(alloc: Global, fixed: &Fixed, case: &Case) -> Result<[Cell; 2], Fail
 fn the_last_release_counts(rt: HostRuntime) -> Result<(), Fail> {
     let fixed = fixed(rt.alloc())?;
     for case in &CASES {
-        assert_eq!(rt; cells_of(rt.alloc(), &fixed, case)?, case.cells, "{}", case.name);
+        assert_eq!(rt;
+            cells_of(rt.alloc(), &fixed, case)?,
+            case.cells,
+            "{}",
+            case.name
+        );
     }
     Ok(())
 }

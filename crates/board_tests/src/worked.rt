@@ -15,7 +15,7 @@ pub fn assert_prints(
     board: &str,
 ) -> Result<(), AllocError> {
     let answer = run(rt.alloc(), options, file)?;
-    assert_eq!(rt; answer.told(), (0, board, ""), "{what}");
+    assert!(rt; answer.is(0, board, ""), "{what}: {answer}");
     Ok(())
 }
 

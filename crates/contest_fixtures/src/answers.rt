@@ -2,6 +2,7 @@
 
 use contest_cli::Counted;
 use std::alloc::{AllocError, Global};
+use std::fmt;
 use std::io::{Read, Write};
 
 /// What a call gave: its status, and what it wrote to standard output and to standard error.
@@ -13,9 +14,21 @@ pub struct Answer {
 }
 
 impl Answer {
-    /// Its status and both texts, to be compared and read in messages.
-    pub fn told(&self) -> (u8, &str, &str) {
-        (self.status, text_of(&self.out), text_of(&self.err))
+    /// Whether it is this status, with these texts.
+    pub fn is(&self, status: u8, out: &str, err: &str) -> bool {
+        self.status == status
+            && self.out.as_slice() == out.as_bytes()
+            && self.err.as_slice() == err.as_bytes()
+    }
+}
+
+/// The status, and both texts below it.
+impl fmt::Display for Answer {
+    fn fmt<W: fmt::Write>(&self, f: &mut fmt::Formatter<W>) -> fmt::Result {
+        let status = self.status;
+        let out = text_of(&self.out);
+        let err = text_of(&self.err);
+        write!(f, "{status}\n{out}{err}")
     }
 }
 

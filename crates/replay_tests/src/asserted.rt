@@ -13,7 +13,7 @@ pub fn assert_prints(
     board: &str,
 ) -> Result<(), AllocError> {
     let answer = run(rt.alloc(), options, file)?;
-    assert_eq!(rt; answer.told(), (0, board, ""), "{what}");
+    assert!(rt; answer.is(0, board, ""), "{what}: {answer}");
     Ok(())
 }
 
@@ -25,6 +25,6 @@ pub fn assert_refuses(
     line: &str,
 ) -> Result<(), AllocError> {
     let answer = run(rt.alloc(), "", file)?;
-    assert_eq!(rt; answer.told(), (1, "", line), "{what}");
+    assert!(rt; answer.is(1, "", line), "{what}: {answer}");
     Ok(())
 }

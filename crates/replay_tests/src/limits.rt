@@ -47,8 +47,10 @@ fn takes_so_many_rows_and_no_more(rt: HostRuntime) -> Result<(), Fail> {
         let repeat = rows(rt.alloc(), kind, tail, 1)?;
         let file = format!(in rt.alloc(); "{START}{most}{repeat}")?;
         let answer = run(rt.alloc(), "", file.as_bytes())?;
-        let (status, _, err) = answer.told();
-        assert_eq!(rt; (status, err), (0, ""), "{kind}");
+        assert!(rt;
+            answer.status == 0 && answer.err.is_empty(),
+            "{kind}: {answer}"
+        );
 
         let record = limit + 2;
         let over = format!(in rt.alloc(); "{kind},k0,L0,{tail}\n")?;
@@ -99,7 +101,10 @@ Rank  Team   Solved    Time          A          B
     let file = format!(in rt.alloc(); "{full}submission,t1,a,1:00:00,WA\n")?;
     let answer = run(rt.alloc(), "--at 0:30:00", file.as_bytes())?;
     let line = "refused: E22 ImportRow 511 TableFull\n";
-    assert_eq!(rt; answer.told(), (1, "", line), "one that is left out counts");
+    assert!(rt;
+        answer.is(1, "", line),
+        "one that is left out counts: {answer}"
+    );
     Ok(())
 }
 
@@ -136,27 +141,29 @@ Rank  Team  Solved    Time
 
 /// A text, the bytes that it is filled up to, whether the reader then fails, and what comes of it:
 /// the status, the board and the line.
-static SIZES: [(&str, usize, bool, (u8, &str, &str)); 7] = [
-    (START, FILE_LIMIT, false, (0, EMPTY_BOARD, "")),
-    (START, FILE_LIMIT, true, (1, "", "refused: File\n")),
-    (START, FILE_LIMIT + 1, false, TOO_LARGE),
-    (START, FILE_LIMIT + 1, true, TOO_LARGE),
-    (START, FILE_LIMIT + 1000, false, TOO_LARGE),
+static SIZES: [(&str, usize, bool, u8, &str, &str); 7] = [
+    (START, FILE_LIMIT, false, 0, EMPTY_BOARD, ""),
+    (START, FILE_LIMIT, true, 1, "", "refused: File\n"),
+    (START, FILE_LIMIT + 1, false, 1, "", TOO_LARGE),
+    (START, FILE_LIMIT + 1, true, 1, "", TOO_LARGE),
+    (START, FILE_LIMIT + 1000, false, 1, "", TOO_LARGE),
     (
         "kind,id,f1,f2,f3\ncontest,c,Cup,1:00:00,\nnonsense\n",
         FILE_LIMIT + 1,
         false,
+        1,
+        "",
         TOO_LARGE,
     ),
-    ("nonsense\n", FILE_LIMIT + 1, false, TOO_LARGE),
+    ("nonsense\n", FILE_LIMIT + 1, false, 1, "", TOO_LARGE),
 ];
 
-const TOO_LARGE: (u8, &str, &str) = (1, "", "refused: E6 BodyTooLarge\n");
+const TOO_LARGE: &str = "refused: E6 BodyTooLarge\n";
 
 /// What is past the limit is left unread.
 #[test]
 fn takes_a_byte_past_the_limit_and_no_more(rt: HostRuntime) -> Result<(), Fail> {
-    for (text, length, fails, told) in &SIZES {
+    for (text, length, fails, status, board, line) in &SIZES {
         let mut reader = Padded {
             text: text.as_bytes(),
             taken: 0,
@@ -164,8 +171,15 @@ fn takes_a_byte_past_the_limit_and_no_more(rt: HostRuntime) -> Result<(), Fail> 
             fails: *fails,
         };
         let answer = answer_to(rt.alloc(), &["replay"], &mut reader);
-        assert_eq!(rt; answer.told(), *told, "{length} bytes of {text}");
-        assert_eq!(rt; reader.taken, (*length).min(FILE_LIMIT + 1), "{length} bytes of {text}");
+        assert!(rt;
+            answer.is(*status, board, line),
+            "{length} bytes of {text}: {answer}"
+        );
+        assert_eq!(rt;
+            reader.taken,
+            (*length).min(FILE_LIMIT + 1),
+            "{length} bytes of {text}"
+        );
     }
     Ok(())
 }

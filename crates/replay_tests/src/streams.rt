@@ -2,9 +2,7 @@
 
 ghost use Rattle.std.specs.Prelude.{◌≤◌, length};
 
-use contest_fixtures::{
-    Answer, FIRST, FIRST_BOARD, HEAD, LAST, answer_to, replay, text_of,
-};
+use contest_fixtures::{Answer, FIRST, FIRST_BOARD, HEAD, LAST, answer_to, replay, text_of};
 use std::alloc::Global;
 use std::io;
 use std::io::{Read, Write};
@@ -89,7 +87,10 @@ fn refuses_a_reader_that_fails(rt: HostRuntime) -> Result<(), Fail> {
     for (file, piece) in [(good.as_bytes(), 7), (bad.as_bytes(), 1)] {
         for cut in 0..=file.len() {
             let answer = broken(rt.alloc(), &file[..cut], piece);
-            assert_eq!(rt; answer.told(), (1, "", "refused: File\n"), "cut at {cut}");
+            assert!(rt;
+                answer.is(1, "", "refused: File\n"),
+                "cut at {cut}: {answer}"
+            );
         }
     }
     Ok(())
@@ -106,16 +107,19 @@ fn interrupted(alloc: Global, file: &[u8], interrupts: u32) -> Answer {
     answer_to(alloc, &["replay"], &mut reader)
 }
 
+/// How many reads are interrupted, and what comes of it.
+static INTERRUPTED: [(u32, u8, &str, &str); 3] = [
+    (1, 0, FIRST_BOARD, ""),
+    (1000, 0, FIRST_BOARD, ""),
+    (1001, 1, "", "refused: File\n"),
+];
+
 #[test]
 fn tries_an_interrupted_read_a_thousand_times(rt: HostRuntime) -> Result<(), Fail> {
     let file = format!(in rt.alloc(); "{HEAD}{FIRST}{LAST}")?;
-    for (times, told) in [
-        (1, (0, FIRST_BOARD, "")),
-        (1000, (0, FIRST_BOARD, "")),
-        (1001, (1, "", "refused: File\n")),
-    ] {
-        let answer = interrupted(rt.alloc(), file.as_bytes(), times);
-        assert_eq!(rt; answer.told(), told, "{times} times");
+    for (times, status, board, line) in &INTERRUPTED {
+        let answer = interrupted(rt.alloc(), file.as_bytes(), *times);
+        assert!(rt; answer.is(*status, board, line), "{times} times: {answer}");
     }
     Ok(())
 }
@@ -144,11 +148,17 @@ fn refuses_a_writer_that_fails_at_any_byte(rt: HostRuntime) -> Result<(), Fail> 
     let board = FIRST_BOARD.as_bytes();
     for room in 0..=board.len() {
         let front = text_of(&board[..room]);
-        for (piece, fails) in [(3, true), (3, false), (board.len(), true), (board.len(), false)] {
+        for (piece, fails) in [
+            (3, true),
+            (3, false),
+            (board.len(), true),
+            (board.len(), false),
+        ] {
             let answer = written(rt.alloc(), file.as_bytes(), room, piece, fails);
             let is_done = room == board.len() && !fails;
-            let told = if is_done { (0, front, "") } else { (1, front, "refused: File\n") };
-            assert_eq!(rt; answer.told(), told, "{room} bytes");
+            let status = u8::from(!is_done);
+            let line = if is_done { "" } else { "refused: File\n" };
+            assert!(rt; answer.is(status, front, line), "{room} bytes: {answer}");
         }
     }
     Ok(())
@@ -179,7 +189,7 @@ fn keeps_its_status_where_the_line_cannot_be_written(rt: HostRuntime) -> Result<
         let front = text_of(&line[..room]);
         for fails in [true, false] {
             let answer = refused(rt.alloc(), room, fails);
-            assert_eq!(rt; answer.told(), (1, "", front), "{room} bytes");
+            assert!(rt; answer.is(1, "", front), "{room} bytes: {answer}");
         }
     }
     Ok(())

@@ -44,9 +44,11 @@ fn unread(alloc: Global, options: &str) -> Result<Answer, AllocError> {
 fn refuses_words_before_it_reads(rt: HostRuntime) -> Result<(), Fail> {
     for options in &REFUSED {
         let answer = unread(rt.alloc(), options)?;
-        let (status, out, err) = answer.told();
-        assert_eq!(rt; (status, out), (2, ""), "{options}");
-        assert!(rt; !err.is_empty(), "standard error, {options}");
+        assert_eq!(rt; answer.status, 2, "{options}: {answer}");
+        assert!(rt;
+            answer.out.is_empty() && !answer.err.is_empty(),
+            "{options}: {answer}"
+        );
     }
     Ok(())
 }
@@ -146,9 +148,12 @@ fn ran(alloc: Global, words: &[&str]) -> Answer {
 fn tells_faults_of_words(rt: HostRuntime) -> Result<(), Fail> {
     for row in &SAID {
         let answer = ran(rt.alloc(), row.words);
-        let (status, out, err) = answer.told();
-        assert_eq!(rt; (status, out), (row.status, ""), "at {}", row.said);
-        assert!(rt; err.starts_with(row.said), "{err}");
+        let is_said = answer.out.is_empty() && answer.err.starts_with(row.said.as_bytes());
+        assert!(rt;
+            answer.status == row.status && is_said,
+            "at {}: {answer}",
+            row.said
+        );
     }
     Ok(())
 }

@@ -40,7 +40,11 @@ fn the_clock_goes_through_a_contest(rt: HostRuntime) -> Result<(), Fail> {
     assert_eq!(rt; end_of(&settings, &marks), Some(15 * HOUR));
     assert_eq!(rt; freeze_of(&settings, &marks), Some(14 * HOUR));
     for (now, clock) in &MOMENTS {
-        assert_eq!(rt; clock_at(&settings, &marks, moment(*now)?), *clock, "at {now}");
+        assert_eq!(rt;
+            clock_at(&settings, &marks, moment(*now)?),
+            *clock,
+            "at {now}"
+        );
     }
     Ok(())
 }

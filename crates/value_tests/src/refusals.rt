@@ -5,7 +5,12 @@ use contest_types::{Cause, Refusal};
 static REFUSALS: [(Refusal, u8, &str, u16); 4] = [
     (Refusal::Malformed, 1, "Malformed", 400),
     (Refusal::HeadTooLarge, 7, "HeadTooLarge", 431),
-    (Refusal::ImportRow(3, Cause::TableFull), 22, "ImportRow", 409),
+    (
+        Refusal::ImportRow(3, Cause::TableFull),
+        22,
+        "ImportRow",
+        409,
+    ),
     (Refusal::Memory, 25, "Memory", 503),
 ];
 

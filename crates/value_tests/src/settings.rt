@@ -100,7 +100,10 @@ fn rows_are_taken_or_refused(rt: HostRuntime) -> Result<(), Fail> {
         let answer = add_row(rt.alloc(), &mut settings, added.row);
         assert_eq!(rt; answer, added.answer, "{:?}", added.row);
     }
-    assert_eq!(rt; places(&settings), [Some(1), Some(0), Some(0), None, Some(0), Some(0)]);
+    assert_eq!(rt;
+        places(&settings),
+        [Some(1), Some(0), Some(0), None, Some(0), Some(0)]
+    );
     Ok(())
 }
 

@@ -1,7 +1,9 @@
 //! Ids, names, numbers and times: what is read, and what is printed.
 
 use contest_types::limits::LAST_MOMENT;
-use contest_types::{Id, Moment, Name, Refusal, RelTime, decimal_number, print_reltime, print_time};
+use contest_types::{
+    Id, Moment, Name, Refusal, RelTime, decimal_number, print_reltime, print_time,
+};
 use std::alloc::Global;
 use std::test::Fail;
 
