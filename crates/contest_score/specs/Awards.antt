@@ -6,6 +6,7 @@ use Rattle.std.specs.Ordering.{nat_cmp}
 use Rattle.std.specs.Cmp.Lexicographic.{slice_cmp}
 use Rattle.contest_types.specs.Setup.{Setup}
 use Rattle.contest_types.specs.Clock.{freeze_of, is_thawed, is_finalized}
+use Rattle.contest_types.specs.TeamPlaces.{is_of_group}
 use Rattle.contest_types.specs.Masks.{is_jury}
 use Rattle.contest_types.specs.State.{ContestState}
 use Rattle.contest_types.specs.declared.audience.Audience.{Audience}
@@ -56,7 +57,7 @@ first_to_solve s rows solves problem =
 
 -- the team of the row is in the group at a place
 abbrev pub is_in_group : Setup → ℕ → Row → Bool
-is_in_group s group r = option_map_or (λ t. list_any (λ g. g == group) t.groups) (slice_get s.teams r.team) false
+is_in_group s group r = is_of_group s group r.team
 
 abbrev pub group_id_at : Setup → ℕ → List ℕ
 group_id_at s group = option_map_or (λ g. g.id) (slice_get s.groups group) []
