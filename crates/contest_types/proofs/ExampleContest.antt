@@ -59,7 +59,7 @@ settings = record {
       record { id = codes "AC"; name = codes "correct"; solved = true; penalty = false }
       ∷ record { id = codes "WA"; name = codes "wrong answer"; solved = false; penalty = true }
       ∷ record { id = codes "CE"; name = codes "compile error"; solved = false; penalty = false } ∷ [];
-  languages = record { id = codes "cpp"; name = codes "C++"; entry_point_required = false } ∷ [];
+  languages = record { id = codes "cpp"; name = codes "C++"; entry_point_required = false } ∷ record { id = codes "java"; name = codes "Java"; entry_point_required = true } ∷ [];
   problems =
       record { id = codes "a"; label = codes "A"; name = codes "Apples"; ordinal = 0 }
       ∷ record { id = codes "b"; label = codes "B"; name = codes "Bridges"; ordinal = 1 } ∷ [];

@@ -81,7 +81,7 @@ bad_submissions =
     ∷ with_submissions (submitted 0 1 9 0 ∷ submitted 0 2 8 0 ∷ [])
     ∷ with_submissions (record (submitted 0 1 9 0) { key = Some (codes "k") } ∷ record (submitted 0 2 9 0) { key = Some (codes "k") } ∷ [])
     ∷ with_submissions (submitted 0 1 (hours 5) 0 ∷ [])
-    ∷ with_submissions (submitted 4 1 0 0 ∷ []) ∷ with_submissions (submitted 0 1 0 2 ∷ []) ∷ with_submissions (record (submitted 0 1 0 0) { language = 1 } ∷ [])
+    ∷ with_submissions (submitted 4 1 0 0 ∷ []) ∷ with_submissions (submitted 0 1 0 2 ∷ []) ∷ with_submissions (record (submitted 0 1 0 0) { language = 2 } ∷ [])
     ∷ with_marks (record started { start = Some 10 }) (with_submissions (submitted 0 1 9 0 ∷ []))
     ∷ []
 
