@@ -29,6 +29,8 @@ pub mod AddSettings
 pub mod AddRows
 pub mod AddEntry
 mod ExamplesValid
+mod ExamplesSettings
+mod ExamplesAdding
 pub mod Different
 pub mod InOrderLemmas
 pub mod Rising

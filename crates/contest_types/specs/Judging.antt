@@ -1,8 +1,7 @@
 -- What judging a submission rests on and adds (DOMjudge manual, "Judging"; Contest API 2023-06, judgements).
-use Rattle.std.specs.Prelude.{ℕ, ◌+◌, Bool, List, [], ◌∷◌, length, map, Option, Some, None}
+use Rattle.std.specs.Prelude.{ℕ, ◌+◌, List, [], length, Option, Some, None}
 use Rattle.std.specs.List.{filter_map, last_or}
 use Rattle.std.specs.Option.{option_map}
-use Rattle.contest_types.specs.Setup.{Setup}
 use Rattle.contest_types.specs.State.{ContestState, SubmissionRef, releases_on, proposals_for}
 use Rattle.contest_types.specs.Sight.{Judgement, SeenSubmission, seen_submissions}
 use Rattle.contest_types.specs.declared.audience.Audience.{Audience}
