@@ -1,4 +1,5 @@
 -- The verdicts that were released last, one for each submission (Contest API 2023-06, judgements).
+-- Words of private functions: nothing public is said with them.
 use Rattle.std.specs.Prelude.{ℕ, ◌&&◌, ◌==◌, List, map, Option, None, Some, if◌then◌else◌}
 use Rattle.std.specs.List.{last_or}
 use Rattle.std.specs.HashMap.{HashMap, get}
