@@ -140,18 +140,22 @@ fn listing(alloc: Global, awards: &Awards) -> Result<String, Fail> {
     Ok(text)
 }
 
-fn listed(alloc: Global, settings: &Settings, awarded: &Awarded) -> Result<String, Fail> {
+fn listed_in(alloc: Global, settings: &Settings, awarded: &Awarded) -> Result<String, Fail> {
     let board = board_of(alloc, awarded.board)?;
     let solves = solves_of(alloc, awarded.solves)?;
     let awards = awards(alloc, settings, &board, &solves)?;
     listing(alloc, &awards)
 }
 
+fn listed(alloc: Global, awarded: &Awarded) -> Result<String, Fail> {
+    let settings = settings(alloc, awarded.medals)?;
+    listed_in(alloc, &settings, awarded)
+}
+
 #[test]
 fn awards_go_by_rank(rt: HostRuntime) -> Result<(), Fail> {
     for awarded in &AWARDED {
-        let settings = settings(rt.alloc(), awarded.medals)?;
-        let text = listed(rt.alloc(), &settings, awarded)?;
+        let text = listed(rt.alloc(), awarded)?;
         assert_eq!(rt; text.as_str(), awarded.listing, "{}", awarded.shows);
     }
     Ok(())

@@ -4,6 +4,7 @@ use contest_fixtures::{SettingRow, demo_settings, moment};
 use contest_score::{Cell, Cells, can_be_scored, contest_cells};
 use contest_types::{Audience, Fixed, Marks, Minute, Release, Rows, Submission};
 use std::alloc::Global;
+use std::process::Abort;
 use std::test::Fail;
 
 static ROWS: [SettingRow; 5] = [
@@ -144,16 +145,21 @@ fn cells_of(alloc: Global, fixed: &Fixed, case: &Case) -> Result<[Cell; 2], Fail
     Ok([cells.cell(0, 0), cells.cell(1, 0)])
 }
 
+fn assert_counts(rt: &(impl Abort + AllocGlobal), fixed: &Fixed, case: &Case) -> Result<(), Fail> {
+    let cells = cells_of(rt.alloc(), fixed, case)?;
+    assert!(rt; cells == case.cells, "{}: {cells:?}", case.name);
+    Ok(())
+}
+
+fn assert_all_count(rt: &(impl Abort + AllocGlobal), fixed: &Fixed) -> Result<(), Fail> {
+    for case in &CASES {
+        assert_counts(rt, fixed, case)?;
+    }
+    Ok(())
+}
+
 #[test]
 fn the_last_release_counts(rt: HostRuntime) -> Result<(), Fail> {
     let fixed = fixed(rt.alloc())?;
-    for case in &CASES {
-        assert_eq!(rt;
-            cells_of(rt.alloc(), &fixed, case)?,
-            case.cells,
-            "{}",
-            case.name
-        );
-    }
-    Ok(())
+    assert_all_count(&rt, &fixed)
 }

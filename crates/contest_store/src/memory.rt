@@ -57,7 +57,7 @@ impl MemoryRecords {
     }
 
     /// Lets so many more calls go on, and the one after them fail. That it then fails is shown by tests
-    /// (`kept_in_memory` of desk_tests): the clauses of the calls are those of any store.
+    /// (`kept_in_memory` of submission_tests): the clauses of the calls are those of any store.
     pub fn fail_after(&mut self, calls: u32)
         ensures { self.new ≡ record self.old { calls_left = Some calls } }
     {

@@ -1,11 +1,10 @@
 //! The demo contest with its accounts, on a desk that keeps it in memory, and what the tests ask
 //! there.
 
-use crate::demo_contest::demo;
 use contest_desk::{
     ContentType, Credential, Desk, ExtraField, Item, KeyField, Method, Reply, Request,
 };
-use contest_fixtures::{SettingRow, id, text_of};
+use contest_fixtures::{SettingRow, demo, id, text_of};
 use contest_store::{MemoryRecords, is_valid_fixed};
 use contest_types::{Account, Digest, Fixed, Moment, Role, Rows};
 use sha2::{Digest as _, Sha256};
@@ -195,22 +194,24 @@ pub fn reply_to(alloc: Global, desk: &mut Desk<MemoryRecords>, item: Item) -> Re
     desk.handle(alloc, item.now, item.credential, item.request)
 }
 
+fn is(reply: &Reply, asked: &Asked) -> bool {
+    reply.status == asked.status
+        && reply.content == ContentType::Json
+        && reply.extra == asked.extra
+        && reply.body.as_bytes() == asked.answer.as_bytes()
+}
+
 /// Asserts that the reply is the one that is wanted.
 pub fn assert_is(rt: &impl Abort, reply: &Reply, asked: &Asked) {
-    assert_eq!(rt;
-        text_of(reply.body.as_bytes()),
-        asked.answer,
-        "the body, {}",
-        asked.shows
-    );
-    assert_eq!(rt; reply.status, asked.status, "the status, {}", asked.shows);
-    assert_eq!(rt;
+    let body = text_of(reply.body.as_bytes());
+    assert!(rt;
+        is(reply, asked),
+        "{}: {} {:?} {:?} {body}",
+        asked.shows,
+        reply.status,
         reply.content,
-        ContentType::Json,
-        "the type, {}",
-        asked.shows
+        reply.extra
     );
-    assert_eq!(rt; reply.extra, asked.extra, "the field, {}", asked.shows);
 }
 
 /// Asserts that the desk gives this reply.

@@ -1,8 +1,10 @@
 //! Requests handled in one run are answered as one by one.
 
 use crate::demo_desk::{Asked, Key, LISTS, POSTS, Who, assert_answers, assert_is, desk, item};
-use contest_desk::Item;
+use contest_desk::{Desk, Item, Reply};
+use contest_store::MemoryRecords;
 use std::alloc::Global;
+use std::process::Abort;
 use std::test::Fail;
 
 static RUN: [Asked; 3] = [
@@ -33,14 +35,28 @@ fn items(alloc: Global) -> Result<Vec<Item>, Fail> {
     Ok(items)
 }
 
-#[test]
-fn runs_as_one_by_one(rt: HostRuntime) -> Result<(), Fail> {
-    let replies = desk(rt.alloc())?.run(rt.alloc(), items(rt.alloc())?)?;
-    assert_eq!(&rt; replies.len(), RUN.len());
-    let mut one_by_one = desk(rt.alloc())?;
-    for (asked, reply) in RUN.iter().zip(&replies) {
-        assert_is(&rt, reply, asked);
-        assert_answers(&rt, &mut one_by_one, asked)?;
+/// What one run answers.
+fn replies(alloc: Global) -> Result<Vec<Reply>, Fail> {
+    let items = items(alloc)?;
+    Ok(desk(alloc)?.run(alloc, items)?)
+}
+
+fn assert_one_by_one(
+    rt: &(impl Abort + AllocGlobal),
+    desk: &mut Desk<MemoryRecords>,
+    replies: &[Reply],
+) -> Result<(), Fail> {
+    assert_eq!(rt; replies.len(), RUN.len());
+    for (asked, reply) in RUN.iter().zip(replies) {
+        assert_is(rt, reply, asked);
+        assert_answers(rt, desk, asked)?;
     }
     Ok(())
+}
+
+#[test]
+fn runs_as_one_by_one(rt: HostRuntime) -> Result<(), Fail> {
+    let replies = replies(rt.alloc())?;
+    let mut desk = desk(rt.alloc())?;
+    assert_one_by_one(&rt, &mut desk, &replies)
 }

@@ -4,6 +4,7 @@ use contest_fixtures::{demo_settings, moment};
 use contest_types::{
     Marks, Moment, Settings, end_of, freeze_of, is_finalized, is_freezing, is_frozen, is_thawed,
 };
+use std::process::Abort;
 use std::test::Fail;
 
 const HOUR: u64 = 3_600_000;
@@ -33,18 +34,22 @@ fn clock_at(settings: &Settings, marks: &Marks, now: Moment) -> [bool; 4] {
     ]
 }
 
-#[test]
-fn the_clock_goes_through_a_contest(rt: HostRuntime) -> Result<(), Fail> {
-    let settings = demo_settings(rt.alloc(), &[])?;
+fn assert_clock(rt: &impl Abort, settings: &Settings) -> Result<(), Fail> {
     let marks = marks()?;
-    assert_eq!(rt; end_of(&settings, &marks), Some(15 * HOUR));
-    assert_eq!(rt; freeze_of(&settings, &marks), Some(14 * HOUR));
+    assert_eq!(rt; end_of(settings, &marks), Some(15 * HOUR));
+    assert_eq!(rt; freeze_of(settings, &marks), Some(14 * HOUR));
     for (now, clock) in &MOMENTS {
         assert_eq!(rt;
-            clock_at(&settings, &marks, moment(*now)?),
+            clock_at(settings, &marks, moment(*now)?),
             *clock,
             "at {now}"
         );
     }
     Ok(())
+}
+
+#[test]
+fn the_clock_goes_through_a_contest(rt: HostRuntime) -> Result<(), Fail> {
+    let settings = demo_settings(rt.alloc(), &[])?;
+    assert_clock(&rt, &settings)
 }

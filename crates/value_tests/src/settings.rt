@@ -4,6 +4,7 @@ use contest_fixtures::{SettingRow, add_row, demo_head, demo_settings, span};
 use contest_types::limits::LONGEST_CONTEST;
 use contest_types::{Cause, ContestHead, RowFault, Settings};
 use std::alloc::Global;
+use std::process::Abort;
 use std::test::Fail;
 
 /// A duration, and whether a contest with a freeze of an hour may have it.
@@ -21,16 +22,18 @@ fn lasting(alloc: Global, duration: u64) -> Result<ContestHead, Fail> {
     Ok(head)
 }
 
-/// Why a contest of a duration is refused, if it is.
-fn refused(alloc: Global, duration: u64) -> Result<Option<Cause>, Fail> {
-    Ok(Settings::new(alloc, lasting(alloc, duration)?).err())
+fn is_taken(alloc: Global, head: ContestHead) -> bool {
+    match Settings::new(alloc, head) {
+        Ok(_) => true,
+        Err(cause) => cause != Cause::Malformed,
+    }
 }
 
 #[test]
 fn a_contest_is_so_long(rt: HostRuntime) -> Result<(), Fail> {
     for (duration, taken) in &DURATIONS {
-        let wanted = if *taken { None } else { Some(Cause::Malformed) };
-        assert_eq!(rt; refused(rt.alloc(), *duration)?, wanted, "at {duration}");
+        let head = lasting(rt.alloc(), *duration)?;
+        assert_eq!(rt; is_taken(rt.alloc(), head), *taken, "at {duration}");
     }
     Ok(())
 }
@@ -93,20 +96,6 @@ static ADDED: [Added; 12] = [
     },
 ];
 
-#[test]
-fn rows_are_taken_or_refused(rt: HostRuntime) -> Result<(), Fail> {
-    let mut settings = demo_settings(rt.alloc(), &[])?;
-    for added in &ADDED {
-        let answer = add_row(rt.alloc(), &mut settings, added.row);
-        assert_eq!(rt; answer, added.answer, "{:?}", added.row);
-    }
-    assert_eq!(rt;
-        places(&settings),
-        [Some(1), Some(0), Some(0), None, Some(0), Some(0)]
-    );
-    Ok(())
-}
-
 /// Where some of the rows stand: one or two of each kind.
 fn places(settings: &Settings) -> [Option<usize>; 6] {
     [
@@ -117,4 +106,21 @@ fn places(settings: &Settings) -> [Option<usize>; 6] {
         settings.group_place(b"north"),
         settings.team_place(b"t1"),
     ]
+}
+
+static PLACES: [Option<usize>; 6] = [Some(1), Some(0), Some(0), None, Some(0), Some(0)];
+
+fn assert_adds(rt: &(impl Abort + AllocGlobal), settings: &mut Settings) {
+    for added in &ADDED {
+        let answer = add_row(rt.alloc(), settings, added.row);
+        assert_eq!(rt; answer, added.answer, "{:?}", added.row);
+    }
+}
+
+#[test]
+fn rows_are_taken_or_refused(rt: HostRuntime) -> Result<(), Fail> {
+    let mut settings = demo_settings(rt.alloc(), &[])?;
+    assert_adds(&rt, &mut settings);
+    assert_eq!(rt; places(&settings), PLACES);
+    Ok(())
 }

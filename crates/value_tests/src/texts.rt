@@ -85,17 +85,25 @@ fn is_printed(milliseconds: u64, text: &str) -> bool {
 }
 
 #[test]
-fn reads_and_prints_times(rt: HostRuntime) -> Result<(), Fail> {
+fn reads_and_prints_contest_times(rt: HostRuntime) {
     for (text, shown) in &CONTEST_TIMES {
         assert!(rt; is_contest_time(text, *shown), "the contest time {text}");
     }
+}
+
+#[test]
+fn reads_moments(rt: HostRuntime) -> Result<(), Fail> {
     for (text, milliseconds) in &MOMENTS {
         assert_eq!(rt; milliseconds_of(text)?, *milliseconds, "the moment {text}");
     }
+    Ok(())
+}
+
+#[test]
+fn prints_moments(rt: HostRuntime) {
     for (milliseconds, text) in &PRINTED {
         assert!(rt; is_printed(*milliseconds, text), "{text}");
     }
-    Ok(())
 }
 
 /// The ends of what can be kept: contest times on both sides of zero, and moments.

@@ -2,8 +2,8 @@
 
 ghost use Rattle.std.specs.Prelude.{◌≤◌};
 
-use crate::demo_contest::{TWO_TEAMS, after, demo};
-use contest_fixtures::{id, text_of};
+use crate::teams::TWO_TEAMS;
+use contest_fixtures::{after, demo, id, text_of};
 use contest_rules::{Decision, WantedSubmission, decide_submission};
 use contest_types::{Fixed, Moment, Rows, Submission};
 use contest_view::{Audience, submission_value};

@@ -1,7 +1,7 @@
 //! The submissions that an audience sees, as they are printed: all of them, and one by its id.
 
-use crate::demo_contest::{BETA_FIRST, after, demo};
-use contest_fixtures::text_of;
+use crate::teams::BETA_FIRST;
+use contest_fixtures::{after, demo, text_of};
 use contest_types::{Fixed, Rows, Submission};
 use contest_view::{Audience, submission_by_id, submissions_value};
 use std::alloc::Global;

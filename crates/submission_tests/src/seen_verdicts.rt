@@ -1,8 +1,9 @@
 //! Which submissions and verdicts an audience sees before the thaw: those before the freeze, its own,
 //! and none of a hidden team.
 
-use crate::demo_contest::{BETA_FIRST, after, demo};
 use crate::seen_submissions::submission;
+use crate::teams::BETA_FIRST;
+use contest_fixtures::{after, demo};
 use contest_types::Fixed;
 use contest_view::{Audience, seen_verdict, sees_submission};
 use std::alloc::Global;

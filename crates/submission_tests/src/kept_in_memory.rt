@@ -6,7 +6,8 @@ ghost use Rattle.contest_types.specs.Clock.{reached, end_of};
 ghost use Rattle.contest_types.specs.declared.submission.Submission.{Submission};
 ghost use Rattle.contest_types.specs.ValidSubmissions.{is_valid_submission};
 
-use crate::demo_contest::{TWO_TEAMS, after, demo};
+use crate::teams::TWO_TEAMS;
+use contest_fixtures::{after, demo};
 use contest_store::{MemoryRecords, Records};
 use contest_types::limits::POSTED_FILE;
 use contest_types::{Entry, Fixed, Refusal, Rows, Submission, end_of};

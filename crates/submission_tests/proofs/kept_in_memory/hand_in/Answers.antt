@@ -2,8 +2,8 @@ use Rattle.std.proofs.Common.{◌≡◌, ◌∙◌, true, subst, sym}
 use Rattle.std.specs.Prelude.{◌&&◌, ◌==◌, is_none}
 use Rattle.contest_types.specs.ValidSubmissions.{is_valid_submission}
 use Rattle.contest_store.specs.InMemory.{contest_of}
-use Rattle.desk_tests.proofs.KeptLemmas.{first_addable, has_none}
-use Rattle.desk_tests.proofs.kept_in_memory.hand_in.Goals as goal
+use Rattle.submission_tests.proofs.KeptLemmas.{first_addable, has_none}
+use Rattle.submission_tests.proofs.kept_in_memory.hand_in.Goals as goal
 
 pub append-requires : goal.append-requires
 append-requires c =
