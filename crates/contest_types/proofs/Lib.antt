@@ -36,3 +36,5 @@ pub mod SeenWhole
 pub mod DashedNumbers
 pub mod HeardWhole
 pub mod SettingsTest
+pub mod ShownVerdicts
+pub mod RoleLemmas
