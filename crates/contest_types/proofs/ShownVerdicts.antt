@@ -1,7 +1,9 @@
 -- What is seen of a submission's verdicts, by four tests: whether it is seen, whether all of its team
 -- is known, whether it is thawed, and whether it is frozen.
-use Rattle.std.proofs.Common.{◌≡◌, ℕ, Bool, true, false, Option, Some, None, refl}
+use Rattle.std.proofs.Common.{◌≡◌, ◌⊎◌, ℕ, Bool, true, false, Option, Some, None, refl, sym, inl, inr}
 use Rattle.std.specs.Prelude.{◌||◌, if◌then◌else◌}
+use Rattle.std.specs.Option.{option_map}
+use Rattle.std.proofs.lemmas.Bool.{false≢true}
 use Rattle.contest_types.specs.Clock.{is_frozen, is_thawed}
 use Rattle.contest_types.specs.Masks.{knows_all_of, verdict_under}
 use Rattle.contest_types.specs.State.{ContestState}
@@ -31,3 +33,27 @@ shown_more true seen' false false true frozen last v s k h = rw (s refl) h
 shown_more true seen' false known' false true last v s k h = absurd (cc h)
 shown_more true seen' false true false false last v s k h = rw (s refl) h
 shown_more true seen' false false false false last v s k h = rw (s refl) h
+
+-- the thaw takes nothing away
+pub thaw_adds : {V : Type 0} (seen known thawed frozen : Bool) (last : Option V) (v : V) → shown seen known thawed frozen last ≡ Some v → shown seen known true frozen last ≡ Some v
+thaw_adds false known thawed frozen last v h = absurd (cc h)
+thaw_adds true true thawed frozen last v h = h
+thaw_adds true false true frozen last v h = h
+thaw_adds true false false true last v h = absurd (cc h)
+thaw_adds true false false false last v h = h
+
+-- where nothing is held back, whoever sees the submission is shown the last
+pub shown_whole : {V : Type 0} (seen known thawed frozen : Bool) (last : Option V) → seen ≡ true → (thawed ≡ true) ⊎ (frozen ≡ false) → shown seen known thawed frozen last ≡ last
+shown_whole false known thawed frozen last s h = absurd (false≢true s)
+shown_whole true true thawed frozen last s h = refl
+shown_whole true false true frozen last s h = refl
+shown_whole true false false true last s h = elim h [ inl e ↦ absurd (false≢true e) | inr e ↦ absurd (false≢true (sym e)) ]
+shown_whole true false false false last s h = refl
+
+-- a function of what is shown is shown
+pub shown_of : {V W : Type 0} (f : V → W) (seen known thawed frozen : Bool) (last : Option V) → option_map f (shown seen known thawed frozen last) ≡ shown seen known thawed frozen (option_map f last)
+shown_of f false known thawed frozen last = refl
+shown_of f true true thawed frozen last = refl
+shown_of f true false true frozen last = refl
+shown_of f true false false true last = refl
+shown_of f true false false false last = refl

@@ -1,6 +1,5 @@
 //! Laws of the model: functions that do nothing, and whose contracts say what holds of every contest.
 ghost use Rattle.contest_types.specs.Laws.{IsAlikeToItself, IsAlikeBothWays, IsAlikeOnward, AlikeShowTheSame, AlikeTellTheSame, SeenIsListed, SeenIsInOrder, OneListIsSeen, HeardIsListed, OneListIsHeard, OneOrder, SettingsAreTested, AddingKeepsValid};
-ghost use Rattle.contest_types.specs.SightLaws.{RolesSeeNoLess, RolesHearNoLess, RolesKeepVerdicts};
 ghost use Rattle.contest_types.specs.Sight.{SeenSubmission, SeenClarification};
 
 /// A contest is alike to itself.
@@ -75,20 +74,4 @@ pub fn settings_are_tested()
 /// What may be added keeps a valid contest valid, one change after another.
 pub fn adding_keeps_valid()
     ensures { AddingKeepsValid }
-{}
-
-/// Nobody loses sight of a submission by a role: what the public sees every team sees, and what a team
-/// sees the jury sees.
-pub fn roles_see_no_less()
-    ensures { RolesSeeNoLess }
-{}
-
-/// Nor of a clarification.
-pub fn roles_hear_no_less()
-    ensures { RolesHearNoLess }
-{}
-
-/// Nor of a verdict.
-pub fn roles_keep_verdicts()
-    ensures { RolesKeepVerdicts }
 {}
