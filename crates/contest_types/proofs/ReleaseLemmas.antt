@@ -1,5 +1,5 @@
 -- What a change leaves of what is seen and heard.
-use Rattle.std.proofs.Common.{◌≡◌, ℕ, Bool, true, false, List, [], ◌∷◌, map, Option, refl, sym, ap, ◌∙◌}
+use Rattle.std.proofs.Common.{◌≡◌, ℕ, true, false, List, [], ◌∷◌, map, Option, refl, sym, ap, ◌∙◌}
 use Rattle.std.specs.Prelude.{if◌then◌else◌}
 use Rattle.std.specs.List.{list_all, flat_map}
 use Rattle.std.proofs.Math.Path.{fun_ext}
@@ -23,6 +23,7 @@ seen_with a x judgement =
 by_verdicts : (a : Audience) (x : ContestState) (f g : Submission → Option Judgement) → ((s : Submission) → f s ≡ g s) → seen_with a x f ≡ seen_with a x g
 by_verdicts a x f g h = ap (seen_with a x) (fun_ext h)
 
+-- what may show no submission shows none
 pub shows_no_submission : (a : Audience) (now : ℕ) (x : ContestState) (e : Entry) → may_show_submissions e ≡ false → seen_submissions a now (add x e) ≡ seen_submissions a now x
 shows_no_submission a now x (NewSubmission s) h = absurd (false≢true (sym h))
 shows_no_submission a now x (NewProposal p) h = refl
@@ -60,7 +61,7 @@ shows_no_clarification a x (NewTeam t) h = absurd (false≢true (sym h))
 shows_no_clarification a x (NewAccount b) h = refl
 
 -- judging before its release is none of those
-shows_neither : (e : Entry) → is_before_release e ≡ true → (may_show_submissions e ≡ false) × (may_show_clarifications e ≡ false)
+pub shows_neither : (e : Entry) → is_before_release e ≡ true → (may_show_submissions e ≡ false) × (may_show_clarifications e ≡ false)
 shows_neither (NewSubmission s) h = absurd (false≢true h)
 shows_neither (NewProposal p) h = (refl, refl)
 shows_neither (NewRelease v) h = absurd (false≢true h)

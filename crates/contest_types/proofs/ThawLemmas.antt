@@ -1,6 +1,6 @@
 -- What the thaw changes of what is seen, and what it leaves.
 use Rattle.std.proofs.Common.{◌≡◌, ◌⊎◌, ℕ, ◌+◌, Bool, true, false, List, [], ◌∷◌, map, length, Option, Some, None, refl, sym, ◌∙◌, ap, inl, inr}
-use Rattle.std.specs.Prelude.{◌==◌, ◌||◌, find, filter, count_by, cond, if◌then◌else◌}
+use Rattle.std.specs.Prelude.{◌==◌, ◌||◌, find, count_by, cond, if◌then◌else◌}
 use Rattle.std.specs.List.{cons_option, filter_map, flat_map, range_with_len}
 use Rattle.std.specs.Option.{option_map}
 use Rattle.std.specs.Ordering.{is_lt}
@@ -19,7 +19,7 @@ use Rattle.contest_types.specs.SightLaws.{without_judgement}
 use Rattle.contest_types.specs.declared.audience.Audience.{Audience}
 use Rattle.contest_types.specs.declared.audience.Audience.TheVariants.{Jury}
 use Rattle.contest_types.specs.declared.submission.Submission.{Submission}
-use Rattle.contest_types.proofs.ShownVerdicts.{is_shown, thaw_adds, shown, shown_whole, shown_of}
+use Rattle.contest_types.proofs.ShownVerdicts.{is_shown, thaw_adds, shown_whole, shown_of}
 use Rattle.contest_types.proofs.SightLemmas.{flat_map_same}
 
 pub only_adds : (a : Audience) (now later : ℕ) (x : ContestState) (s : Submission) (j : Judgement) → is_thawed x.fixed.marks later ≡ true → seen_judgement a now x s ≡ Some j → seen_judgement a later x s ≡ Some j

@@ -1,6 +1,6 @@
 -- What a contest director asks of who sees what, in the subject's words. Each is the contract of a
 -- function of src/sight_laws.rt.
-use Rattle.std.specs.Prelude.{◌≡◌, ◌⊎◌, ◌↔◌, ℕ, Bool, true, false, ◌&&◌, ◌||◌, ◌==◌, nat_lt, List, map, Option, Some, None, is_some, if◌then◌else◌}
+use Rattle.std.specs.Prelude.{◌≡◌, ◌⊎◌, ◌↔◌, ℕ, Bool, true, false, ◌&&◌, ◌||◌, ◌==◌, nat_lt, List, map, Some, None, is_some, if◌then◌else◌}
 use Rattle.std.specs.List.{list_all}
 use Rattle.contest_types.specs.Setup.{Setup}
 use Rattle.contest_types.specs.Order.{Has, IsInOrder}
@@ -92,7 +92,7 @@ may_show_submissions (SetThaw thaw) = true
 may_show_submissions (NewTeam t) = true
 may_show_submissions _ = false
 
--- and nothing else does
+-- and nothing else changes what is seen of submissions and verdicts
 abbrev pub OnlyTheseShowSubmissions : Type 0
 OnlyTheseShowSubmissions =
     (a : Audience) (now : ℕ) (x : ContestState) (e : Entry) → may_show_submissions e ≡ false → seen_submissions a now (add x e) ≡ seen_submissions a now x
@@ -103,7 +103,7 @@ may_show_clarifications (NewClarification c) = true
 may_show_clarifications (NewTeam t) = true
 may_show_clarifications _ = false
 
--- and nothing else does
+-- and nothing else changes what is heard of them
 abbrev pub OnlyTheseShowClarifications : Type 0
 OnlyTheseShowClarifications =
     (a : Audience) (x : ContestState) (e : Entry) → may_show_clarifications e ≡ false → seen_clarifications a (add x e) ≡ seen_clarifications a x

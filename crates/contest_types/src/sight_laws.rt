@@ -53,13 +53,13 @@ pub fn judging_shows_nothing()
     ensures { JudgingShowsNothing }
 {}
 
-/// Only a submission, a release, the start, the thaw and a new team change what anyone sees of
+/// Only a submission, a release, the start, the thaw and a new team may change what anyone sees of
 /// submissions and verdicts.
 pub fn only_these_show_submissions()
     ensures { OnlyTheseShowSubmissions }
 {}
 
-/// Only a clarification and a new team change what anyone hears of clarifications.
+/// Only a clarification and a new team may change what anyone hears of clarifications.
 pub fn only_these_show_clarifications()
     ensures { OnlyTheseShowClarifications }
 {}
