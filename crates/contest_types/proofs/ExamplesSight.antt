@@ -3,17 +3,20 @@ use Rattle.std.proofs.Common.{◌≡◌, ℕ, ◌+◌, ◌-◌, List, [], ◌∷
 use Rattle.std.specs.Prelude.{codes}
 use Rattle.std.specs.Fmt.{digits}
 use Rattle.contest_types.specs.Clock.{end_of, freeze_of, is_frozen, is_freezing, is_finalized, phase_at}
-use Rattle.contest_types.specs.State.{ContestState}
+use Rattle.contest_types.specs.State.{ContestState, Entry, NewProposal, NewRelease, NewRejudging, SetMember, SetRejudging, add, add_all}
 use Rattle.contest_types.specs.Setup.{Setup}
 use Rattle.contest_types.specs.VisibleIds.{judgement_id, clarification_id}
 use Rattle.contest_types.specs.Judging.{SeenJudgement, seen_judgements, Proposed, open_proposals}
-use Rattle.contest_types.specs.Sight.{Program, SeenSubmission, SeenClarification, Judgement, seen_submissions, seen_clarifications, seen_verdict, sees_team}
+use Rattle.contest_types.specs.Sight.{Program, SeenSubmission, SeenClarification, Judgement, seen_submissions, seen_clarifications, full_verdict, held_verdict, seen_verdict, sees_team}
 use Rattle.contest_types.specs.declared.audience.Audience.{Audience}
 use Rattle.contest_types.specs.declared.audience.Audience.TheVariants as audience
 use Rattle.contest_types.specs.declared.audience.Phase.TheVariants as phase
 use Rattle.contest_types.specs.declared.clarification.Addressee.TheVariants as addressee
 use Rattle.contest_types.specs.declared.clarification.Reference.{Reference}
-use Rattle.contest_types.proofs.ExampleContest.{minutes, hours, settings, started, empty, thawed_at, team_named, accepted, wrong, submitted, released, proposed, asked, announced}
+use Rattle.contest_types.specs.declared.submission.Submission.{Submission}
+use Rattle.contest_types.specs.declared.rejudging.RejudgingState.TheVariants as state
+use Rattle.contest_types.specs.declared.rejudging.MemberState.TheVariants as member
+use Rattle.contest_types.proofs.ExampleContest.{minutes, hours, settings, started, empty, thawed_at, team_named, accepted, wrong, submitted, released, proposed, asked, announced, rejudged}
 
 ends : end_of settings started ≡ Some (hours 5)
 ends = refl
@@ -204,8 +207,8 @@ judgements_seen a now x = map (λ (v : SeenJudgement). (v.submission.number, v.j
 last_judged : judgements_seen audience.Public 0 judged_twice ≡ (1, wrong) ∷ []
 last_judged = refl
 
-held_back : judgements_seen audience.Public (hours 4 + minutes 20) around_freeze ≡ (1, accepted) ∷ []
-held_back = refl
+judged_before_freeze : judgements_seen audience.Public (hours 4 + minutes 20) around_freeze ≡ (1, accepted) ∷ []
+judged_before_freeze = refl
 
 jury_judges : judgements_seen audience.Jury (hours 4 + minutes 20) around_freeze ≡ (1, accepted) ∷ (2, accepted) ∷ []
 jury_judges = refl
@@ -220,3 +223,35 @@ proposed_twice = record around_freeze { releases = released 1 1 1 accepted 9 ∷
 
 one_waits : map (λ (p : Proposed). p.proposal) (open_proposals 0 proposed_twice) ≡ proposed 1 2 accepted 6 ∷ []
 one_waits = refl
+
+-- a thaw only adds: before it one verdict is seen, from it on both
+shortly_before_thaw : verdicts_seen audience.Public (hours 5 - 1) (thawed_at around_freeze (hours 5)) ≡ its_acceptance ∷ None ∷ []
+shortly_before_thaw = refl
+
+-- the verdict that is seen is one of two
+abbrev verdicts_by : (Submission → Option ℕ) → List (Option ℕ)
+verdicts_by verdict = map verdict around_freeze.submissions
+
+released_last : verdicts_by (full_verdict around_freeze) ≡ Some accepted ∷ Some accepted ∷ []
+released_last = refl
+
+held_back : verdicts_by (held_verdict around_freeze) ≡ Some accepted ∷ None ∷ []
+held_back = refl
+
+held_from_public : verdicts_by (seen_verdict audience.Public (hours 5) around_freeze) ≡ verdicts_by (held_verdict around_freeze)
+held_from_public = refl
+
+full_for_jury : verdicts_by (seen_verdict audience.Jury (hours 5) around_freeze) ≡ verdicts_by (full_verdict around_freeze)
+full_for_jury = refl
+
+-- another verdict is proposed, and the submission rejudged: the jury too sees the old one until a release
+abbrev rejudging : List Entry
+rejudging =
+    NewProposal (proposed 0 1 accepted (minutes 10)) ∷ NewRejudging (rejudged 0 1 accepted state.Open) ∷ SetMember 1 0 (member.Ready accepted) ∷ SetRejudging 1 state.Applied
+    ∷ []
+
+shown_as_before : verdicts_seen audience.Jury (minutes 20) (add_all judged_twice rejudging) ≡ verdicts_seen audience.Jury (minutes 20) judged_twice
+shown_as_before = refl
+
+shown_by_release : verdicts_seen audience.Public (minutes 20) (add (add_all judged_twice rejudging) (NewRelease (released 0 1 3 accepted (minutes 11)))) ≡ Some (record { round = 3; verdict = accepted; time = minutes 11 }) ∷ []
+shown_by_release = refl

@@ -38,3 +38,9 @@ pub mod SeenWhole
 pub mod DashedNumbers
 pub mod HeardWhole
 pub mod SettingsTest
+pub mod ShownVerdicts
+pub mod RoleLemmas
+pub mod ThawLemmas
+pub mod ReleaseLemmas
+pub mod OwnLemmas
+pub mod JudgementLemmas

@@ -32,3 +32,4 @@ pub mod Valid
 pub mod Loads
 pub mod Addable
 pub mod Laws
+pub mod SightLaws
