@@ -4,6 +4,7 @@ use contest_fixtures::{SettingRow, demo_head, fill, moment};
 use contest_score::{Awards, Board, CellRow, Row, Score, Solve, awards};
 use contest_types::{Medals, Minute, Settings};
 use std::alloc::Global;
+use std::process::Abort;
 use std::test::Fail;
 
 /// Two problems, of which the second stands first; three groups, imported from the last to the
@@ -152,11 +153,16 @@ fn listed(alloc: Global, awarded: &Awarded) -> Result<String, Fail> {
     listed_in(alloc, &settings, awarded)
 }
 
+fn assert_lists(rt: &(impl Abort + AllocGlobal), awarded: &Awarded) -> Result<(), Fail> {
+    let text = listed(rt.alloc(), awarded)?;
+    assert_eq!(rt; text.as_str(), awarded.listing, "{}", awarded.shows);
+    Ok(())
+}
+
 #[test]
 fn awards_go_by_rank(rt: HostRuntime) -> Result<(), Fail> {
     for awarded in &AWARDED {
-        let text = listed(rt.alloc(), awarded)?;
-        assert_eq!(rt; text.as_str(), awarded.listing, "{}", awarded.shows);
+        assert_lists(&rt, awarded)?;
     }
     Ok(())
 }

@@ -74,23 +74,32 @@ const VERDICTS: [Option<u32>; 6] = [None, Some(0), Some(0), Some(1), Some(2), So
 
 /// The next contest.
 pub fn make_contest(alloc: Global, dice: &mut Dice) -> Result<MadeContest, Fail> {
-    let mut settings = Settings::new(alloc, head(alloc, dice)?)?;
-    fill(alloc, &mut settings, &TYPES)?;
-    let problems = dice.below(6);
-    add_problems(alloc, &mut settings, dice, problems)?;
-    let teams = dice.below(9);
-    add_teams(alloc, &mut settings, dice, teams)?;
-    let penalty_time = settings.head().penalty_time;
-    let submissions = submissions(alloc, dice, teams, problems, penalty_time)?;
+    let start = moment(START)?;
     let now = moment(START + DURATION)?;
+    let settings = made_settings(alloc, dice)?;
+    let submissions = submissions(alloc, dice, &settings)?;
+    let thaw = if dice.below(4) == 0 { Some(now) } else { None };
+    let audience = audience(dice);
     Ok(MadeContest {
         settings,
-        start: moment(START)?,
-        thaw: if dice.below(4) == 0 { Some(now) } else { None },
+        start,
+        thaw,
         submissions,
-        audience: audience(dice),
+        audience,
         now,
     })
+}
+
+fn made_settings(alloc: Global, dice: &mut Dice) -> Result<Settings, Fail> {
+    let mut settings = Settings::new(alloc, head(alloc, dice)?)?;
+    add_rows(alloc, &mut settings, dice)?;
+    Ok(settings)
+}
+
+fn add_rows(alloc: Global, settings: &mut Settings, dice: &mut Dice) -> Result<(), Fail> {
+    fill(alloc, settings, &TYPES)?;
+    add_problems(alloc, settings, dice)?;
+    add_teams(alloc, settings, dice)
 }
 
 /// Half an hour, with any penalty time, and in four of five with a freeze.
@@ -127,12 +136,8 @@ fn id_text(turn: u32, place: u32) -> &'static str {
     IDS[(u64::from(turn) + 3 * u64::from(place)) as usize % 8]
 }
 
-fn add_problems(
-    alloc: Global,
-    settings: &mut Settings,
-    dice: &mut Dice,
-    count: u32,
-) -> Result<(), Fail> {
+fn add_problems(alloc: Global, settings: &mut Settings, dice: &mut Dice) -> Result<(), Fail> {
+    let count = dice.below(6);
     let turn = dice.below(8);
     for place in 0..count {
         let text = id_text(turn, place);
@@ -142,12 +147,8 @@ fn add_problems(
     Ok(())
 }
 
-fn add_teams(
-    alloc: Global,
-    settings: &mut Settings,
-    dice: &mut Dice,
-    count: u32,
-) -> Result<(), Fail> {
+fn add_teams(alloc: Global, settings: &mut Settings, dice: &mut Dice) -> Result<(), Fail> {
+    let count = dice.below(9);
     let turn = dice.below(8);
     for place in 0..count {
         let text = id_text(turn, place);
@@ -163,10 +164,11 @@ fn add_teams(
 fn submissions(
     alloc: Global,
     dice: &mut Dice,
-    teams: u32,
-    problems: u32,
-    penalty_time: u32,
+    settings: &Settings,
 ) -> Result<Vec<JudgedSubmission>, Fail> {
+    let teams = u32::try_from(settings.teams().len()).unwrap_or(0);
+    let problems = u32::try_from(settings.problems().len()).unwrap_or(0);
+    let penalty_time = settings.head().penalty_time;
     let mut submissions = Vec::new(alloc);
     if teams == 0 || problems == 0 {
         return Ok(submissions);
