@@ -6,6 +6,7 @@ use Rattle.std.specs.Ordering.{nat_cmp}
 use Rattle.std.specs.Cmp.Lexicographic.{slice_cmp}
 use Rattle.contest_types.specs.Setup.{Setup}
 use Rattle.contest_types.specs.Clock.{freeze_of, is_thawed, is_finalized}
+use Rattle.contest_types.specs.ProblemPlaces.{label_at}
 use Rattle.contest_types.specs.TeamPlaces.{is_of_group}
 use Rattle.contest_types.specs.Masks.{is_jury}
 use Rattle.contest_types.specs.State.{ContestState}
@@ -46,9 +47,6 @@ abbrev pub first_solves : ℕ → List Solve → List Solve
 first_solves problem solves =
     let of_problem = filter (λ (v : Solve). v.problem == problem) solves in
     filter (λ (v : Solve). list_all (λ (w : Solve). nat_le v.time w.time) of_problem) of_problem
-
-abbrev pub label_at : Setup → ℕ → List ℕ
-label_at s problem = option_map_or (λ p. p.label) (slice_get s.problems problem) []
 
 abbrev pub first_to_solve : Setup → List Row → List Solve → ℕ → Award
 first_to_solve s rows solves problem =

@@ -34,9 +34,12 @@ judgement_of v = record { round = v.round; verdict = v.verdict; time = v.time }
 abbrev pub judgements_on : ContestState → Submission → List Judgement
 judgements_on x s = map judgement_of (releases_on s.team s.number x.releases)
 
--- the last that was released on it counts
+-- of the releases on a team's submission with this number the last counts
+abbrev pub last_on : List Release → (team number : ℕ) → Option Judgement
+last_on releases team number = last_or None (map judgement_of (releases_on team number releases))
+
 abbrev pub last_judgement : ContestState → Submission → Option Judgement
-last_judgement x s = last_or None (judgements_on x s)
+last_judgement x s = last_on x.releases s.team s.number
 
 abbrev pub type_of : Option Judgement → Option ℕ
 type_of = option_map (λ j. j.verdict)
