@@ -3,7 +3,7 @@ use Rattle.std.proofs.Common.{◌≡◌, ℕ, ◌+◌, ◌-◌, List, [], ◌∷
 use Rattle.std.specs.Prelude.{codes}
 use Rattle.std.specs.Fmt.{digits}
 use Rattle.contest_types.specs.Clock.{end_of, freeze_of, is_frozen, is_freezing, is_finalized, phase_at}
-use Rattle.contest_types.specs.State.{ContestState, Entry, NewProposal, NewRelease, NewRejudging, SetMember, SetRejudging, add, add_all}
+use Rattle.contest_types.specs.State.{ContestState, Entry, NewProposal, NewRelease, NewRejudging, SetMember, SetRejudging, SetThaw, add, add_all}
 use Rattle.contest_types.specs.Setup.{Setup}
 use Rattle.contest_types.specs.VisibleIds.{judgement_id, clarification_id}
 use Rattle.contest_types.specs.Judging.{SeenJudgement, seen_judgements, Proposed, open_proposals}
@@ -227,6 +227,10 @@ one_waits = refl
 -- a thaw only adds: before it one verdict is seen, from it on both
 shortly_before_thaw : verdicts_seen audience.Public (hours 5 - 1) (thawed_at around_freeze (hours 5)) ≡ its_acceptance ∷ None ∷ []
 shortly_before_thaw = refl
+
+-- but a thaw that is put off hides again what it showed
+thaw_put_off : verdicts_seen audience.Public (hours 5) (add (thawed_at around_freeze (hours 5)) (SetThaw (hours 6))) ≡ its_acceptance ∷ None ∷ []
+thaw_put_off = refl
 
 -- the verdict that is seen is one of two
 abbrev verdicts_by : (Submission → Option ℕ) → List (Option ℕ)

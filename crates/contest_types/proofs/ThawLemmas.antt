@@ -1,6 +1,6 @@
 -- What the thaw changes of what is seen, and what it leaves.
 use Rattle.std.proofs.Common.{◌≡◌, ◌⊎◌, ℕ, ◌+◌, Bool, true, false, List, [], ◌∷◌, map, length, Option, Some, None, refl, sym, ◌∙◌, ap, inl, inr}
-use Rattle.std.specs.Prelude.{◌==◌, ◌||◌, find, count_by, cond, if◌then◌else◌}
+use Rattle.std.specs.Prelude.{◌==◌, ◌||◌, nat_le, find, count_by, cond, if◌then◌else◌}
 use Rattle.std.specs.List.{cons_option, filter_map, flat_map, range_with_len}
 use Rattle.std.specs.Option.{option_map}
 use Rattle.std.specs.Ordering.{is_lt}
@@ -13,7 +13,7 @@ use Rattle.contest_types.specs.Order.{place_in, in_order}
 use Rattle.contest_types.specs.TeamPlaces.{team_places}
 use Rattle.contest_types.specs.Clock.{reached, freeze_of, is_frozen, is_thawed}
 use Rattle.contest_types.specs.Masks.{knows_all_of}
-use Rattle.contest_types.specs.State.{ContestState, submissions_of}
+use Rattle.contest_types.specs.State.{ContestState, submissions_of, add, SetThaw}
 use Rattle.contest_types.specs.Sight.{Judgement, SeenSubmission, sees_team, sees_submission, last_judgement, seen_judgement, type_of, seen_verdict, full_verdict, held_verdict, seen_submission, seen_of_team, submission_cmp, seen_submissions}
 use Rattle.contest_types.specs.SightLaws.{without_judgement}
 use Rattle.contest_types.specs.declared.audience.Audience.{Audience}
@@ -26,6 +26,11 @@ pub only_adds : (a : Audience) (now later : ℕ) (x : ContestState) (s : Submiss
 only_adds a now later x s j t h =
     let more = thaw_adds (sees_submission a x s) (knows_all_of a s.team) (is_thawed x.fixed.marks now) (is_frozen x.fixed.settings x.fixed.marks s.time) (last_judgement x s) j (sym (is_shown a now x s) ∙ h) in
     is_shown a later x s ∙ rw t more
+
+pub thawing_adds : (a : Audience) (now later thaw : ℕ) (x : ContestState) (s : Submission) (j : Judgement) → nat_le thaw later ≡ true → seen_judgement a now x s ≡ Some j → seen_judgement a later (add x (SetThaw thaw)) s ≡ Some j
+thawing_adds a now later thaw x s j t h =
+    let more = thaw_adds (sees_submission a x s) (knows_all_of a s.team) (is_thawed x.fixed.marks now) (is_frozen x.fixed.settings x.fixed.marks s.time) (last_judgement x s) j (sym (is_shown a now x s) ∙ h) in
+    is_shown a later (add x (SetThaw thaw)) s ∙ rw t more
 
 -- where there is no freeze moment nothing is frozen
 not_held : (now : ℕ) (x : ContestState) (s : Submission) → (is_thawed x.fixed.marks now ≡ true) ⊎ (freeze_of x.fixed.settings x.fixed.marks ≡ None) → (is_thawed x.fixed.marks now ≡ true) ⊎ (is_frozen x.fixed.settings x.fixed.marks s.time ≡ false)

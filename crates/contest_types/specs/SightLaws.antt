@@ -1,6 +1,6 @@
 -- What a contest director asks of who sees what, in the subject's words. Each is the contract of a
 -- function of src/sight_laws.rt.
-use Rattle.std.specs.Prelude.{◌≡◌, ◌⊎◌, ◌↔◌, ℕ, Bool, true, false, ◌&&◌, ◌||◌, ◌==◌, nat_lt, List, map, Some, None, is_some, if◌then◌else◌}
+use Rattle.std.specs.Prelude.{◌≡◌, ◌⊎◌, ◌↔◌, ℕ, Bool, true, false, ◌&&◌, ◌||◌, ◌==◌, nat_le, nat_lt, List, map, Some, None, is_some, if◌then◌else◌}
 use Rattle.std.specs.List.{list_all}
 use Rattle.contest_types.specs.Setup.{Setup}
 use Rattle.contest_types.specs.Order.{Has, IsInOrder}
@@ -41,6 +41,12 @@ abbrev pub ThawOnlyAdds : Type 0
 ThawOnlyAdds =
     (a : Audience) (now later : ℕ) (x : ContestState) (s : Submission) (j : Judgement) → is_thawed x.fixed.marks later ≡ true
     → seen_judgement a now x s ≡ Some j → seen_judgement a later x s ≡ Some j
+
+-- nor does setting the thaw take a verdict away, from the moment on that it is set to
+abbrev pub ThawingOnlyAdds : Type 0
+ThawingOnlyAdds =
+    (a : Audience) (now later thaw : ℕ) (x : ContestState) (s : Submission) (j : Judgement) → nat_le thaw later ≡ true
+    → seen_judgement a now x s ≡ Some j → seen_judgement a later (add x (SetThaw thaw)) s ≡ Some j
 
 -- a submission as it is seen, but for its verdict
 abbrev pub without_judgement : SeenSubmission → SeenSubmission

@@ -1,6 +1,6 @@
 //! Laws of who sees what of a contest, as a contest director asks for them: functions that do nothing,
 //! and whose contracts say what holds of every contest.
-ghost use Rattle.contest_types.specs.SightLaws.{RolesSeeNoLess, RolesHearNoLess, RolesKeepVerdicts, ThawOnlyAdds, MomentChangesVerdictsOnly, ThawedSeeAsJury, JurySeesLast, SeenVerdictIsOneOfTwo, JudgingShowsNothing, OnlyTheseShowSubmissions, OnlyTheseShowClarifications, TeamAndJuryKnowAll, ProgramIsForItsTeam, ListedProgramIsForItsTeam, AskedIsHeardByItsTeam, SubmissionsStandByTime, SeenJudgementsAreListed, AlikeShowTheSameJudgements};
+ghost use Rattle.contest_types.specs.SightLaws.{RolesSeeNoLess, RolesHearNoLess, RolesKeepVerdicts, ThawOnlyAdds, ThawingOnlyAdds, MomentChangesVerdictsOnly, ThawedSeeAsJury, JurySeesLast, SeenVerdictIsOneOfTwo, JudgingShowsNothing, OnlyTheseShowSubmissions, OnlyTheseShowClarifications, TeamAndJuryKnowAll, ProgramIsForItsTeam, ListedProgramIsForItsTeam, AskedIsHeardByItsTeam, SubmissionsStandByTime, SeenJudgementsAreListed, AlikeShowTheSameJudgements};
 
 /// Nobody loses sight of a submission by a role: what the public sees every team sees, and what a team
 /// sees the jury sees.
@@ -21,6 +21,11 @@ pub fn roles_keep_verdicts()
 /// A thaw only adds: a verdict that was seen at any moment is seen once it is thawed.
 pub fn thaw_only_adds()
     ensures { ThawOnlyAdds }
+{}
+
+/// Nor does setting the thaw take a verdict away, from the moment on that it is set to.
+pub fn thawing_only_adds()
+    ensures { ThawingOnlyAdds }
 {}
 
 /// But for the verdicts, what an audience sees of submissions is the same at any moment.
