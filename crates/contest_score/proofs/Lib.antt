@@ -21,3 +21,6 @@ mod ExamplesBoard
 mod ExamplesAwards
 pub mod BoardAlike
 pub mod AwardsAlike
+pub mod SeenScores
+pub mod OneChange
+pub mod HiddenTeams

@@ -10,3 +10,4 @@ pub mod Lists
 pub mod Awards
 pub mod AwardSteps
 pub mod Laws
+pub mod ScoringLaws
