@@ -24,3 +24,5 @@ pub mod AwardsAlike
 pub mod SeenScores
 pub mod OneChange
 pub mod HiddenTeams
+pub mod SameElements
+pub mod BoardRows

@@ -11,3 +11,4 @@ pub mod Awards
 pub mod AwardSteps
 pub mod Laws
 pub mod ScoringLaws
+pub mod BoardLaws

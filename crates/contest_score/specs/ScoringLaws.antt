@@ -1,5 +1,5 @@
 -- What a contest director may ask of the scoring, in the subject's words. Each is the contract of a
--- function of src/laws.rt.
+-- function of src/scoring_laws.rt.
 use Rattle.std.specs.Prelude.{◌≡◌, ◌≢◌, ◌⊎◌, ◌==◌, ◌&&◌, ℕ, Bool, true, false, List, [], ◌∷◌, ◌++◌, map, filter, None}
 use Rattle.std.specs.List.{list_any}
 use Rattle.contest_types.specs.Clock.{freeze_of, is_thawed}

@@ -1,5 +1,0 @@
-use Rattle.contest_score.proofs.SeenScores as lemmas
-use Rattle.contest_score.proofs.laws.all_read_the_jurys_board.Goals as goal
-
-pub returns : goal.returns
-returns c = lemmas.all_read_the_jurys_board

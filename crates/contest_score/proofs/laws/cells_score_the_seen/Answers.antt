@@ -1,5 +1,0 @@
-use Rattle.contest_score.proofs.SeenScores as lemmas
-use Rattle.contest_score.proofs.laws.cells_score_the_seen.Goals as goal
-
-pub returns : goal.returns
-returns c = lemmas.cells_score_the_seen

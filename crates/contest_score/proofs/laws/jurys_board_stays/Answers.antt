@@ -1,5 +1,0 @@
-use Rattle.contest_score.proofs.SeenScores as lemmas
-use Rattle.contest_score.proofs.laws.jurys_board_stays.Goals as goal
-
-pub returns : goal.returns
-returns c = lemmas.jurys_board_stays

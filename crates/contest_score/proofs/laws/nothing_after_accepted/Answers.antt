@@ -1,5 +1,0 @@
-use Rattle.contest_score.proofs.SeenScores as lemmas
-use Rattle.contest_score.proofs.laws.nothing_after_accepted.Goals as goal
-
-pub returns : goal.returns
-returns c = lemmas.nothing_after_accepted

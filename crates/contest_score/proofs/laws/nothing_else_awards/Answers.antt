@@ -1,5 +1,0 @@
-use Rattle.contest_score.proofs.OneChange as lemmas
-use Rattle.contest_score.proofs.laws.nothing_else_awards.Goals as goal
-
-pub returns : goal.returns
-returns c = lemmas.nothing_else_awards
