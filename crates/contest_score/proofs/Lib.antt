@@ -26,3 +26,4 @@ pub mod OneChange
 pub mod HiddenTeams
 pub mod SameElements
 pub mod BoardRows
+pub mod MedalTeams

@@ -12,3 +12,4 @@ pub mod AwardSteps
 pub mod Laws
 pub mod ScoringLaws
 pub mod BoardLaws
+pub mod AwardLaws

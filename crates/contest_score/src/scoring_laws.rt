@@ -2,6 +2,7 @@
 //! contracts say what holds of every contest and every board.
 ghost use Rattle.contest_score.specs.ScoringLaws.{CellsScoreTheSeen, BoardsScoreTheSeen, AllReadTheJurysCells, AllReadTheJurysBoard, JurysBoardStays, HiddenMovesNoBoard, HiddenMovesNoAward, NothingElseScores, NothingElseAwards, SubmissionMovesOneCell, ReleaseMovesItsCell, ReleaseMovesOneCell, NothingAfterAccepted};
 ghost use Rattle.contest_score.specs.BoardLaws.{ShownTeamsStand, NoTeamStandsTwice, RowsStandInOrder, RowsHaveEachProblem, ProblemsStandOnce, RanksCountTheBetter, RanksFollowTheScores};
+ghost use Rattle.contest_score.specs.AwardLaws.{OneMedalATeam, NoMedalOffTheBoard};
 
 /// Each cell is pass-fail scoring of the verdicts that its reader may see.
 pub fn cells_score_the_seen()
@@ -101,4 +102,15 @@ pub fn ranks_count_the_better()
 /// The better of two rows has the smaller rank, and rows that tie share one.
 pub fn ranks_follow_the_scores()
     ensures { RanksFollowTheScores }
+{}
+
+/// A team has one kind of medal where it solved a problem and its rank is one of the medals' places,
+/// and none elsewhere.
+pub fn one_medal_a_team()
+    ensures { OneMedalATeam }
+{}
+
+/// A team that isn't on the board has none.
+pub fn no_medal_off_the_board()
+    ensures { NoMedalOffTheBoard }
 {}
