@@ -31,7 +31,7 @@ use Rattle.contest_score.proofs.Ranks.{place_tied}
 use Rattle.contest_score.proofs.SameElements.{other, weaker_order, mapped_order, same_count, same_length, place_within, places_apart, all_apart, differ, has_place}
 
 -- the teams of the rows, in the order of the board
-abbrev ranked_teams : Setup → (ℕ → Bool) → (ℕ → ℕ → Cell) → List ℕ
+abbrev pub ranked_teams : Setup → (ℕ → Bool) → (ℕ → ℕ → Cell) → List ℕ
 ranked_teams s shown cells = in_order (row_cmp s shown cells) (shown_teams s shown)
 
 teams_are : (s : Setup) (shown : ℕ → Bool) (cells : ℕ → ℕ → Cell) (us : List ℕ) → teams_of (map (row_of s shown cells) us) ≡ us

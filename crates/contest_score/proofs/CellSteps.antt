@@ -61,7 +61,7 @@ is_some-map : {X Y : Type 0} (f : X → Y) (o : Option X) → is_some (option_ma
 is_some-map f None = refl
 is_some-map f (Some x) = refl
 
-solved_cell : (start : ℕ) (xs : List Attempt) → list_any is_solving xs ≡ true → is_solved (cell_of_attempts start xs) ≡ true
+pub solved_cell : (start : ℕ) (xs : List Attempt) → list_any is_solving xs ≡ true → is_solved (cell_of_attempts start xs) ≡ true
 solved_cell start xs h = is_some-map _ (find is_solving (counted xs)) ∙ found_counted xs h
 
 open_cell : (start : ℕ) (xs : List Attempt) → list_any is_solving xs ≡ false → is_solved (cell_of_attempts start xs) ≡ false

@@ -27,3 +27,4 @@ pub mod HiddenTeams
 pub mod SameElements
 pub mod BoardRows
 pub mod MedalTeams
+pub mod FirstTeams

@@ -2,7 +2,7 @@
 //! contracts say what holds of every contest and every board.
 ghost use Rattle.contest_score.specs.ScoringLaws.{CellsScoreTheSeen, BoardsScoreTheSeen, AllReadTheJurysCells, AllReadTheJurysBoard, JurysBoardStays, HiddenMovesNoBoard, HiddenMovesNoAward, NothingElseScores, NothingElseAwards, SubmissionMovesOneCell, ReleaseMovesItsCell, ReleaseMovesOneCell, NothingAfterAccepted};
 ghost use Rattle.contest_score.specs.BoardLaws.{ShownTeamsStand, NoTeamStandsTwice, RowsStandInOrder, RowsHaveEachProblem, ProblemsStandOnce, RanksCountTheBetter, RanksFollowTheScores};
-ghost use Rattle.contest_score.specs.AwardLaws.{OneMedalATeam, NoMedalOffTheBoard};
+ghost use Rattle.contest_score.specs.AwardLaws.{OneMedalATeam, NoMedalOffTheBoard, FirstAwardIsOfTheFirst, SolvedHasAFirst};
 
 /// Each cell is pass-fail scoring of the verdicts that its reader may see.
 pub fn cells_score_the_seen()
@@ -113,4 +113,15 @@ pub fn one_medal_a_team()
 /// A team that isn't on the board has none.
 pub fn no_medal_off_the_board()
     ensures { NoMedalOffTheBoard }
+{}
+
+/// The award for the first to solve a problem is of the shown teams that solved it first, and of no
+/// other.
+pub fn first_award_is_of_the_first()
+    ensures { FirstAwardIsOfTheFirst }
+{}
+
+/// Where a shown team solved a problem, the award for the first to solve it is given.
+pub fn solved_has_a_first()
+    ensures { SolvedHasAFirst }
 {}
