@@ -23,7 +23,8 @@ use Rattle.contest_score.specs.Scoring.{is_solving, is_solved}
 use Rattle.contest_score.specs.Masks.{start_of}
 use Rattle.contest_score.specs.Ranking.{row_of, problem_order, problem_id_at, shown_teams}
 use Rattle.contest_score.specs.Contest.{seen_cell, board_for, solve_of, solves_of}
-use Rattle.contest_score.specs.Awards.{Award, winner, medals, first_solves, label_at, first_to_solve, group_winner, group_order, awards_of}
+use Rattle.contest_types.specs.ProblemPlaces.{label_at}
+use Rattle.contest_score.specs.Awards.{Award, winner, medals, first_solves, first_to_solve, group_winner, group_order, awards_of}
 use Rattle.contest_score.specs.AwardLaws.{IsFirst}
 use Rattle.contest_score.proofs.CellSteps.{solved_cell}
 use Rattle.contest_score.proofs.AwardsAlike.{attempts_of}

@@ -130,10 +130,10 @@ release_moves_one_cell a now x v s team problem valid there is off =
     false≢true (sym (elsewhere s team problem off) ∙ at))) in
     release_moves_its_cell a now x v team problem none
 
--- under a mask, a cell doesn't depend on the end of the contest, nor on languages and groups
-end_scores_nothing : (mask : Mask) (s : Setup) (marks : Marks) (end : Option ℕ) (us : List JudgedSubmission) → cell_under mask s (record marks { finalized = end }) us ≡ cell_under mask s marks us
-end_scores_nothing Full s marks end us = refl
-end_scores_nothing Held s marks end us = refl
+-- under a mask, a cell doesn't depend on finalizing, nor on languages and groups
+finalizing_scores_nothing : (mask : Mask) (s : Setup) (marks : Marks) (finalized : Option ℕ) (us : List JudgedSubmission) → cell_under mask s (record marks { finalized = finalized }) us ≡ cell_under mask s marks us
+finalizing_scores_nothing Full s marks finalized us = refl
+finalizing_scores_nothing Held s marks finalized us = refl
 
 languages_score_nothing : (mask : Mask) (s : Setup) (marks : Marks) (languages : List Language) (us : List JudgedSubmission) → cell_under mask (record s { languages = languages }) marks us ≡ cell_under mask s marks us
 languages_score_nothing Full s marks languages us = refl
@@ -160,7 +160,7 @@ nothing_else_scores a now x (SetStart start) h = absurd (false≢true (sym h))
 nothing_else_scores a now x (SetThaw thaw) h = absurd (false≢true (sym h))
 nothing_else_scores a now x (SetFinalized finalized) h =
     with_board a now x (add x (SetFinalized finalized)) (λ cells. refl)
-    (fun_ext (λ team. ap (λ c. c team) (end_scores_nothing (mask_for a x.fixed.marks now team) x.fixed.settings x.fixed.marks (Some finalized) (judged_submissions x))))
+    (fun_ext (λ team. ap (λ c. c team) (finalizing_scores_nothing (mask_for a x.fixed.marks now team) x.fixed.settings x.fixed.marks (Some finalized) (judged_submissions x))))
 nothing_else_scores a now x (NewType t) h = absurd (false≢true (sym h))
 nothing_else_scores a now x (NewLanguage l) h =
     with_board a now x (add x (NewLanguage l)) (λ cells. refl)

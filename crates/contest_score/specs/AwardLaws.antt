@@ -14,6 +14,7 @@ use Rattle.contest_score.specs.Contest.{board_for, solve_of, solves_of}
 use Rattle.contest_score.specs.Awards.{Award, medals, first_to_solve, awards_of}
 use Rattle.contest_score.specs.BoardLaws.{teams_of}
 
+-- the team is among those that have the award
 abbrev pub has_award : ℕ → Award → Bool
 has_award team w = list_any (λ u. u == team) w.teams
 

@@ -1,6 +1,6 @@
 -- The verdicts that were released last, one for each submission (Contest API 2023-06, judgements).
 -- Words of private functions: nothing public is said with them.
-use Rattle.std.specs.Prelude.{ℕ, ◌&&◌, ◌==◌, List, map, Option, None, Some, if◌then◌else◌}
+use Rattle.std.specs.Prelude.{ℕ, ◌&&◌, ◌==◌, List, Option, Some, if◌then◌else◌}
 use Rattle.std.specs.HashMap.{HashMap, get}
 use Rattle.contest_types.specs.State.{names, of_release}
 use Rattle.contest_types.specs.Sight.{last_on, type_of}

@@ -92,18 +92,19 @@ can_score (NewProblem p) = true
 can_score (NewTeam t) = true
 can_score _ = false
 
--- nothing else does: no proposal, rejudging or clarification
+-- nothing else does: no proposal, rejudging or clarification, and no finalizing
 abbrev pub NothingElseScores : Type 0
 NothingElseScores =
     (a : Audience) (now : ℕ) (x : ContestState) (e : Entry) → can_score e ≡ false
     → (seen_cell a now (add x e) ≡ seen_cell a now x) × (board_for a now (add x e) ≡ board_for a now x)
 
--- the same, and the end of the contest and a new group, may change the awards
+-- what may change the awards: the same, finalizing and a new group
 abbrev pub can_award : Entry → Bool
 can_award (SetFinalized finalized) = true
 can_award (NewGroup g) = true
 can_award e = can_score e
 
+-- nothing else does
 abbrev pub NothingElseAwards : Type 0
 NothingElseAwards =
     (a : Audience) (now : ℕ) (x : ContestState) (e : Entry) → can_award e ≡ false → shown_awards a now (add x e) ≡ shown_awards a now x
@@ -114,10 +115,11 @@ SubmissionMovesOneCell =
     (a : Audience) (now : ℕ) (x : ContestState) (s : Submission) (team problem : ℕ) → (team ≢ s.team) ⊎ (problem ≢ s.problem)
     → seen_cell a now (add x (NewSubmission s)) team problem ≡ seen_cell a now x team problem
 
+-- the submission is by this team, at this problem
 abbrev pub is_at : (team problem : ℕ) → Submission → Bool
 is_at team problem s = (s.team == team) && (s.problem == problem)
 
--- a submission that the release is on is by this team, at this problem
+-- some submission of this team, at this problem, is what the release is on
 abbrev pub bears_on : Release → ContestState → (team problem : ℕ) → Bool
 bears_on v x team problem = list_any (λ (s : Submission). names s.team s.number (of_release v) && is_at team problem s) x.submissions
 

@@ -39,12 +39,13 @@ pub fn hidden_moves_no_award()
     ensures { HiddenMovesNoAward }
 {}
 
-/// No proposal, rejudging or clarification changes a cell or a board.
+/// No proposal, rejudging or clarification changes a cell or a board; only submissions, releases, the
+/// start, the thaw, and new types, problems and teams may.
 pub fn nothing_else_scores()
     ensures { NothingElseScores }
 {}
 
-/// Nor the awards.
+/// Nor the awards, which finalizing and a new group may change too.
 pub fn nothing_else_awards()
     ensures { NothingElseAwards }
 {}
@@ -59,7 +60,7 @@ pub fn release_moves_its_cell()
     ensures { ReleaseMovesItsCell }
 {}
 
-/// In a valid contest this is one cell.
+/// In a valid contest a release changes no cell but that of its team at its submission's problem.
 pub fn release_moves_one_cell()
     ensures { ReleaseMovesOneCell }
 {}
