@@ -4,6 +4,7 @@ use Rattle.std.specs.List.{flat_map}
 use Rattle.std.specs.Option.{option_map_or}
 use Rattle.std.specs.Fmt.{decimal}
 use Rattle.contest_types.specs.Setup.{Setup}
+use Rattle.contest_types.specs.ProblemPlaces.{label_at}
 use Rattle.contest_types.specs.Clock.{freeze_of, phase_at, is_finalized, is_freezing, is_thawed}
 use Rattle.contest_types.specs.RelTimeText.{rel_time_text}
 use Rattle.contest_types.specs.declared.audience.Audience.{Audience}
@@ -65,10 +66,6 @@ right_field columns text = codes "  " ++ right columns text
 -- rank, team, solved and time
 abbrev pub front : ℕ → (rank team solved time : List ℕ) → List ℕ
 front width rank team solved time = right 4 rank ++ left_field width team ++ right_field 6 solved ++ right_field 6 time
-
--- the label of the problem at a place
-abbrev pub label_at : Setup → ℕ → List ℕ
-label_at s place = option_map_or (λ p. p.label) (slice_get s.problems place) []
 
 -- the heading: the fields' names, and the labels of the problems in their order
 abbrev pub heading_line : Setup → ℕ → List ℕ → List ℕ

@@ -5,7 +5,8 @@ ghost use Rattle.std.specs.List.{flat_map};
 ghost use Rattle.contest_types.specs.RelTimeText.{rel_time_text};
 ghost use Rattle.contest_score.specs.Ranking.{name_at};
 ghost use Rattle.contest_cli.specs.CellText.{cell_text};
-ghost use Rattle.contest_cli.specs.BoardText.{numbered_id, who_text, contest_time, is_final, word_of, word_at, title_end, title_line, name_width, right_field, front, label_at, heading_line, row_line, board_text};
+ghost use Rattle.contest_types.specs.ProblemPlaces.{label_at};
+ghost use Rattle.contest_cli.specs.BoardText.{numbered_id, who_text, contest_time, is_final, word_of, word_at, title_end, title_line, name_width, right_field, front, heading_line, row_line, board_text};
 
 use crate::cell_text::write_cell;
 use crate::columns::{push_left, push_right};

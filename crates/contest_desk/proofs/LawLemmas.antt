@@ -7,21 +7,20 @@ use Rattle.contest_types.specs.State.{ContestState, submissions_of, add_all}
 use Rattle.contest_types.specs.Valid.{is_valid}
 use Rattle.contest_types.specs.declared.audience.Audience.{Audience}
 use Rattle.contest_types.specs.declared.audience.Audience.TheVariants as audience
+use Rattle.contest_types.specs.declared.account.Role.{Role}
 use Rattle.contest_types.specs.declared.account.Role.TheVariants as role
 use Rattle.contest_types.specs.declared.entry.Entry.{Entry}
 use Rattle.contest_types.proofs.AddLemmas.{adding_submission}
 use Rattle.contest_view.specs.Reads.{submission_found}
 use Rattle.contest_view.proofs.ReadLaws.{alike_read}
 use Rattle.contest_rules.proofs.SubmittingLemmas.{own_alike}
-use Rattle.contest_desk.specs.Callers.{caller_of, audience_of, team_of}
+use Rattle.contest_desk.specs.Callers.{Caller, caller_of, audience_for, audience_of, team_for, team_of}
 use Rattle.contest_desk.specs.Laws.{StayAlike, ListsAlike, GetsAlike, PostsAlike, StepsAlike, StepsKeepValid}
 use Rattle.contest_desk.specs.Outcomes.{Outcome, telling}
 use Rattle.contest_desk.specs.PostSubmission.{post_submission}
 use Rattle.contest_desk.specs.Paths.{object_piece}
 use Rattle.contest_desk.specs.ReadSubmissions.{telling_found, list_submissions, get_submission}
 use Rattle.contest_desk.specs.Step.{asked, posted, perform, perform_for, outcome_of, outcome}
-use Rattle.contest_desk.specs.declared.caller.Caller.{Caller}
-use Rattle.contest_desk.specs.declared.caller.Caller.TheVariants as caller
 use Rattle.contest_desk.specs.declared.offer.Operation.{Operation}
 use Rattle.contest_desk.specs.declared.offer.Operation.TheVariants.{ListSubmissions, PostSubmission, GetSubmission}
 use Rattle.contest_desk.specs.declared.reply.Reply.{Reply}
@@ -57,11 +56,14 @@ posts_alike now team key body x y valid_x valid_y there h =
     (ap (λ (o : Outcome). o.reply) same, subst (λ (o : Outcome). Alike a (add_all x p.entries) (add_all y o.entries)) same (go (post_adds x now team key body valid_x there)))
 
 -- an audience that a caller speaks for, if it is a team
+role_sight : (r : Role) (team : ℕ) → team_for r ≡ Some team → audience_for r ≡ audience.Team (team + 1)
+role_sight (role.Team t) team is = let e : t ≡ team = cc is in ap (λ u. audience.Team (u + 1)) e
+role_sight role.Judge team is = absurd (cc is)
+role_sight role.Admin team is = absurd (cc is)
+
 team_sight : (who : Caller) (team : ℕ) → team_of who ≡ Some team → audience_of who ≡ audience.Team (team + 1)
-team_sight caller.Public team is = absurd (cc is)
-team_sight (caller.Account place (role.Team t)) team is = let e : t ≡ team = cc is in ap (λ u. audience.Team (u + 1)) e
-team_sight (caller.Account place role.Judge) team is = absurd (cc is)
-team_sight (caller.Account place role.Admin) team is = absurd (cc is)
+team_sight None team is = absurd (cc is)
+team_sight (Some account) team is = role_sight account.role team is
 
 posted_alike : (a : Audience) (now : ℕ) (who : Caller) (o : Option ℕ) (request : Request) (x y : ContestState) → is_valid x ≡ true → is_valid y ≡ true → team_of who ≡ o
     → IfSome o (λ team. team < length x.fixed.settings.teams) → audience_of who ≡ a → Alike a x y → StayAlike a x y (posted x now o request) (posted y now o request)

@@ -8,6 +8,7 @@ pub mod ServingLemmas
 pub mod CallerLemmas
 pub mod UnseenLemmas
 pub mod QuietSteps
+pub mod HeadLemmas
 mod ExamplesUnseen
 pub mod StepLemmas
 pub mod AddedAlike

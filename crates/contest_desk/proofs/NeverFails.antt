@@ -19,7 +19,7 @@ use Rattle.contest_rules.specs.declared.decision.Decision.{Decision}
 use Rattle.contest_rules.specs.declared.decision.Decision.TheVariants.{Add, Stands, Refused}
 use Rattle.contest_rules.specs.declared.submitting.WantedSubmission.{WantedSubmission}
 use Rattle.contest_view.specs.Reads.{submission_found}
-use Rattle.contest_desk.specs.Callers.{caller_of, audience_of, team_of}
+use Rattle.contest_desk.specs.Callers.{Caller, caller_of, audience_of, team_of}
 use Rattle.contest_desk.specs.Laws.{StepsNeverFail}
 use Rattle.contest_desk.specs.Offers.{allowed_on, operation_of}
 use Rattle.contest_desk.specs.Outcomes.{Outcome, refusing}
@@ -31,7 +31,6 @@ use Rattle.contest_desk.specs.Routes.{route_of}
 use Rattle.contest_desk.specs.Serving.{IsOrdinary}
 use Rattle.contest_desk.specs.Step.{is_here, offered, asked, posted, perform, outcome_of}
 use Rattle.contest_desk.specs.SubmissionBodies.{submission_in, key_in, wanted_of, within_limit, wanted_in}
-use Rattle.contest_desk.specs.declared.caller.Caller.{Caller}
 use Rattle.contest_desk.specs.declared.offer.AllowedMethods.{AllowedMethods}
 use Rattle.contest_desk.specs.declared.offer.Operation.{Operation}
 use Rattle.contest_desk.specs.declared.offer.Operation.TheVariants.{ListSubmissions, PostSubmission, GetSubmission}

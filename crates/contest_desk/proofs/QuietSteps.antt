@@ -1,6 +1,7 @@
 -- A step adds nothing unless it is answered as done, and nothing where it reads.
 use Rattle.std.proofs.Common.{◌≡◌, ℕ, List, [], Option, Some, None, Result, Ok, Err, refl, sym, ap, subst, inl, inr, if◌then◌else◌}
 use Rattle.std.specs.Prelude.{◌≢◌, ◌⊎◌, Bool, true, false, slice_get}
+use Rattle.std.proofs.lemmas.Bool.{false≢true}
 use Rattle.contest_types.specs.Alike.{Alike}
 use Rattle.contest_types.specs.State.{ContestState, FixedPart, submissions_of, add_all}
 use Rattle.contest_types.specs.TeamPlaces.{team_id_at}
@@ -13,8 +14,8 @@ use Rattle.contest_rules.specs.declared.decision.Decision.{Decision}
 use Rattle.contest_rules.specs.declared.decision.Decision.TheVariants.{Add, Stands, Refused}
 use Rattle.contest_rules.specs.declared.submitting.WantedSubmission.{WantedSubmission}
 use Rattle.contest_view.specs.Reads.{submission_found}
-use Rattle.contest_desk.specs.Callers.{caller_of, audience_of, team_of}
-use Rattle.contest_desk.specs.Offers.{allowed_on, operation_of}
+use Rattle.contest_desk.specs.Callers.{Caller, caller_of, audience_of, team_of}
+use Rattle.contest_desk.specs.Offers.{allowed_on, read_on, is_read, operation_of}
 use Rattle.contest_desk.specs.Outcomes.{Outcome, refusing}
 use Rattle.contest_desk.specs.Paths.{object_piece}
 use Rattle.contest_desk.specs.PostSubmission.{repeating, decided}
@@ -23,14 +24,13 @@ use Rattle.contest_desk.specs.Routes.{route_of}
 use Rattle.contest_desk.specs.Step.{is_here, offered, asked, posted, perform, outcome_of, outcome, step}
 use Rattle.contest_desk.specs.SubmissionBodies.{wanted_in}
 use Rattle.contest_desk.specs.UnseenLaws.{IsUnnoticed}
-use Rattle.contest_desk.specs.declared.caller.Caller.{Caller}
 use Rattle.contest_desk.specs.declared.offer.AllowedMethods.{AllowedMethods}
 use Rattle.contest_desk.specs.declared.offer.Operation.{Operation}
 use Rattle.contest_desk.specs.declared.offer.Operation.TheVariants.{ListSubmissions, PostSubmission, GetSubmission}
 use Rattle.contest_desk.specs.declared.reply.Reply.{Reply}
 use Rattle.contest_desk.specs.declared.request.Credential.{Credential}
 use Rattle.contest_desk.specs.declared.request.Method.{Method}
-use Rattle.contest_desk.specs.declared.request.Method.TheVariants.{Get}
+use Rattle.contest_desk.specs.declared.request.Method.TheVariants.{Get, Head, Post, Patch, Other}
 use Rattle.contest_desk.specs.declared.request.Request.{Request}
 use Rattle.contest_desk.specs.declared.route.Route.{Route}
 use Rattle.contest_desk.specs.declared.route.Route.TheVariants.{Submissions, Submission as OneSubmission}
@@ -90,7 +90,7 @@ abbrev AsksToRead : Result Operation Reply → Type 0
 AsksToRead (Ok operation) = Reads operation
 AsksToRead (Err reply) = Unit {0}
 
-got_reads : (route : Route) → MayRead (operation_of route Get)
+got_reads : (route : Route) → MayRead (read_on route)
 got_reads Submissions = tt
 got_reads OneSubmission = tt
 got_reads _ = tt
@@ -99,21 +99,28 @@ allowed_reads : (allowed : AllowedMethods) (o : Option Operation) → MayRead o 
 allowed_reads allowed None h = tt
 allowed_reads allowed (Some operation) h = h
 
-offered_reads : (route : Route) (o : Option AllowedMethods) → AsksToRead (offered Get route o)
-offered_reads route None = tt
-offered_reads route (Some allowed) = allowed_reads allowed (operation_of route Get) (got_reads route)
+method_reads : (method : Method) (route : Route) → is_read method ≡ true → MayRead (operation_of route method)
+method_reads Get route h = got_reads route
+method_reads Head route h = got_reads route
+method_reads Post route h = absurd (false≢true h)
+method_reads Patch route h = absurd (false≢true h)
+method_reads Other route h = absurd (false≢true h)
 
-here_reads : (route : Route) (b : Bool) → AsksToRead (if b then offered Get route (allowed_on route) else Err (refused NotFound))
-here_reads route true = offered_reads route (allowed_on route)
-here_reads route false = tt
+offered_reads : (method : Method) (route : Route) (o : Option AllowedMethods) → is_read method ≡ true → AsksToRead (offered method route o)
+offered_reads method route None h = tt
+offered_reads method route (Some allowed) h = allowed_reads allowed (operation_of route method) (method_reads method route h)
 
-route_reads : (contest path : List ℕ) (o : Option Route)
-    → AsksToRead (elim o as (λ _. Result Operation Reply) [ None ↦ Err (refused NotFound) | (Some route) ↦ if is_here contest path route then offered Get route (allowed_on route) else Err (refused NotFound) ])
-route_reads contest path None = tt
-route_reads contest path (Some route) = here_reads route (is_here contest path route)
+here_reads : (method : Method) (route : Route) (b : Bool) → is_read method ≡ true → AsksToRead (if b then offered method route (allowed_on route) else Err (refused NotFound))
+here_reads method route true h = offered_reads method route (allowed_on route) h
+here_reads method route false h = tt
 
-asked_reads : (contest path : List ℕ) (method : Method) → method ≡ Get → AsksToRead (asked contest path method)
-asked_reads contest path method e = subst (λ m. AsksToRead (asked contest path m)) (sym e) (route_reads contest path (route_of path))
+route_reads : (contest path : List ℕ) (method : Method) (o : Option Route) → is_read method ≡ true
+    → AsksToRead (elim o as (λ _. Result Operation Reply) [ None ↦ Err (refused NotFound) | (Some route) ↦ if is_here contest path route then offered method route (allowed_on route) else Err (refused NotFound) ])
+route_reads contest path method None h = tt
+route_reads contest path method (Some route) h = here_reads method route (is_here contest path route) h
+
+asked_reads : (contest path : List ℕ) (method : Method) → is_read method ≡ true → AsksToRead (asked contest path method)
+asked_reads contest path method h = route_reads contest path method (route_of path) h
 
 reads_add_nothing : (x : ContestState) (now : ℕ) (who : Option Caller) (request : Request) (asks : Result Operation Reply) → AsksToRead asks → (outcome_of x now who request asks).entries ≡ []
 reads_add_nothing x now who request (Err reply) h = refl
@@ -122,7 +129,7 @@ reads_add_nothing x now (Some who) request (Ok ListSubmissions) h = refl
 reads_add_nothing x now (Some who) request (Ok GetSubmission) h = telling_only (submission_found (audience_of who) now x (object_piece request.path))
 reads_add_nothing x now (Some who) request (Ok PostSubmission) h = absurd h
 
-pub read_adds_nothing : (x : ContestState) (now : ℕ) (credential : Credential) (request : Request) → request.method ≡ Get → (step x now credential request).1 ≡ x
+pub read_adds_nothing : (x : ContestState) (now : ℕ) (credential : Credential) (request : Request) → is_read request.method ≡ true → (step x now credential request).1 ≡ x
 read_adds_nothing x now credential request e =
     let contest = x.fixed.settings.head.id in
     ap (add_all x) (reads_add_nothing x now (caller_of x.fixed credential) request (asked contest request.path request.method) (asked_reads contest request.path request.method e))

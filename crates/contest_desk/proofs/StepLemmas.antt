@@ -4,10 +4,9 @@ use Rattle.serde_json.specs.Data.{Data}
 use Rattle.contest_types.specs.State.{ContestState}
 use Rattle.contest_types.specs.declared.audience.Audience.{Audience}
 use Rattle.contest_desk.specs.Paths.{object_piece}
-use Rattle.contest_desk.specs.Callers.{audience_of}
+use Rattle.contest_desk.specs.Callers.{Caller, audience_of}
 use Rattle.contest_desk.specs.ReadSubmissions.{telling_found, list_submissions, get_submission}
 use Rattle.contest_desk.specs.Step.{perform}
-use Rattle.contest_desk.specs.declared.caller.Caller.{Caller}
 use Rattle.contest_desk.specs.declared.offer.Operation.{Operation}
 use Rattle.contest_desk.specs.declared.offer.Operation.TheVariants.{ListSubmissions, GetSubmission}
 use Rattle.contest_desk.specs.declared.request.Request.{Request}

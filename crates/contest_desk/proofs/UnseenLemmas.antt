@@ -105,19 +105,20 @@ unseen_release a x v h =
     }
 
 -- what isn't heard goes to no one whose clarifications are heard
-not_heard : (a : Audience) (from to : Addressee) (b : Bool) → hears a from ≡ false → hears a to ≡ true → same_addressee from to ≡ b → b ≡ false
-not_heard a from to true f t e = sym t ∙ (ap (hears a) (sym (same_is_one from to e)) ∙ f)
-not_heard a from to false f t e = refl
+not_heard : (a : Audience) (s : Setup) (from to : Addressee) (b : Bool) → hears a s from ≡ false → hears a s to ≡ true → same_addressee from to ≡ b → b ≡ false
+not_heard a s from to true f t e = sym t ∙ (ap (hears a s) (sym (same_is_one from to e)) ∙ f)
+not_heard a s from to false f t e = refl
 
-unheard_clarification : (a : Audience) (x : ContestState) (c : Clarification) → IsUnheard a c → Alike a (add x (NewClarification c)) x
+unheard_clarification : (a : Audience) (x : ContestState) (c : Clarification) → IsUnheard a x c → Alike a (add x (NewClarification c)) x
 unheard_clarification a x c h =
-    let told : (to : Addressee) (b : Bool) → hears a to ≡ b
-    → (if b then map (open_clarification a) (clarifications_to to (x.clarifications ++ c ∷ [])) else []) ≡ (if b then map (open_clarification a) (clarifications_to to x.clarifications) else []) =
+    let s = x.fixed.settings in
+    let told : (to : Addressee) (b : Bool) → hears a s to ≡ b
+    → (if b then map (open_clarification a s) (clarifications_to to (x.clarifications ++ c ∷ [])) else []) ≡ (if b then map (open_clarification a s) (clarifications_to to x.clarifications) else []) =
     λ to. elim [
-      | true ↦ λ t. ap (map (open_clarification a)) (filter_more_not (λ d. same_addressee d.addressee to) x.clarifications c (not_heard a c.addressee to _ h t refl))
+      | true ↦ λ t. ap (map (open_clarification a s)) (filter_more_not (λ d. same_addressee d.addressee to) x.clarifications c (not_heard a s c.addressee to _ h t refl))
       | false ↦ λ t. refl
     ] in
-    record { fixed = refl; teams = λ team. refl; told = λ to. told to (hears a to) refl }
+    record { fixed = refl; teams = λ team. refl; told = λ to. told to (hears a s to) refl }
 
 pub unseen_entry : (a : Audience) (x : ContestState) (e : Entry) → IsUnseen a x e → Alike a (add x e) x
 unseen_entry a x (NewSubmission s) h = unseen_submission a x s h

@@ -13,6 +13,7 @@ use Rattle.contest_desk.specs.Serving.{IsStoreReply}
 use Rattle.contest_desk.specs.Step.{step}
 use Rattle.contest_desk.specs.declared.request.Credential.{Credential}
 use Rattle.contest_desk.specs.declared.request.KeyField.{KeyField}
+use Rattle.contest_desk.specs.declared.request.Method.TheVariants.{Get, Head}
 use Rattle.contest_desk.specs.declared.request.Request.{Request}
 
 -- whoever has this credential, if anyone, has the sight of this audience
@@ -49,6 +50,12 @@ StepsAlike =
     (a : Audience) (now : ℕ) (credential : Credential) (request : Request) (x y : ContestState) → is_valid x ≡ true → is_valid y ≡ true
     → HasSight x.fixed credential a → MayBeHeld a now x → Alike a x y
     → ((step x now credential request).0 ≡ (step y now credential request).0) × Alike a (step x now credential request).1 (step y now credential request).1
+
+-- HEAD is answered as GET is; the body's bytes are left out where the reply is written
+abbrev pub HeadIsGet : Type 0
+HeadIsGet =
+    (x : ContestState) (now : ℕ) (credential : Credential) (request : Request)
+    → step x now credential (record request { method = Head }) ≡ step x now credential (record request { method = Get })
 
 -- a step leaves a valid contest valid
 abbrev pub StepsKeepValid : Type 0

@@ -1,5 +1,5 @@
 -- What may be asked on each route (Contest API 2023-06). A route on which nothing is served yet offers
--- nothing; HEAD comes with the HTTP messages.
+-- nothing; HEAD asks for what GET asks for (RFC 9110, section 9.3.2).
 use Rattle.std.specs.Prelude.{ℕ, Bool, true, false, List, Option, Some, None, codes}
 use Rattle.contest_desk.specs.declared.route.Route.{Route}
 use Rattle.contest_desk.specs.declared.route.Route.TheVariants as route
@@ -11,8 +11,8 @@ use Rattle.contest_desk.specs.declared.offer.AllowedMethods.{AllowedMethods}
 use Rattle.contest_desk.specs.declared.offer.AllowedMethods.TheVariants as allowed
 
 abbrev pub methods_text : AllowedMethods → List ℕ
-methods_text allowed.Get = codes "GET"
-methods_text allowed.GetPost = codes "GET, POST"
+methods_text allowed.Get = codes "GET, HEAD"
+methods_text allowed.GetPost = codes "GET, HEAD, POST"
 
 -- the route's paths name a contest
 abbrev pub is_of_contest : Route → Bool
@@ -33,9 +33,27 @@ allowed_on route.Submissions = Some allowed.GetPost
 allowed_on route.Submission = Some allowed.Get
 allowed_on _ = None
 
+-- what is read on a route
+abbrev pub read_on : Route → Option Operation
+read_on route.Submissions = Some ListSubmissions
+read_on route.Submission = Some GetSubmission
+read_on _ = None
+
+-- what is posted there
+abbrev pub posted_on : Route → Option Operation
+posted_on route.Submissions = Some PostSubmission
+posted_on _ = None
+
+-- the method reads, and adds nothing
+abbrev pub is_read : Method → Bool
+is_read method.Get = true
+is_read method.Head = true
+is_read _ = false
+
 -- what a method asks for there
 abbrev pub operation_of : Route → Method → Option Operation
-operation_of route.Submissions method.Get = Some ListSubmissions
-operation_of route.Submissions method.Post = Some PostSubmission
-operation_of route.Submission method.Get = Some GetSubmission
-operation_of _ _ = None
+operation_of route method.Get = read_on route
+operation_of route method.Head = read_on route
+operation_of route method.Post = posted_on route
+operation_of route method.Patch = None
+operation_of route method.Other = None

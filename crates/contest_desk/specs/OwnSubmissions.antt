@@ -1,5 +1,6 @@
 -- A team's own submissions as they are loaded to decide on its next one: without their files, but for
 -- the one that has the key that is asked with (own).
+-- Words of private functions: nothing public is said with them.
 use Rattle.std.specs.Prelude.{ℕ, List, Option, Some, None, map, slice_get, slice_set}
 use Rattle.contest_types.specs.Loads.{without_file}
 use Rattle.contest_types.specs.declared.submission.Submission.{Submission}

@@ -8,11 +8,10 @@ use Rattle.contest_desk.specs.Replies.{refused, refused_method}
 use Rattle.contest_desk.specs.Routes.{route_of}
 use Rattle.contest_desk.specs.Paths.{contest_piece, object_piece}
 use Rattle.contest_desk.specs.Offers.{is_of_contest, allowed_on, operation_of}
-use Rattle.contest_desk.specs.Callers.{caller_of, audience_of, team_of}
+use Rattle.contest_desk.specs.Callers.{Caller, caller_of, audience_of, team_of}
 use Rattle.contest_desk.specs.Outcomes.{Outcome, replying, refusing}
 use Rattle.contest_desk.specs.PostSubmission.{post_submission}
 use Rattle.contest_desk.specs.ReadSubmissions.{list_submissions, get_submission}
-use Rattle.contest_desk.specs.declared.caller.Caller.{Caller}
 use Rattle.contest_desk.specs.declared.offer.AllowedMethods.{AllowedMethods}
 use Rattle.contest_desk.specs.declared.offer.Operation.{Operation}
 use Rattle.contest_desk.specs.declared.offer.Operation.TheVariants.{ListSubmissions, PostSubmission, GetSubmission}

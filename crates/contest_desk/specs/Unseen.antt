@@ -31,8 +31,8 @@ pub record IsUnseenRelease (a : Audience) (x : ContestState) (v : Release) : Typ
   pub held : (is_public x.fixed.settings v.team ≡ false) ⊎ IsOnFrozen x v
 
 -- a clarification that the audience doesn't hear
-abbrev pub IsUnheard : Audience → Clarification → Type 0
-IsUnheard a c = hears a c.addressee ≡ false
+abbrev pub IsUnheard : Audience → ContestState → Clarification → Type 0
+IsUnheard a x c = hears a x.fixed.settings c.addressee ≡ false
 
 -- a change that an audience can't notice
 abbrev pub IsUnseen : Audience → ContestState → Entry → Type 0
@@ -40,7 +40,7 @@ IsUnseen a x (NewSubmission s) = IsUnseenSubmission a x s
 -- proposals are the jury's alone, for whatever submission
 IsUnseen a x (NewProposal p) = Unit {0}
 IsUnseen a x (NewRelease v) = IsUnseenRelease a x v
-IsUnseen a x (NewClarification c) = IsUnheard a c
+IsUnseen a x (NewClarification c) = IsUnheard a x c
 -- so are rejudgings, until a verdict comes of them, which is a release
 IsUnseen a x (NewRejudging r) = Unit {0}
 IsUnseen a x (SetMember n place state) = Unit {0}

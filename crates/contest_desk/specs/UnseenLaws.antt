@@ -1,14 +1,14 @@
 -- What an audience can't notice leaves the contest alike for it. Each law is the contract of a function
 -- of src/unseen.rt.
-use Rattle.std.specs.Prelude.{◌≡◌, ◌≢◌, ◌⊎◌, ℕ, List}
+use Rattle.std.specs.Prelude.{◌≡◌, ◌≢◌, ◌⊎◌, ℕ, true, List}
 use Rattle.contest_types.specs.State.{ContestState, add, add_all}
 use Rattle.contest_types.specs.Alike.{Alike}
 use Rattle.contest_types.specs.declared.entry.Entry.{Entry}
 use Rattle.contest_types.specs.declared.audience.Audience.{Audience}
+use Rattle.contest_desk.specs.Offers.{is_read}
 use Rattle.contest_desk.specs.Step.{outcome, step}
 use Rattle.contest_desk.specs.Unseen.{IsUnseen, AreUnseen}
 use Rattle.contest_desk.specs.declared.request.Credential.{Credential}
-use Rattle.contest_desk.specs.declared.request.Method.TheVariants.{Get}
 use Rattle.contest_desk.specs.declared.request.Request.{Request}
 
 -- one entry that can't be noticed leaves the contest alike
@@ -25,16 +25,16 @@ RefusedStep =
     (x : ContestState) (now : ℕ) (credential : Credential) (request : Request)
     → (step x now credential request).0.status ≢ 200 → (step x now credential request).1 ≡ x
 
--- and so does one that reads
+-- and so does one that reads: a GET or a HEAD
 abbrev pub ReadStep : Type 0
 ReadStep =
     (x : ContestState) (now : ℕ) (credential : Credential) (request : Request)
-    → request.method ≡ Get → (step x now credential request).1 ≡ x
+    → is_read request.method ≡ true → (step x now credential request).1 ≡ x
 
 -- a request that is refused, or reads, or adds only what an audience can't notice
 abbrev pub IsUnnoticed : Audience → ContestState → (now : ℕ) → Credential → Request → Type 0
 IsUnnoticed a x now credential request =
-    ((step x now credential request).0.status ≢ 200) ⊎ ((request.method ≡ Get) ⊎ AreUnseen a x (outcome x now credential request).entries)
+    ((step x now credential request).0.status ≢ 200) ⊎ ((is_read request.method ≡ true) ⊎ AreUnseen a x (outcome x now credential request).entries)
 
 -- whoever asks: such a request leaves the contest alike
 abbrev pub UnseenStep : Type 0

@@ -1,6 +1,6 @@
 //! Laws of the desk's steps: functions that do nothing, and whose contracts say what holds of every
 //! contest.
-ghost use Rattle.contest_desk.specs.Laws.{GetsAlike, ListsAlike, PostsAlike, StepsAlike, StepsKeepValid, StepsNeverFail};
+ghost use Rattle.contest_desk.specs.Laws.{GetsAlike, HeadIsGet, ListsAlike, PostsAlike, StepsAlike, StepsKeepValid, StepsNeverFail};
 
 /// Until the thaw, valid contests that agree on all that a caller may learn answer each of its
 /// requests byte for byte alike, and agree on it afterwards.
@@ -23,6 +23,11 @@ pub fn gets_alike()
 /// depend on that team's submissions alone.
 pub fn posts_alike()
     ensures { PostsAlike }
+{}
+
+/// HEAD is answered as GET is; who writes the reply leaves out the body's bytes.
+pub fn head_is_get()
+    ensures { HeadIsGet }
 {}
 
 /// A step leaves a valid contest valid.

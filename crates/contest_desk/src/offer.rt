@@ -1,6 +1,6 @@
 //! What may be asked on each route.
 ghost use Rattle.std.specs.Prelude.{◌≡◌};
-ghost use Rattle.contest_desk.specs.Offers.{allowed_on, is_of_contest, methods_text, operation_of};
+ghost use Rattle.contest_desk.specs.Offers.{allowed_on, is_of_contest, methods_text, operation_of, posted_on, read_on};
 
 use crate::{Method, Route};
 
@@ -18,9 +18,9 @@ pub enum Operation {
 /// The methods of a route, as an `Allow` field lists them.
 #[derive(Clone, Copy, Debug, PartialEq, Eq)]
 pub enum AllowedMethods {
-    /// `GET`.
+    /// `GET, HEAD`.
     Get,
-    /// `GET, POST`.
+    /// `GET, HEAD, POST`.
     GetPost,
 }
 
@@ -30,8 +30,8 @@ impl AllowedMethods {
         ensures { result.now ≡ methods_text self }
     {
         match self {
-            AllowedMethods::Get => "GET",
-            AllowedMethods::GetPost => "GET, POST",
+            AllowedMethods::Get => "GET, HEAD",
+            AllowedMethods::GetPost => "GET, HEAD, POST",
         }
     }
 }
@@ -65,14 +65,34 @@ pub fn allowed_on(route: Route) -> Option<AllowedMethods>
     }
 }
 
+/// What is read on a route.
+fn read_on(route: Route) -> Option<Operation>
+    ensures { result ≡ read_on route }
+{
+    match route {
+        Route::Submissions => Some(Operation::ListSubmissions),
+        Route::Submission => Some(Operation::GetSubmission),
+        _ => None,
+    }
+}
+
+/// What is posted on a route.
+fn posted_on(route: Route) -> Option<Operation>
+    ensures { result ≡ posted_on route }
+{
+    match route {
+        Route::Submissions => Some(Operation::PostSubmission),
+        _ => None,
+    }
+}
+
 /// What a method asks for on a route; none where the route doesn't offer it.
 pub fn operation_of(route: Route, method: Method) -> Option<Operation>
     ensures { result ≡ operation_of route method }
 {
-    match (route, method) {
-        (Route::Submissions, Method::Get) => Some(Operation::ListSubmissions),
-        (Route::Submissions, Method::Post) => Some(Operation::PostSubmission),
-        (Route::Submission, Method::Get) => Some(Operation::GetSubmission),
-        _ => None,
+    match method {
+        Method::Get | Method::Head => read_on(route),
+        Method::Post => posted_on(route),
+        Method::Patch | Method::Other => None,
     }
 }

@@ -53,7 +53,7 @@ pub fn serve<L: Records>(
     let Some(caller) = caller_of(&fixed, credential) else {
         return Ok(Reply::refused(Refusal::UnknownToken));
     };
-    perform(alloc, records, &fixed, now, caller, operation, request)
+    perform(alloc, records, &fixed, now, &caller, operation, request)
 }
 
 // What a known caller asks for.
@@ -62,17 +62,17 @@ fn perform<L: Records>(
     records: &mut L,
     fixed: &Fixed,
     now: Moment,
-    caller: Caller,
+    caller: &Caller<'_>,
     operation: Operation,
     request: Request,
 ) -> Result<Reply, Refusal>
     requires ready { L.is_clean records.old → IsReady L.contest L.committed L.is_open L.may_leave records.old fixed.now }
-    requires there { L.is_clean records.old → IfSome (team_of caller) (λ team. team < length fixed.now.settings.teams) }
-    ensures step { L.is_clean records.new → IfOk result (Serves L.contest L.committed L.is_open records.old records.new (λ x. perform x now caller operation request)) }
+    requires there { L.is_clean records.old → IfSome (team_of caller.now) (λ team. team < length fixed.now.settings.teams) }
+    ensures step { L.is_clean records.new → IfOk result (Serves L.contest L.committed L.is_open records.old records.new (λ x. perform x now caller.now operation request)) }
     ensures ordinary { IfOk result IsOrdinary }
     ensures err { L.is_clean records.new → IsTrue (L.is_open records.new) → OnErr result (RollsBack L.contest L.committed L.is_open records.old records.new) }
     ensures settled { L.is_clean records.new → IsTrue (L.is_open records.new) → LeavesOnly L.may_leave records.new (L.committed records.new) }
-    ensures crash { L.is_clean records.new → LeavesOr L.may_leave records.old records.new (after (λ x. perform x now caller operation request) (L.contest records.old)) }
+    ensures crash { L.is_clean records.new → LeavesOr L.may_leave records.old records.new (after (λ x. perform x now caller.now operation request) (L.contest records.old)) }
     ensures clean { L.is_clean records.new → L.is_clean records.old }
     ensures up { L.is_clean records.new → IsTrue (L.is_open records.new) → IsTrue (L.is_open records.old) }
     ensures count { CountsFaults result (L.faults records.old) (L.faults records.new) }

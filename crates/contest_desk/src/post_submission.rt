@@ -11,7 +11,7 @@ ghost use Rattle.contest_desk.specs.PostSubmission.{deciding, own_submission, po
 ghost use Rattle.contest_desk.specs.Replies.{answer};
 ghost use Rattle.contest_desk.specs.Serving.{IsOrdinary, IsReady, Serves, after};
 
-use crate::caller::audience_of_team;
+use crate::caller::audience_at;
 use crate::own_submissions::own_submissions;
 use crate::submission_body::read_submission;
 use crate::{KeyField, Reply};
@@ -143,7 +143,7 @@ fn own_reply(
     ensures ordinary { IfOk result IsOrdinary }
     ensures reply { team + 1 < 2 ^ 64 → IfOk result (λ reply. reply ≡ answer (own_submission fixed.now team submission.now)) }
 {
-    let value = submission_value(alloc, fixed, audience_of_team(team), submission)?;
+    let value = submission_value(alloc, fixed, audience_at(team), submission)?;
     Ok(Reply::answer(value.to_vec(alloc)?))
 }
 

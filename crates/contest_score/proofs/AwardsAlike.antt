@@ -25,14 +25,15 @@ use Rattle.contest_score.specs.Ranking.{board_rows, problem_order}
 use Rattle.contest_score.specs.Masks.{attempt_under, attempts_under, is_by, start_of}
 use Rattle.contest_score.specs.Contest.{judged_submissions, contest_cell, board_for, solve_of, solves_of}
 use Rattle.contest_score.specs.Awards.{Award, awards_of, shows_awards, shown_awards}
-use Rattle.contest_score.proofs.MaskLemmas.{map_same, never_frozen, seen_attempt, attempts_seen}
+use Rattle.contest_score.specs.ScoringLaws.{seen_attempt}
+use Rattle.contest_score.proofs.MaskLemmas.{map_same, never_frozen, attempts_seen}
 use Rattle.contest_score.proofs.BoardAlike.{board_same, seen_of_public}
 
-abbrev attempts_of : Mask → ContestState → ℕ → ℕ → List Attempt
+abbrev pub attempts_of : Mask → ContestState → ℕ → ℕ → List Attempt
 attempts_of mask x = attempts_under mask x.fixed.settings x.fixed.marks (judged_submissions x)
 
 -- with no freeze, both masks show the same attempts
-same_attempts : (mask : Mask) (x : ContestState) (team problem : ℕ) → freeze_of x.fixed.settings x.fixed.marks ≡ None → attempts_of mask x team problem ≡ attempts_of Full x team problem
+pub same_attempts : (mask : Mask) (x : ContestState) (team problem : ℕ) → freeze_of x.fixed.settings x.fixed.marks ≡ None → attempts_of mask x team problem ≡ attempts_of Full x team problem
 same_attempts Full x team problem h = refl
 same_attempts Held x team problem h =
     let s = x.fixed.settings in
@@ -50,7 +51,7 @@ attempts_alike a now x y team problem m h none see =
     ∙ ap (λ (f : FixedPart). from y f.settings.types) h.fixed in
     sym (same_attempts (mask_for a x.fixed.marks now team) x team problem none) ∙ (attempts_seen a now x team problem see ∙ (same ∙ (sym (attempts_seen a now y team problem see_too) ∙ same_attempts (mask_for a y.fixed.marks now team) y team problem none_too)))
 
-flat_map_kept : {X Y : Type 0} (kept : X → Bool) (f g : X → List Y) → ((x : X) → kept x ≡ true → f x ≡ g x) → (xs : List X) → flat_map f (filter kept xs) ≡ flat_map g (filter kept xs)
+pub flat_map_kept : {X Y : Type 0} (kept : X → Bool) (f g : X → List Y) → ((x : X) → kept x ≡ true → f x ≡ g x) → (xs : List X) → flat_map f (filter kept xs) ≡ flat_map g (filter kept xs)
 flat_map_kept kept f g h [] = refl
 flat_map_kept {X} {Y} kept f g h (x ∷ xs) =
     let rest = flat_map_kept kept f g h xs in
@@ -58,7 +59,7 @@ flat_map_kept {X} {Y} kept f g h (x ∷ xs) =
     elim [ true ↦ λ e. rw (h x e, rest) refl | false ↦ λ e. rest ] in
     go (kept x) refl
 
-abbrev solve_from : ℕ → ℕ → List Attempt → Option Solve
+abbrev pub solve_from : ℕ → ℕ → List Attempt → Option Solve
 solve_from team problem attempts = option_map (λ (t : Attempt). record { team = team; problem = problem; time = t.time }) (find is_solving attempts)
 
 solves_alike : (a : Audience) (now : ℕ) (x y : ContestState) → MayBeHeld a now x → Alike a x y → freeze_of x.fixed.settings x.fixed.marks ≡ None → solves_of x ≡ solves_of y

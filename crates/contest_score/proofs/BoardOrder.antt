@@ -45,20 +45,20 @@ then_assoc Equal Equal z w = refl
 then_assoc Equal Greater z w = refl
 then_assoc Greater y z w = refl
 
-row_cmp_total : (s : Setup) (shown : ℕ → Bool) (cells : ℕ → ℕ → Cell) → IsTotalOrder (row_cmp s shown cells)
+pub row_cmp_total : (s : Setup) (shown : ℕ → Bool) (cells : ℕ → ℕ → Cell) → IsTotalOrder (row_cmp s shown cells)
 row_cmp_total s shown cells = then_total (on_total (rank_of s shown cells) nat_cmp_total) (then_total (on_total (name_at s) nat_list_cmp_total) (on_total (team_id_at s) nat_list_cmp_total))
 
 -- better by the test is better by the order
 beats_is : (m n t u l k : ℕ) → (ltb n m || (eqb m n && (ltb t u || (eqb t u && ltb l k)))) ≡ is_lt (ordering_then (nat_cmp n m) (ordering_then (nat_cmp t u) (nat_cmp l k)))
 beats_is m n t u l k = grind (arith, nat_tests)
 
-beats_scores : (x y : Score) → beats x y ≡ is_lt (ordering_then (nat_cmp y.solved x.solved) (ordering_then (nat_cmp x.total y.total) (nat_cmp (last_minute x) (last_minute y))))
+pub beats_scores : (x y : Score) → beats x y ≡ is_lt (ordering_then (nat_cmp y.solved x.solved) (ordering_then (nat_cmp x.total y.total) (nat_cmp (last_minute x) (last_minute y))))
 beats_scores x y = beats_is x.solved y.solved x.total y.total (last_minute x) (last_minute y)
 
 beats_told : (s : Setup) (cells : ℕ → ℕ → Cell) (a b : Standing) → TellsTeam s cells a → TellsTeam s cells b → beats (score_of_team s cells a.place) (score_of_team s cells b.place) ≡ is_lt (standing_cmp a b)
 beats_told s cells a b ta tb = rw (ta.solved, tb.solved, ta.total, tb.total, ta.last, tb.last) (beats_scores (score_of_team s cells a.place) (score_of_team s cells b.place))
 
-count_by_map : {X Y : Type 0} (p : Y → Bool) (f : X → Y) (xs : List X) → count_by p (map f xs) ≡ count_by (λ x. p (f x)) xs
+pub count_by_map : {X Y : Type 0} (p : Y → Bool) (f : X → Y) (xs : List X) → count_by p (map f xs) ≡ count_by (λ x. p (f x)) xs
 count_by_map p f [] = refl
 count_by_map p f (x ∷ xs) = sum_by-cons (λ y. cond (p y) 1 0) (f x) (map f xs) ∙ (ap (λ n. cond (p (f x)) 1 0 + n) (count_by_map p f xs) ∙ sym (sum_by-cons (λ y. cond (p (f y)) 1 0) x xs))
 

@@ -61,7 +61,7 @@ is_some-map : {X Y : Type 0} (f : X → Y) (o : Option X) → is_some (option_ma
 is_some-map f None = refl
 is_some-map f (Some x) = refl
 
-solved_cell : (start : ℕ) (xs : List Attempt) → list_any is_solving xs ≡ true → is_solved (cell_of_attempts start xs) ≡ true
+pub solved_cell : (start : ℕ) (xs : List Attempt) → list_any is_solving xs ≡ true → is_solved (cell_of_attempts start xs) ≡ true
 solved_cell start xs h = is_some-map _ (find is_solving (counted xs)) ∙ found_counted xs h
 
 open_cell : (start : ℕ) (xs : List Attempt) → list_any is_solving xs ≡ false → is_solved (cell_of_attempts start xs) ≡ false
@@ -73,13 +73,17 @@ with_solved start c x h = rw h refl
 with_open : (start : ℕ) (c : Cell) (x : Attempt) → is_solved c ≡ false → cell_with start c x ≡ attempted_with start c x.time x.verdict
 with_open start c x h = rw h refl
 
+-- past one that solves the cell stays
+pub cell_past : (start : ℕ) (xs ys : List Attempt) → list_any is_solving xs ≡ true → cell_of_attempts start (xs ++ ys) ≡ cell_of_attempts start xs
+cell_past start xs ys yet =
+    let cell : List Attempt → Cell = λ counts. record { judged = count_by is_judged counts; pending = count_by is_pending counts; solved = option_map (λ (a : Attempt). minute_of start a.time) (find is_solving counts); penalties = count_by is_penalised counts } in
+    let same : cell (counted (xs ++ ys)) ≡ cell (counted xs) = ap cell (counted_past xs ys yet) in
+    same
+
 -- the cell of attempts with one more at the end
 pub cell_more : (start : ℕ) (xs : List Attempt) (x : Attempt) → cell_of_attempts start (xs ++ x ∷ []) ≡ cell_with start (cell_of_attempts start xs) x
 cell_more start xs x = elim (cases_Bool (list_any is_solving xs)) [
-  | inl yet ↦ (
-      let cell : List Attempt → Cell = λ counts. record { judged = count_by is_judged counts; pending = count_by is_pending counts; solved = option_map (λ (a : Attempt). minute_of start a.time) (find is_solving counts); penalties = count_by is_penalised counts } in
-      let same : cell (counted (xs ++ x ∷ [])) ≡ cell (counted xs) = ap cell (counted_past xs (x ∷ []) yet) in
-      same ∙ sym (with_solved start (cell_of_attempts start xs) x (solved_cell start xs yet)))
+  | inl yet ↦ cell_past start xs (x ∷ []) yet ∙ sym (with_solved start (cell_of_attempts start xs) x (solved_cell start xs yet))
   | inr not_yet ↦ seen_more start xs x x.verdict refl not_yet ∙ sym (with_open start (cell_of_attempts start xs) x (open_cell start xs not_yet))
 ]
 

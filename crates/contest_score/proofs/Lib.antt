@@ -21,3 +21,10 @@ mod ExamplesBoard
 mod ExamplesAwards
 pub mod BoardAlike
 pub mod AwardsAlike
+pub mod SeenScores
+pub mod OneChange
+pub mod HiddenTeams
+pub mod SameElements
+pub mod BoardRows
+pub mod MedalTeams
+pub mod FirstTeams

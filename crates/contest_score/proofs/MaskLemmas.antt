@@ -6,7 +6,7 @@ use Rattle.contest_types.specs.Setup.{Setup}
 use Rattle.contest_types.specs.Clock.{freeze_of, is_frozen, reached}
 use Rattle.contest_types.specs.Masks.{owns, mask_for, verdict_under}
 use Rattle.contest_types.specs.State.{ContestState, submissions_of}
-use Rattle.contest_types.specs.Sight.{Judgement, SeenSubmission, type_of, last_judgement, sees_team, seen_judgement, seen_submission, seen_of_team}
+use Rattle.contest_types.specs.Sight.{Judgement, type_of, last_judgement, sees_team, seen_judgement, seen_submission, seen_of_team}
 use Rattle.contest_types.specs.Alike.{Alike, MayBeHeld}
 use Rattle.contest_types.proofs.SightLemmas.{map-filter_same, team_alike}
 use Rattle.contest_types.specs.declared.audience.Audience.{Audience}
@@ -24,6 +24,7 @@ use Rattle.contest_score.specs.Scoring.{is_solving, counted, cell_of_attempts}
 use Rattle.contest_score.specs.Masks.{verdict_of, attempt_under, is_by, attempts_under, start_of, cell_under}
 use Rattle.contest_score.specs.Contest.{judged_submission, judged_submissions, contest_cell, seen_cell}
 use Rattle.contest_score.specs.Laws.{WhatCounts, with_freeze, without_frozen}
+use Rattle.contest_score.specs.ScoringLaws.{seen_attempt}
 use Rattle.contest_score.proofs.Counted.{until_solved, counted-until, until_solved-append, counted_past}
 
 after_it : (a : Attempt) (later : List Attempt) (b : Bool) → (if b then [] else until_solved later) ≡ (if b then [] else counted later)
@@ -63,7 +64,7 @@ no_mask x team problem h =
     ap (cell_of_attempts (start_of marks)) (map_same (attempt_under Held s marks) (attempt_under Full s marks) same (filter (is_by team problem) (judged_submissions x)))
 
 -- what a map keeps the test of
-filter_mapped : {X Y : Type 0} (p : Y → Bool) (q : X → Bool) (f : X → Y) → ((x : X) → p (f x) ≡ q x) → (xs : List X) → filter p (map f xs) ≡ map f (filter q xs)
+pub filter_mapped : {X Y : Type 0} (p : Y → Bool) (q : X → Bool) (f : X → Y) → ((x : X) → p (f x) ≡ q x) → (xs : List X) → filter p (map f xs) ≡ map f (filter q xs)
 filter_mapped p q f h [] = refl
 filter_mapped p q f h (x ∷ xs) =
     let rest = filter_mapped p q f h xs in
@@ -86,10 +87,6 @@ filter_both p q (x ∷ xs) =
     let go : (b c : Bool) → q x ≡ c → (if (b && c) then x ∷ filter (λ y. p y && q y) xs else filter (λ y. p y && q y) xs) ≡ filter q (if b then x ∷ filter p xs else filter p xs) =
     elim [ true ↦ elim [ true ↦ λ e. rw (e, rest) refl | false ↦ λ e. rw (e, rest) refl ] | false ↦ λ c e. rest ] in
     go (p x) (q x) refl
-
--- an attempt as it is seen
-abbrev pub seen_attempt : List JudgementType → SeenSubmission → Attempt
-seen_attempt types v = record { time = v.time; verdict = verdict_of types (type_of v.judgement) }
 
 type_under : (mask : Mask) (s : Setup) (marks : Marks) (time : ℕ) (j : Option Judgement) → verdict_under mask s marks time (type_of j) ≡ type_of (verdict_under mask s marks time j)
 type_under Full s marks time j = refl

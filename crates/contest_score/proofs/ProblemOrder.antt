@@ -38,7 +38,7 @@ key_cmp a b = ordering_then (nat_cmp a.ordinal b.ordinal) (ordering_then (slice_
 key_cmp_total : IsTotalOrder key_cmp
 key_cmp_total = then_total (on_total (λ (k : ProblemKey). k.ordinal) nat_cmp_total) (then_total (on_total (λ (k : ProblemKey). k.id.now) nat_list_cmp_total) (on_total (λ (k : ProblemKey). k.place) nat_cmp_total))
 
-problem_cmp_total : (ps : List Problem) → IsTotalOrder (problem_cmp ps)
+pub problem_cmp_total : (ps : List Problem) → IsTotalOrder (problem_cmp ps)
 problem_cmp_total ps = then_total (on_total (ordinal_at ps) nat_cmp_total) (on_total (problem_id_at ps) nat_list_cmp_total)
 
 follows : (ps : List Problem) → are_different (map (λ (p : Problem). p.id) ps) ≡ true → Follows key_cmp (λ k. k.place) (TellsProblem ps) (problem_cmp ps)

@@ -1,5 +1,6 @@
 -- How the awards are found: the first solves of a problem, one solve after another, and the least
 -- rank of a group.
+-- Words of private functions: nothing public is said with them.
 use Rattle.std.specs.Prelude.{ℕ, ◌==◌, Bool, true, nat_lt, nat_le, List, [], ◌∷◌, ◌++◌, Option, Some, None, if◌then◌else◌}
 use Rattle.std.specs.List.{list_any}
 use Rattle.contest_score.specs.declared.row.Row.{Row}

@@ -1,11 +1,13 @@
 -- Awards (Contest API 2023-06, awards): who won what, and when it is shown.
-use Rattle.std.specs.Prelude.{ℕ, ◌+◌, Bool, false, ◌&&◌, ◌||◌, ◌==◌, nat_lt, nat_le, List, [], ◌∷◌, ◌++◌, length, map, filter, is_none, if◌then◌else◌, codes, slice_get}
+use Rattle.std.specs.Prelude.{ℕ, ◌+◌, Bool, ◌&&◌, ◌||◌, ◌==◌, nat_lt, nat_le, List, [], ◌∷◌, ◌++◌, length, map, filter, is_none, if◌then◌else◌, codes, slice_get}
 use Rattle.std.specs.List.{list_any, list_all, range_with_len}
 use Rattle.std.specs.Option.{option_map_or}
 use Rattle.std.specs.Ordering.{nat_cmp}
 use Rattle.std.specs.Cmp.Lexicographic.{slice_cmp}
 use Rattle.contest_types.specs.Setup.{Setup}
 use Rattle.contest_types.specs.Clock.{freeze_of, is_thawed, is_finalized}
+use Rattle.contest_types.specs.ProblemPlaces.{label_at}
+use Rattle.contest_types.specs.TeamPlaces.{is_of_group}
 use Rattle.contest_types.specs.Masks.{is_jury}
 use Rattle.contest_types.specs.State.{ContestState}
 use Rattle.contest_types.specs.declared.audience.Audience.{Audience}
@@ -46,9 +48,6 @@ first_solves problem solves =
     let of_problem = filter (λ (v : Solve). v.problem == problem) solves in
     filter (λ (v : Solve). list_all (λ (w : Solve). nat_le v.time w.time) of_problem) of_problem
 
-abbrev pub label_at : Setup → ℕ → List ℕ
-label_at s problem = option_map_or (λ p. p.label) (slice_get s.problems problem) []
-
 abbrev pub first_to_solve : Setup → List Row → List Solve → ℕ → Award
 first_to_solve s rows solves problem =
     award_to (codes "first-to-solve-" ++ problem_id_at s.problems problem) (codes "First to solve problem " ++ label_at s problem)
@@ -56,7 +55,7 @@ first_to_solve s rows solves problem =
 
 -- the team of the row is in the group at a place
 abbrev pub is_in_group : Setup → ℕ → Row → Bool
-is_in_group s group r = option_map_or (λ t. list_any (λ g. g == group) t.groups) (slice_get s.teams r.team) false
+is_in_group s group r = is_of_group s group r.team
 
 abbrev pub group_id_at : Setup → ℕ → List ℕ
 group_id_at s group = option_map_or (λ g. g.id) (slice_get s.groups group) []

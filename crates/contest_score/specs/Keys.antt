@@ -1,4 +1,5 @@
 -- What the sorts of the board go by.
+-- Words of private functions: nothing public is said with them.
 use Rattle.std.specs.Prelude.{◌≡◌, ℕ, ◌+◌, ◌<◌, List, [], length, slice_get}
 use Rattle.std.specs.Option.{option_map_or}
 use Rattle.std.specs.Ordering.{nat_cmp, ordering_then}

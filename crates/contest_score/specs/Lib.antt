@@ -10,3 +10,6 @@ pub mod Lists
 pub mod Awards
 pub mod AwardSteps
 pub mod Laws
+pub mod ScoringLaws
+pub mod BoardLaws
+pub mod AwardLaws

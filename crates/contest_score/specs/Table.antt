@@ -1,4 +1,5 @@
 -- Cells in plain lists, one for each team.
+-- Words of private functions: nothing public is said with them.
 use Rattle.std.specs.Prelude.{ℕ, List, [], Option, Some, None, slice_get, slice_set, map}
 use Rattle.std.specs.List.{range_with_len}
 use Rattle.contest_score.specs.declared.cell.Cell.{Cell}

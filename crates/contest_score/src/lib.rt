@@ -21,6 +21,7 @@ mod ranking;
 mod row;
 mod score;
 mod scoreboard;
+pub mod scoring_laws;
 mod shown;
 mod solve;
 mod standings;

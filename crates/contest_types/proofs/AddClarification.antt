@@ -3,14 +3,16 @@ use Rattle.std.proofs.Common.{◌≡◌, ℕ, ◌+◌, Bool, true, false, List, 
 use Rattle.std.specs.Prelude.{◌&&◌, ◌||◌, ◌==◌, not, nat_le, nat_lt, count_by, is_some, if◌then◌else◌}
 use Rattle.std.specs.List.{list_all}
 use Rattle.std.specs.Option.{option_map_or}
-use Rattle.std.proofs.Math.Bool.{beq}
+use Rattle.std.specs.Str.{bytes_eq}
 use Rattle.std.proofs.lemmas.Bool.{false≢true, eqb-true, eq-eqb}
+use Rattle.std.proofs.lemmas.Slice.Eq.{bytes_eq-Decides}
 use Rattle.contest_types.specs.MomentText.{latest}
+use Rattle.contest_types.specs.Accounts.{account_named}
 use Rattle.contest_types.specs.Clock.{after}
 use Rattle.contest_types.specs.Series.{in_each, count_up, is_new_key}
 use Rattle.contest_types.specs.State.{ContestState, same_addressee, clarifications_to, add, NewClarification, SetStart, SetThaw, SetFinalized}
 use Rattle.contest_types.specs.ValidSubmissions.{has_valid_submissions}
-use Rattle.contest_types.specs.ValidClarifications.{is_an_addressee, has_clarification, is_well_sent, is_valid_clarification, to_one_addressee, is_request, are_valid_clarifications, in_one_scope, keys_are_own}
+use Rattle.contest_types.specs.ValidClarifications.{is_an_addressee, has_clarification, is_well_sent, is_valid_clarification, to_one_addressee, is_request, are_valid_clarifications, Scope, OfTeam, OfAccount, same_scope, scope_of, in_one_scope, keys_are_own}
 use Rattle.contest_types.specs.Valid.{is_valid}
 use Rattle.contest_types.specs.Addable.{is_addable, is_next_clarification}
 use Rattle.contest_types.specs.declared.limits.TheConstants.{TEAM_REQUESTS, JURY_CLARIFICATIONS}
@@ -18,7 +20,7 @@ use Rattle.contest_types.specs.declared.clarification.Clarification.{Clarificati
 use Rattle.contest_types.specs.declared.clarification.Addressee.{Addressee}
 use Rattle.contest_types.specs.declared.clarification.Addressee.TheVariants as addressee
 use Rattle.contest_types.specs.declared.clarification.Reference.{Reference}
-use Rattle.contest_types.proofs.PlaceLemmas.{and_left, and_right, both_true, all_push}
+use Rattle.contest_types.proofs.PlaceLemmas.{and_left, and_right, both_true, all_push, same_bytes}
 use Rattle.contest_types.proofs.SetupLemmas.{all_wider}
 use Rattle.contest_types.proofs.SightLemmas.{same_is_one}
 use Rattle.contest_types.proofs.SeriesLemmas.{IsTogether, in_each_push, in_any, some_more, room, count_push}
@@ -35,26 +37,23 @@ one_addressee = record {
   same = λ c d e h. ap (same_addressee e.addressee) (sym (same_is_one d.addressee c.addressee h));
 }
 
-equal_itself : (b : Bool) → beq b b ≡ true
-equal_itself true = refl
-equal_itself false = refl
-
-scoped_itself : (jury : Bool) (account : ℕ) (to : Addressee) → (beq jury jury && (if jury then account == account else same_addressee to to)) ≡ true
-scoped_itself true account to = eq-eqb account account refl
-scoped_itself false account to = addressed_itself to
+scoped_itself : (scope : Scope) → same_scope scope scope ≡ true
+scoped_itself (OfTeam to) = addressed_itself to
+scoped_itself (OfAccount id) = (bytes_eq-Decides id id).1 refl
 
 -- who writes in one scope writes in it with the same others
-scoped_same : (j k l : Bool) (a b c : ℕ) (p q r : Addressee) → (beq j k && (if j then b == a else same_addressee q p)) ≡ true
-    → (beq j l && (if j then c == a else same_addressee r p)) ≡ (beq k l && (if k then c == b else same_addressee r q))
-scoped_same true true l a b c p q r h = ap (λ n. beq true l && (c == n)) (sym (eqb-true b a h))
-scoped_same true false l a b c p q r h = absurd (false≢true h)
-scoped_same false true l a b c p q r h = absurd (false≢true h)
-scoped_same false false l a b c p q r h = ap (λ to. beq false l && same_addressee r to) (sym (same_is_one q p h))
+scoped_same : (p q r : Scope) → same_scope p q ≡ true → same_scope p r ≡ same_scope q r
+scoped_same (OfTeam to) (OfTeam other) (OfTeam third) h = ap (same_addressee third) (sym (same_is_one other to h))
+scoped_same (OfTeam to) (OfTeam other) (OfAccount third) h = refl
+scoped_same (OfTeam to) (OfAccount other) r h = absurd (false≢true h)
+scoped_same (OfAccount id) (OfTeam other) r h = absurd (false≢true h)
+scoped_same (OfAccount id) (OfAccount other) (OfTeam third) h = refl
+scoped_same (OfAccount id) (OfAccount other) (OfAccount third) h = ap (bytes_eq third) (sym (same_bytes other id h))
 
 one_scope : IsTogether in_one_scope
 one_scope = record {
-  itself = λ c. scoped_itself c.from_jury c.account c.addressee;
-  same = λ c d e h. scoped_same c.from_jury d.from_jury e.from_jury c.account d.account e.account c.addressee d.addressee e.addressee h;
+  itself = λ c. scoped_itself (scope_of c);
+  same = λ c d e h. scoped_same (scope_of c) (scope_of d) (scope_of e) h;
 }
 
 -- one more in its direction
@@ -95,7 +94,7 @@ adding_clarification x c h a =
     let there : (r : Reference) → has_clarification x r ≡ true → has_clarification y r ≡ true =
     λ r. some_more (λ (d : Clarification). same_addressee d.addressee r.addressee && (d.number == r.number)) x.clarifications (c ∷ []) in
     let still : (d : Clarification) → is_valid_clarification x d ≡ true → is_valid_clarification y d ≡ true =
-    λ d. fourth_of_five (is_an_addressee x.fixed d.addressee) (nat_lt d.account (length x.fixed.accounts)) (option_map_or (λ problem. nat_lt problem (length x.fixed.settings.problems)) d.problem true) (option_map_or (has_clarification x) d.reply true) (option_map_or (has_clarification y) d.reply true) (is_well_sent x.fixed d) (replies_kept x y there d.reply) in
+    λ d. fourth_of_five (is_an_addressee x.fixed d.addressee) (is_some (account_named x.fixed.accounts d.account)) (option_map_or (λ problem. nat_lt problem (length x.fixed.settings.problems)) d.problem true) (option_map_or (has_clarification x) d.reply true) (option_map_or (has_clarification y) d.reply true) (is_well_sent x.fixed d) (replies_kept x y there d.reply) in
     let alone = list_all (is_valid_clarification x) x.clarifications in
     let numbered = in_each to_one_addressee are_valid_clarifications x.clarifications in
     let keyed = in_each in_one_scope keys_are_own x.clarifications in

@@ -1,15 +1,14 @@
 -- Adding what may be added keeps a contest valid: each row of the settings, and accounts.
-use Rattle.std.proofs.Common.{◌≡◌, ℕ, zero, suc, Bool, true, false, List, [], ◌∷◌, ◌++◌, length, map, Some, None, refl, sym, ◌∙◌, arith}
-use Rattle.std.specs.Prelude.{◌&&◌, not, nat_le, nat_lt, slice_get, Result, Err, if◌then◌else◌}
+use Rattle.std.proofs.Common.{◌≡◌, ℕ, ◌+◌, ◌≤◌, Bool, true, false, [], ◌∷◌, ◌++◌, length, map, refl, arith}
+use Rattle.std.specs.Prelude.{nat_le, Result, Err, if◌then◌else◌}
 use Rattle.std.specs.List.{list_all}
 use Rattle.std.proofs.lemmas.Bool.{false≢true}
-use Rattle.std.proofs.lemmas.List.{map-append}
-use Rattle.std.proofs.lemmas.Option.{slice_get_past}
+use Rattle.std.proofs.lemmas.Bool.Decides.{nat_tests}
 use Rattle.contest_types.specs.Places.{is_among, are_different}
 use Rattle.contest_types.specs.Setup.{labels_of, refers}
 use Rattle.contest_types.specs.Rows.{same_type, same_language, same_problem, same_group, same_team}
-use Rattle.contest_types.specs.Additions.{standing_of, addition}
-use Rattle.contest_types.specs.SetupAdditions.{problem_addition_by}
+use Rattle.contest_types.specs.Additions.{standing_of, addition, keyed_addition}
+use Rattle.contest_types.specs.Accounts.{with_account, has_valid_role, same_account}
 use Rattle.contest_types.specs.State.{ContestState, add, NewType, NewLanguage, NewProblem, NewGroup, NewTeam, NewAccount}
 use Rattle.contest_types.specs.ValidFixed.{is_valid_account}
 use Rattle.contest_types.specs.Valid.{is_valid}
@@ -25,10 +24,11 @@ use Rattle.contest_types.specs.declared.objects.Language.{Language}
 use Rattle.contest_types.specs.declared.objects.Problem.{Problem}
 use Rattle.contest_types.specs.declared.objects.Group.{Group}
 use Rattle.contest_types.specs.declared.objects.Team.{Team}
-use Rattle.contest_types.proofs.PlaceLemmas.{and_left, and_right, all_push, different_push}
+use Rattle.contest_types.proofs.PlaceLemmas.{and_left, and_right, all_push, not_among}
+use Rattle.contest_types.proofs.AdditionLemmas.{place_of_new}
+use Rattle.contest_types.proofs.AccountLemmas.{named_still, all_accounts, accounts_different, one_longer}
 use Rattle.contest_types.proofs.SetupLemmas.{all_wider, refers_wider, labels_push}
 use Rattle.contest_types.proofs.ValidParts.{parts, four, all_four}
-use Rattle.contest_types.proofs.AddLemmas.{next_room}
 use Rattle.contest_types.proofs.AddSettings.{with_lists, Wider, widened, account_wider, longer, TestsOf, tests_of, all_tests, IsNewRow, new_row, takes}
 
 pub adding_type : (x : ContestState) (t : JudgementType) → is_valid x ≡ true → is_addable x (NewType t) ≡ true → is_valid (add x (NewType t)) ≡ true
@@ -38,7 +38,7 @@ adding_type x t h a =
     let k = takes (λ (r : JudgementType). r.id) same_type s.types t JUDGEMENT_TYPES v.types (new_row (standing_of (λ (r : JudgementType). r.id) same_type s.types t) (nat_le JUDGEMENT_TYPES (length s.types)) a) in
     let y = with_lists x (s.types ++ t ∷ []) s.languages s.problems s.groups s.teams x.fixed.accounts in
     let tests : TestsOf y.fixed.settings = record { head = v.head; types = k.different; few_types = k.few; languages = v.languages; few_languages = v.few_languages; problems = v.problems; labels = v.labels; few_problems = v.few_problems; groups = v.groups; few_groups = v.few_groups; teams = v.teams; few_teams = v.few_teams; references = v.references } in
-    let w : Wider x.fixed y.fixed = record { types = longer s.types t; languages = omega arith; problems = omega arith; teams = omega arith; accounts = omega arith; same = λ k a e. e } in
+    let w : Wider x.fixed y.fixed = record { types = longer s.types t; languages = omega arith; problems = omega arith; teams = omega arith; named = λ id a e. e } in
     widened x (s.types ++ t ∷ []) s.languages s.problems s.groups s.teams x.fixed.accounts w h (all_tests y tests) (parts x h).accounts
 
 pub adding_language : (x : ContestState) (l : Language) → is_valid x ≡ true → is_addable x (NewLanguage l) ≡ true → is_valid (add x (NewLanguage l)) ≡ true
@@ -48,7 +48,7 @@ adding_language x l h a =
     let k = takes (λ (r : Language). r.id) same_language s.languages l LANGUAGES v.languages (new_row (standing_of (λ (r : Language). r.id) same_language s.languages l) (nat_le LANGUAGES (length s.languages)) a) in
     let y = with_lists x s.types (s.languages ++ l ∷ []) s.problems s.groups s.teams x.fixed.accounts in
     let tests : TestsOf y.fixed.settings = record { head = v.head; types = v.types; few_types = v.few_types; languages = k.different; few_languages = k.few; problems = v.problems; labels = v.labels; few_problems = v.few_problems; groups = v.groups; few_groups = v.few_groups; teams = v.teams; few_teams = v.few_teams; references = v.references } in
-    let w : Wider x.fixed y.fixed = record { types = omega arith; languages = longer s.languages l; problems = omega arith; teams = omega arith; accounts = omega arith; same = λ k a e. e } in
+    let w : Wider x.fixed y.fixed = record { types = omega arith; languages = longer s.languages l; problems = omega arith; teams = omega arith; named = λ id a e. e } in
     widened x s.types (s.languages ++ l ∷ []) s.problems s.groups s.teams x.fixed.accounts w h (all_tests y tests) (parts x h).accounts
 
 pub adding_group : (x : ContestState) (g : Group) → is_valid x ≡ true → is_addable x (NewGroup g) ≡ true → is_valid (add x (NewGroup g)) ≡ true
@@ -58,75 +58,64 @@ adding_group x g h a =
     let k = takes (λ (r : Group). r.id) same_group s.groups g GROUPS v.groups (new_row (standing_of (λ (r : Group). r.id) same_group s.groups g) (nat_le GROUPS (length s.groups)) a) in
     let y = with_lists x s.types s.languages s.problems (s.groups ++ g ∷ []) s.teams x.fixed.accounts in
     let tests : TestsOf y.fixed.settings = record { head = v.head; types = v.types; few_types = v.few_types; languages = v.languages; few_languages = v.few_languages; problems = v.problems; labels = v.labels; few_problems = v.few_problems; groups = k.different; few_groups = k.few; teams = v.teams; few_teams = v.few_teams; references = refers_wider (length s.groups) (length (s.groups ++ g ∷ [])) (longer s.groups g) s.teams v.references } in
-    let w : Wider x.fixed y.fixed = record { types = omega arith; languages = omega arith; problems = omega arith; teams = omega arith; accounts = omega arith; same = λ k a e. e } in
+    let w : Wider x.fixed y.fixed = record { types = omega arith; languages = omega arith; problems = omega arith; teams = omega arith; named = λ id a e. e } in
     widened x s.types s.languages s.problems (s.groups ++ g ∷ []) s.teams x.fixed.accounts w h (all_tests y tests) (parts x h).accounts
 
--- a problem that is added is new, its label too
-record IsNewProblem (standing : Standing) (held full : Bool) : Type 0 where
+-- a row with a second key that is added is new, that key too
+record IsNewKeyed (standing : Standing) (held full : Bool) : Type 0 where
   row : IsNewRow standing full
-  label : held ≡ false
+  key : held ≡ false
 
-new_problem : (standing : Standing) (held full : Bool) → is_added (problem_addition_by standing held full) ≡ true → IsNewProblem standing held full
-new_problem New true full h = absurd (false≢true h)
-new_problem New false full h = record { row = new_row New full h; label = refl }
-new_problem Same held full h = absurd (false≢true h)
-new_problem Other held full h = absurd (false≢true h)
+new_keyed : (standing : Standing) (held full : Bool) → is_added (keyed_addition standing held full) ≡ true → IsNewKeyed standing held full
+new_keyed New true full h = absurd (false≢true h)
+new_keyed New false full h = record { row = new_row New full h; key = refl }
+new_keyed Same held full h = absurd (false≢true h)
+new_keyed Other held full h = absurd (false≢true h)
 
 pub adding_problem : (x : ContestState) (p : Problem) → is_valid x ≡ true → is_addable x (NewProblem p) ≡ true → is_valid (add x (NewProblem p)) ≡ true
 adding_problem x p h a =
     let s = x.fixed.settings in
     let v = tests_of x (parts x h).settings in
-    let n = new_problem (standing_of (λ (r : Problem). r.id) same_problem s.problems p) (is_among (labels_of s.problems) p.label) (nat_le PROBLEMS (length s.problems)) a in
+    let n = new_keyed (standing_of (λ (r : Problem). r.id) same_problem s.problems p) (is_among (labels_of s.problems) p.label) (nat_le PROBLEMS (length s.problems)) a in
     let k = takes (λ (r : Problem). r.id) same_problem s.problems p PROBLEMS v.problems n.row in
     let y = with_lists x s.types s.languages (s.problems ++ p ∷ []) s.groups s.teams x.fixed.accounts in
-    let tests : TestsOf y.fixed.settings = record { head = v.head; types = v.types; few_types = v.few_types; languages = v.languages; few_languages = v.few_languages; problems = k.different; labels = labels_push s.problems p v.labels n.label; few_problems = k.few; groups = v.groups; few_groups = v.few_groups; teams = v.teams; few_teams = v.few_teams; references = v.references } in
-    let w : Wider x.fixed y.fixed = record { types = omega arith; languages = omega arith; problems = longer s.problems p; teams = omega arith; accounts = omega arith; same = λ k a e. e } in
+    let tests : TestsOf y.fixed.settings = record { head = v.head; types = v.types; few_types = v.few_types; languages = v.languages; few_languages = v.few_languages; problems = k.different; labels = labels_push s.problems p v.labels n.key; few_problems = k.few; groups = v.groups; few_groups = v.few_groups; teams = v.teams; few_teams = v.few_teams; references = v.references } in
+    let w : Wider x.fixed y.fixed = record { types = omega arith; languages = omega arith; problems = longer s.problems p; teams = omega arith; named = λ id a e. e } in
     widened x s.types s.languages (s.problems ++ p ∷ []) s.groups s.teams x.fixed.accounts w h (all_tests y tests) (parts x h).accounts
 
--- a team that is added names groups that are there
-team_parts : (b : Bool) (answer : Result Bool Cause) (cause : Cause) → is_added (if b then answer else Err cause) ≡ true → (b ≡ true) × (is_added answer ≡ true)
-team_parts true answer cause h = (refl, h)
-team_parts false answer cause h = absurd (false≢true h)
+-- what is added by a second test passes the first
+row_parts : (b : Bool) (answer : Result Bool Cause) (cause : Cause) → is_added (if b then answer else Err cause) ≡ true → (b ≡ true) × (is_added answer ≡ true)
+row_parts true answer cause h = (refl, h)
+row_parts false answer cause h = absurd (false≢true h)
 
 pub adding_team : (x : ContestState) (t : Team) → is_valid x ≡ true → is_addable x (NewTeam t) ≡ true → is_valid (add x (NewTeam t)) ≡ true
 adding_team x t h a =
     let s = x.fixed.settings in
     let v = tests_of x (parts x h).settings in
-    let both = team_parts (refers (length s.groups) t) (addition (λ (r : Team). r.id) same_team TEAMS s.teams t) UnknownReference a in
+    let both = row_parts (refers (length s.groups) t) (addition (λ (r : Team). r.id) same_team TEAMS s.teams t) UnknownReference a in
     let k = takes (λ (r : Team). r.id) same_team s.teams t TEAMS v.teams (new_row (standing_of (λ (r : Team). r.id) same_team s.teams t) (nat_le TEAMS (length s.teams)) both.1) in
     let y = with_lists x s.types s.languages s.problems s.groups (s.teams ++ t ∷ []) x.fixed.accounts in
     let tests : TestsOf y.fixed.settings = record { head = v.head; types = v.types; few_types = v.few_types; languages = v.languages; few_languages = v.few_languages; problems = v.problems; labels = v.labels; few_problems = v.few_problems; groups = v.groups; few_groups = v.few_groups; teams = k.different; few_teams = k.few; references = all_push (refers (length s.groups)) s.teams t v.references both.0 } in
-    let w : Wider x.fixed y.fixed = record { types = omega arith; languages = omega arith; problems = omega arith; teams = longer s.teams t; accounts = omega arith; same = λ k a e. e } in
+    let w : Wider x.fixed y.fixed = record { types = omega arith; languages = omega arith; problems = omega arith; teams = longer s.teams t; named = λ id a e. e } in
     let was = four (list_all (is_valid_account s) x.fixed.accounts) (are_different (map (λ (b : Account). b.id) x.fixed.accounts)) (are_different (map (λ (b : Account). b.digest) x.fixed.accounts)) (nat_le (length x.fixed.accounts) ACCOUNTS) (parts x h).accounts in
     let accounts = all_four _ _ _ _ (all_wider (is_valid_account s) (is_valid_account y.fixed.settings) (account_wider s y.fixed.settings (longer s.teams t)) x.fixed.accounts was.first) was.second was.third was.fourth in
     widened x s.types s.languages s.problems s.groups (s.teams ++ t ∷ []) x.fixed.accounts w h (all_tests y tests) accounts
 
-found_still : (accounts : List Account) (new : Account) (k : ℕ) (a : Account) → slice_get accounts k ≡ Some a → slice_get (accounts ++ new ∷ []) k ≡ Some a
-found_still [] new k a e =
-    let empty : List Account = [] in
-    let none : slice_get empty k ≡ None = slice_get_past empty k (omega arith) in
-    absurd (cc (sym none ∙ e))
-found_still (b ∷ accounts) new zero a e = e
-found_still (b ∷ accounts) new (suc k) a e = found_still accounts new k a e
-
-not_true : (b : Bool) → not b ≡ true → b ≡ false
-not_true true h = absurd (false≢true h)
-not_true false h = refl
-
--- one more id, or digest, that is new
-one_more : (text : Account → List ℕ) (accounts : List Account) (a : Account) → are_different (map text accounts) ≡ true → not (is_among (map text accounts) (text a)) ≡ true → are_different (map text (accounts ++ a ∷ [])) ≡ true
-one_more text accounts a h n = rw map-append (different_push (map text accounts) (text a) h (not_true _ n))
-
-three_of : (a b c : Bool) → (a && b && c) ≡ true → (a ≡ true) × (b ≡ true) × (c ≡ true)
-three_of a b c h = (and_left a b (and_left (a && b) c h), and_right a b (and_left (a && b) c h), and_right (a && b) c h)
+within_one : (n m most : ℕ) → m ≤ n + 1 → nat_le most n ≡ false → nat_le m most ≡ true
+within_one n m most l h = grind (arith, nat_tests)
 
 pub adding_account : (x : ContestState) (a : Account) → is_valid x ≡ true → is_addable x (NewAccount a) ≡ true → is_valid (add x (NewAccount a)) ≡ true
 adding_account x a h may =
     let s = x.fixed.settings in
     let accounts = x.fixed.accounts in
-    let next = three_of (not (is_among (map (λ (b : Account). b.id) accounts) a.id)) (not (is_among (map (λ (b : Account). b.digest) accounts) a.digest)) (nat_lt (length accounts) ACCOUNTS) (and_right (is_valid_account s a) _ may) in
-    let y = with_lists x s.types s.languages s.problems s.groups s.teams (accounts ++ a ∷ []) in
-    let w : Wider x.fixed y.fixed = record { types = omega arith; languages = omega arith; problems = omega arith; teams = omega arith; accounts = longer accounts a; same = found_still accounts a } in
-    let was = four (list_all (is_valid_account s) accounts) (are_different (map (λ (b : Account). b.id) accounts)) (are_different (map (λ (b : Account). b.digest) accounts)) (nat_le (length accounts) ACCOUNTS) (parts x h).accounts in
-    let valid = all_four _ _ _ _ (all_push (is_valid_account s) accounts a was.first (and_left _ _ may)) (one_more (λ (b : Account). b.id) accounts a was.second next.0) (one_more (λ (b : Account). b.digest) accounts a was.third next.1) (next_room accounts a ACCOUNTS next.2) in
-    widened x s.types s.languages s.problems s.groups s.teams (accounts ++ a ∷ []) w h (parts x h).settings valid
+    let ids = λ (b : Account). b.id in
+    let digests = λ (b : Account). b.digest in
+    let both = row_parts (has_valid_role s a.role) (keyed_addition (standing_of ids same_account accounts a) (is_among (map digests accounts) a.digest) (nat_le ACCOUNTS (length accounts))) UnknownReference (and_right (is_valid_account s a) _ may) in
+    let n = new_keyed (standing_of ids same_account accounts a) (is_among (map digests accounts) a.digest) (nat_le ACCOUNTS (length accounts)) both.1 in
+    let new : is_among (map ids accounts) a.id ≡ false = not_among a.id 0 (map ids accounts) (place_of_new ids same_account accounts a n.row.new) in
+    let y = with_lists x s.types s.languages s.problems s.groups s.teams (with_account accounts a) in
+    let w : Wider x.fixed y.fixed = record { types = omega arith; languages = omega arith; problems = omega arith; teams = omega arith; named = named_still accounts a new } in
+    let was = four (list_all (is_valid_account s) accounts) (are_different (map ids accounts)) (are_different (map digests accounts)) (nat_le (length accounts) ACCOUNTS) (parts x h).accounts in
+    let valid = all_four _ _ _ _ (all_accounts (is_valid_account s) accounts a was.first (and_left _ _ may)) (accounts_different ids accounts a was.second new) (accounts_different digests accounts a was.third n.key)
+    (within_one (length accounts) (length (with_account accounts a)) ACCOUNTS (one_longer accounts a) n.row.room) in
+    widened x s.types s.languages s.problems s.groups s.teams (with_account accounts a) w h (parts x h).settings valid

@@ -1,19 +1,22 @@
 -- Adding what may be added keeps a contest valid: rows of the settings, and accounts.
-use Rattle.std.proofs.Common.{◌≡◌, ℕ, ◌≤◌, Bool, true, false, List, [], ◌∷◌, ◌++◌, length, map, Option, Some, None, refl, arith}
-use Rattle.std.specs.Prelude.{◌&&◌, ◌||◌, not, nat_le, nat_lt, slice_get}
+use Rattle.std.proofs.Common.{◌≡◌, ℕ, ◌≤◌, Bool, true, false, List, [], ◌∷◌, ◌++◌, length, map, Option, Some, None, refl, sym, ◌∙◌, arith}
+use Rattle.std.specs.Prelude.{◌&&◌, ◌||◌, not, nat_le, nat_lt, is_some}
 use Rattle.std.specs.List.{list_all}
 use Rattle.std.specs.Option.{option_map_or}
 use Rattle.std.proofs.lemmas.Bool.{false≢true}
 use Rattle.std.proofs.lemmas.Bool.Decides.{nat_tests}
 use Rattle.std.proofs.lemmas.List.{map-append, length-append}
 use Rattle.contest_types.specs.Places.{are_different}
+use Rattle.contest_types.specs.Accounts.{account_named, has_valid_role}
 use Rattle.contest_types.specs.Clock.{reached, end_of}
+use Rattle.contest_types.specs.Masks.{audience_at}
+use Rattle.contest_types.specs.Sight.{hears}
 use Rattle.contest_types.specs.Setup.{Setup, labels_of, is_valid_head, refers}
 use Rattle.contest_types.specs.Additions.{standing_of, addition_by}
 use Rattle.contest_types.specs.State.{FixedPart, ContestState}
-use Rattle.contest_types.specs.ValidFixed.{has_valid_settings, has_valid_accounts, has_valid_role, is_valid_account}
+use Rattle.contest_types.specs.ValidFixed.{has_valid_settings, has_valid_accounts, is_valid_account}
 use Rattle.contest_types.specs.ValidSubmissions.{is_valid_submission, is_valid_release, is_valid_proposal, is_there, has_submission}
-use Rattle.contest_types.specs.ValidClarifications.{is_an_addressee, has_clarification, is_well_sent, speaks_for, is_seen_from, is_valid_clarification}
+use Rattle.contest_types.specs.ValidClarifications.{is_an_addressee, has_clarification, is_well_sent, may_send, is_valid_clarification}
 use Rattle.contest_types.specs.ValidRejudgings.{is_valid_rejudging, is_valid_member, is_valid_state, has_release}
 use Rattle.contest_types.specs.Valid.{is_valid}
 use Rattle.contest_types.specs.Addable.{is_added}
@@ -21,6 +24,7 @@ use Rattle.contest_types.specs.declared.limits.TheConstants.{JUDGEMENT_TYPES, LA
 use Rattle.contest_types.specs.declared.id_list.Standing.{Standing}
 use Rattle.contest_types.specs.declared.id_list.Standing.TheVariants.{New, Same, Other}
 use Rattle.contest_types.specs.declared.account.Account.{Account}
+use Rattle.contest_types.specs.declared.audience.Audience.{Audience}
 use Rattle.contest_types.specs.declared.account.Role.{Role}
 use Rattle.contest_types.specs.declared.account.Role.TheVariants as role
 use Rattle.contest_types.specs.declared.objects.JudgementType.{JudgementType}
@@ -52,14 +56,13 @@ abbrev pub with_lists : ContestState → List JudgementType → List Language �
 with_lists x types languages problems groups teams accounts =
     record x { fixed = record { settings = record { head = x.fixed.settings.head; types = types; languages = languages; problems = problems; groups = groups; teams = teams }; accounts = accounts; marks = x.fixed.marks } }
 
--- each list is as long as before or longer, and the accounts that stood stand
+-- each list is as long as before or longer, and each account that was named is
 pub record Wider (f g : FixedPart) : Type 0 where
   pub types : length f.settings.types ≤ length g.settings.types
   pub languages : length f.settings.languages ≤ length g.settings.languages
   pub problems : length f.settings.problems ≤ length g.settings.problems
   pub teams : length f.settings.teams ≤ length g.settings.teams
-  pub accounts : length f.accounts ≤ length g.accounts
-  pub same : (k : ℕ) (a : Account) → slice_get f.accounts k ≡ Some a → slice_get g.accounts k ≡ Some a
+  pub named : (id : List ℕ) (a : Account) → account_named f.accounts id ≡ Some a → account_named g.accounts id ≡ Some a
 
 three_of_six : (a a' b b' c c' d e f : Bool) → (a ≡ true → a' ≡ true) → (b ≡ true → b' ≡ true) → (c ≡ true → c' ≡ true) → (a && b && c && d && e && f) ≡ true → (a' && b' && c' && d && e && f) ≡ true
 three_of_six a a' b b' c c' d e f wa wb wc v =
@@ -77,8 +80,15 @@ two_of_three a b b' c c' wb wc v =
     let v2 = and_left (a && b) c v in
     rw (and_left a b v2, wb (and_right a b v2)) (wc (and_right (a && b) c v))
 
+some_wider : {T : Type 0} (o p : Option T) → ((x : T) → o ≡ Some x → p ≡ Some x) → is_some o ≡ true → is_some p ≡ true
+some_wider None p same h = absurd (false≢true h)
+some_wider (Some x) p same h = rw (same x refl) refl
+
+named_wider : (f g : FixedPart) → Wider f g → (id : List ℕ) → is_some (account_named f.accounts id) ≡ true → is_some (account_named g.accounts id) ≡ true
+named_wider f g w id h = some_wider (account_named f.accounts id) (account_named g.accounts id) (w.named id) h
+
 there_wider : (f g : FixedPart) → Wider f g → (p : Proposer) → is_there f p ≡ true → is_there g p ≡ true
-there_wider f g w (proposer.Account account) h = below_wider _ _ account w.accounts h
+there_wider f g w (proposer.Account id) h = named_wider f g w id h
 there_wider f g w proposer.Import h = refl
 
 addressee_wider : (f g : FixedPart) → Wider f g → (to : Addressee) → is_an_addressee f to ≡ true → is_an_addressee g to ≡ true
@@ -91,7 +101,7 @@ problem_wider m n l (Some problem) h = below_wider m n problem l h
 
 state_wider : (f g : FixedPart) → Wider f g → (s : MemberState) → is_valid_state f s ≡ true → is_valid_state g s ≡ true
 state_wider f g w member.Empty h = refl
-state_wider f g w (member.Proposed verdict account) h = both_true _ _ (below_wider _ _ verdict w.types (and_left _ _ h)) (below_wider _ _ account w.accounts (and_right (nat_lt verdict (length f.settings.types)) _ h))
+state_wider f g w (member.Proposed verdict account) h = both_true _ _ (below_wider _ _ verdict w.types (and_left _ _ h)) (named_wider f g w account (and_right (nat_lt verdict (length f.settings.types)) _ h))
 state_wider f g w (member.Ready verdict) h = below_wider _ _ verdict w.types h
 
 role_wider : (m n : Setup) → length m.teams ≤ length n.teams → (r : Role) → has_valid_role m r ≡ true → has_valid_role n r ≡ true
@@ -102,18 +112,32 @@ role_wider m n l role.Admin h = refl
 pub account_wider : (m n : Setup) → length m.teams ≤ length n.teams → (a : Account) → is_valid_account m a ≡ true → is_valid_account n a ≡ true
 account_wider m n l a h = first_of_two _ _ _ (role_wider m n l a.role) h
 
--- who speaks for a team still does
-speaks_wider : (found more : Option Account) (to : Addressee) → ((a : Account) → found ≡ Some a → more ≡ Some a) → option_map_or (λ a. speaks_for a.role to) found false ≡ true → option_map_or (λ a. speaks_for a.role to) more false ≡ true
-speaks_wider None more to same h = absurd (false≢true h)
-speaks_wider (Some a) more to same h = rw (same a refl) h
+-- what is heard doesn't go by which settings there are
+pub hears_by_any : (a : Audience) (m n : Setup) (to : Addressee) → hears a m to ≡ hears a n to
+hears_by_any a m n addressee.All = refl
+hears_by_any a m n (addressee.Team team) = refl
+
+replies_by_any : (a : Audience) (m n : Setup) (reply : Option Reference) → option_map_or (λ (r : Reference). hears a m r.addressee) reply true ≡ option_map_or (λ (r : Reference). hears a n r.addressee) reply true
+replies_by_any a m n None = refl
+replies_by_any a m n (Some r) = hears_by_any a m n r.addressee
+
+-- who may send still does
+sends_wider : (m n : Setup) (r : Role) (c : Clarification) → may_send m r c ≡ true → may_send n r c ≡ true
+sends_wider m n (role.Team team) c h = second_of_two _ _ _ (λ k. sym (replies_by_any (audience_at team) m n c.reply) ∙ k) h
+sends_wider m n role.Judge c h = h
+sends_wider m n role.Admin c h = h
+
+sender_wider : (m n : Setup) (found more : Option Account) (c : Clarification) → ((a : Account) → found ≡ Some a → more ≡ Some a)
+    → option_map_or (λ a. may_send m a.role c) found false ≡ true → option_map_or (λ a. may_send n a.role c) more false ≡ true
+sender_wider m n None more c same h = absurd (false≢true h)
+sender_wider m n (Some a) more c same h = rw (same a refl) (sends_wider m n a.role c h)
 
 sent_wider : (f g : FixedPart) → Wider f g → (c : Clarification) → is_well_sent f c ≡ true → is_well_sent g c ≡ true
 sent_wider f g w c h =
-    let reply = option_map_or (λ (r : Reference). is_seen_from c.addressee r.addressee) c.reply true in
-    let go : (b : Bool) → (b || (option_map_or (λ a. speaks_for a.role c.addressee) (slice_get f.accounts c.account) false && reply)) ≡ true → (b || (option_map_or (λ a. speaks_for a.role c.addressee) (slice_get g.accounts c.account) false && reply)) ≡ true =
+    let go : (b : Bool) → (b || option_map_or (λ a. may_send f.settings a.role c) (account_named f.accounts c.account) false) ≡ true → (b || option_map_or (λ a. may_send g.settings a.role c) (account_named g.accounts c.account) false) ≡ true =
     elim [
       | true ↦ λ k. refl
-      | false ↦ λ k. first_of_two _ _ _ (speaks_wider (slice_get f.accounts c.account) (slice_get g.accounts c.account) c.addressee (w.same c.account)) k
+      | false ↦ λ k. sender_wider f.settings g.settings (account_named f.accounts c.account) (account_named g.accounts c.account) c (w.named c.account) k
     ] in
     go c.from_jury h
 
@@ -139,7 +163,7 @@ widened x types languages problems groups teams accounts w h s a =
     let proposal : (p : Proposal) → is_valid_proposal x p ≡ true → is_valid_proposal y p ≡ true =
     λ p. two_of_three (has_submission x p.team p.number) _ _ _ _ (below_wider _ _ p.verdict w.types) (there_wider x.fixed y.fixed w p.proposer) in
     let clarification : (c : Clarification) → is_valid_clarification x c ≡ true → is_valid_clarification y c ≡ true =
-    λ c. all_five _ _ _ _ _ _ (option_map_or (has_clarification x) c.reply true) _ _ (addressee_wider x.fixed y.fixed w c.addressee) (below_wider _ _ c.account w.accounts) (problem_wider _ _ w.problems c.problem) (sent_wider x.fixed y.fixed w c) in
+    λ c. all_five _ _ _ _ _ _ (option_map_or (has_clarification x) c.reply true) _ _ (addressee_wider x.fixed y.fixed w c.addressee) (named_wider x.fixed y.fixed w c.account) (problem_wider _ _ w.problems c.problem) (sent_wider x.fixed y.fixed w c) in
     let members : (ms : List Member) → list_all (is_valid_member x) ms ≡ true → list_all (is_valid_member y) ms ≡ true =
     all_wider (is_valid_member x) (is_valid_member y) (λ m. second_of_two (has_release x m.team m.number) _ _ (state_wider x.fixed y.fixed w m.state)) in
     let result : Parts y = record {
@@ -261,4 +285,4 @@ takes id same rows row most d n = record {
 
 -- no list but one grows
 pub same_lists : (x : ContestState) → Wider x.fixed x.fixed
-same_lists x = record { types = omega arith; languages = omega arith; problems = omega arith; teams = omega arith; accounts = omega arith; same = λ k a e. e }
+same_lists x = record { types = omega arith; languages = omega arith; problems = omega arith; teams = omega arith; named = λ id a e. e }

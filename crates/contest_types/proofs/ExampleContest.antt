@@ -1,5 +1,6 @@
 -- The contest of the examples: five hours from moment 0, the last of them frozen; two problems, and
 -- four teams of which the last is hidden.
+use Rattle.std.proofs.Common.{zero, suc}
 use Rattle.std.specs.Prelude.{ℕ, ◌*◌, Bool, true, false, List, [], ◌∷◌, Option, Some, None, codes}
 use Rattle.contest_types.specs.Setup.{Setup}
 use Rattle.contest_types.specs.State.{ContestState}
@@ -58,7 +59,7 @@ settings = record {
       record { id = codes "AC"; name = codes "correct"; solved = true; penalty = false }
       ∷ record { id = codes "WA"; name = codes "wrong answer"; solved = false; penalty = true }
       ∷ record { id = codes "CE"; name = codes "compile error"; solved = false; penalty = false } ∷ [];
-  languages = record { id = codes "cpp"; name = codes "C++"; entry_point_required = false } ∷ [];
+  languages = record { id = codes "cpp"; name = codes "C++"; entry_point_required = false } ∷ record { id = codes "java"; name = codes "Java"; entry_point_required = true } ∷ [];
   problems =
       record { id = codes "a"; label = codes "A"; name = codes "Apples"; ordinal = 0 }
       ∷ record { id = codes "b"; label = codes "B"; name = codes "Bridges"; ordinal = 1 } ∷ [];
@@ -71,7 +72,7 @@ settings = record {
 abbrev pub account_for : (id : List ℕ) → Role → Account
 account_for id role = record { id = id; role = role; digest = id }
 
--- each team's account stands at the team's place, and then come two judges
+-- an account for each team, and two judges
 abbrev pub accounts : List Account
 accounts =
     account_for (codes "a1") (role.Team 0) ∷ account_for (codes "a2") (role.Team 1) ∷ account_for (codes "a3") (role.Team 2)
@@ -103,17 +104,24 @@ abbrev pub released : (team number round verdict time : ℕ) → Release
 released team number round verdict time = record { team = team; number = number; round = round; verdict = verdict; time = time }
 
 abbrev pub proposed : (team number verdict time : ℕ) → Proposal
-proposed team number verdict time = record { team = team; number = number; verdict = verdict; proposer = proposer.Account 4; time = time }
+proposed team number verdict time = record { team = team; number = number; verdict = verdict; proposer = proposer.Account (codes "j1"); time = time }
+
+-- the id of the account of the team at a place
+abbrev account_of : (team : ℕ) → List ℕ
+account_of zero = codes "a1"
+account_of (suc zero) = codes "a2"
+account_of (suc (suc zero)) = codes "a3"
+account_of _ = codes "a9"
 
 -- a team asks, the jury answers it, and the jury tells all
 abbrev pub asked : (team number time : ℕ) → Clarification
-asked team number time = record { addressee = addressee.Team team; number = number; from_jury = false; account = team; problem = None; reply = None; text = codes "Why?"; time = time; key = None }
+asked team number time = record { addressee = addressee.Team team; number = number; from_jury = false; account = account_of team; problem = None; reply = None; text = codes "Why?"; time = time; key = None }
 
 abbrev pub answered : (team number time : ℕ) → Clarification
-answered team number time = record { addressee = addressee.Team team; number = number; from_jury = true; account = 4; problem = None; reply = Some (record { addressee = addressee.Team team; number = 1 }); text = codes "So."; time = time; key = None }
+answered team number time = record { addressee = addressee.Team team; number = number; from_jury = true; account = codes "j1"; problem = None; reply = Some (record { addressee = addressee.Team team; number = 1 }); text = codes "So."; time = time; key = None }
 
 abbrev pub announced : (number time : ℕ) → Option Reference → Clarification
-announced number time reply = record { addressee = addressee.All; number = number; from_jury = true; account = 4; problem = None; reply = reply; text = codes "Lunch."; time = time; key = None }
+announced number time reply = record { addressee = addressee.All; number = number; from_jury = true; account = codes "j1"; problem = None; reply = reply; text = codes "Lunch."; time = time; key = None }
 
 -- a rejudging of one submission
 abbrev pub rejudged : (team number verdict : ℕ) → RejudgingState → Rejudging

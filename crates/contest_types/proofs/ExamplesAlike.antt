@@ -10,7 +10,7 @@ use Rattle.contest_types.specs.declared.audience.Audience.TheVariants as audienc
 use Rattle.contest_types.specs.declared.clarification.Addressee.TheVariants as addressee
 use Rattle.contest_types.specs.declared.rejudging.RejudgingState.TheVariants as state
 use Rattle.contest_types.proofs.AlikeLemmas.{alike_within}
-use Rattle.contest_types.proofs.ExampleContest.{minutes, hours, accepted, wrong, proposed, rejudged, asked, answered, announced}
+use Rattle.contest_types.proofs.ExampleContest.{minutes, hours, accepted, wrong, released, proposed, rejudged, asked, answered, announced}
 use Rattle.contest_types.proofs.ExampleTalk.{base, own_submission, other_submission, frozen_submission, hidden_submission, own_release, other_release, frozen_release}
 
 -- the first team, which asks
@@ -86,7 +86,7 @@ reply_to_other_untold = alike_within me base with_reply_to_other refl refl (refl
 
 -- the second judge wrote for the jury, with a key
 abbrev with_other_writer : ContestState
-with_other_writer = record base { clarifications = asked 0 1 (minutes 40) ∷ record (answered 0 2 (minutes 50)) { account = 5; key = Some (codes "k1") } ∷ record (announced 1 (minutes 60) None) { account = 5 } ∷ [] }
+with_other_writer = record base { clarifications = asked 0 1 (minutes 40) ∷ record (answered 0 2 (minutes 50)) { account = codes "j2"; key = Some (codes "k1") } ∷ record (announced 1 (minutes 60) None) { account = codes "j2" } ∷ [] }
 
 writer_untold : Alike me base with_other_writer
 writer_untold = alike_within me base with_other_writer refl refl (refl, (refl, (refl, (refl, tt)))) refl (refl, (refl, (refl, (refl, tt))))
@@ -109,6 +109,33 @@ without_talk = record base { clarifications = announced 1 (minutes 60) None ∷ 
 talk_untold : Alike audience.Public base without_talk
 talk_untold = alike_within audience.Public base without_talk refl refl (refl, (refl, (refl, (refl, tt)))) refl (refl, (refl, (refl, (refl, tt))))
 
+-- a verdict on the hidden team's submission is untold, to a team and to the public
+abbrev with_hidden_release : ContestState
+with_hidden_release = record base { releases = own_release ∷ other_release ∷ released 3 1 1 accepted (minutes 31) ∷ [] }
+
+hidden_release_untold : Alike me base with_hidden_release
+hidden_release_untold = alike_within me base with_hidden_release refl refl (refl, (refl, (refl, (refl, tt)))) refl (refl, (refl, (refl, (refl, tt))))
+
+public_hidden_release_untold : Alike audience.Public base with_hidden_release
+public_hidden_release_untold = alike_within audience.Public base with_hidden_release refl refl (refl, (refl, (refl, (refl, tt)))) refl (refl, (refl, (refl, (refl, tt))))
+
+-- to the public every team's file and key are untold
+public_files_untold : Alike audience.Public base with_file
+public_files_untold = alike_within audience.Public base with_file refl refl (refl, (refl, (refl, (refl, tt)))) refl (refl, (refl, (refl, (refl, tt))))
+
+public_keys_untold : Alike audience.Public base with_key
+public_keys_untold = alike_within audience.Public base with_key refl refl (refl, (refl, (refl, (refl, tt)))) refl (refl, (refl, (refl, (refl, tt))))
+
+-- the hidden team learns no more of others than any team
+abbrev staff : Audience
+staff = audience.Team 4
+
+staff_files_untold : Alike staff base with_file
+staff_files_untold = alike_within staff base with_file refl refl (refl, (refl, (refl, (refl, tt)))) refl (refl, (refl, (refl, (refl, tt))))
+
+staff_frozen_untold : Alike staff base with_frozen_release
+staff_frozen_untold = alike_within staff base with_frozen_release refl refl (refl, (refl, (refl, (refl, tt)))) refl (refl, (refl, (refl, (refl, tt))))
+
 -- all of these contests are valid
-all_valid : list_all is_valid (base ∷ with_proposal ∷ with_own_proposal ∷ with_rejudgings ∷ with_file ∷ with_entry_point ∷ with_key ∷ without_hidden ∷ with_frozen_release ∷ with_other_talk ∷ with_reply_to_other ∷ with_other_writer ∷ in_other_order ∷ without_talk ∷ []) ≡ true
+all_valid : list_all is_valid (base ∷ with_proposal ∷ with_own_proposal ∷ with_rejudgings ∷ with_file ∷ with_entry_point ∷ with_key ∷ without_hidden ∷ with_frozen_release ∷ with_other_talk ∷ with_reply_to_other ∷ with_other_writer ∷ in_other_order ∷ without_talk ∷ with_hidden_release ∷ []) ≡ true
 all_valid = refl

@@ -3,14 +3,20 @@ use Rattle.std.proofs.Common.{◌≡◌, ℕ, ◌+◌, ◌-◌, List, [], ◌∷
 use Rattle.std.specs.Prelude.{codes}
 use Rattle.std.specs.Fmt.{digits}
 use Rattle.contest_types.specs.Clock.{end_of, freeze_of, is_frozen, is_freezing, is_finalized, phase_at}
-use Rattle.contest_types.specs.State.{ContestState}
-use Rattle.contest_types.specs.Sight.{SeenSubmission, SeenClarification, Judgement, seen_submissions, seen_clarifications, seen_verdict, sees_team, clarification_id}
+use Rattle.contest_types.specs.State.{ContestState, Entry, NewProposal, NewRelease, NewRejudging, SetMember, SetRejudging, SetThaw, add, add_all}
+use Rattle.contest_types.specs.Setup.{Setup}
+use Rattle.contest_types.specs.VisibleIds.{judgement_id, clarification_id}
+use Rattle.contest_types.specs.Judging.{SeenJudgement, seen_judgements, Proposed, open_proposals}
+use Rattle.contest_types.specs.Sight.{Program, SeenSubmission, SeenClarification, Judgement, seen_submissions, seen_clarifications, full_verdict, held_verdict, seen_verdict, sees_team}
 use Rattle.contest_types.specs.declared.audience.Audience.{Audience}
 use Rattle.contest_types.specs.declared.audience.Audience.TheVariants as audience
 use Rattle.contest_types.specs.declared.audience.Phase.TheVariants as phase
 use Rattle.contest_types.specs.declared.clarification.Addressee.TheVariants as addressee
 use Rattle.contest_types.specs.declared.clarification.Reference.{Reference}
-use Rattle.contest_types.proofs.ExampleContest.{minutes, hours, settings, started, empty, thawed_at, accepted, wrong, submitted, released, asked, announced}
+use Rattle.contest_types.specs.declared.submission.Submission.{Submission}
+use Rattle.contest_types.specs.declared.rejudging.RejudgingState.TheVariants as state
+use Rattle.contest_types.specs.declared.rejudging.MemberState.TheVariants as member
+use Rattle.contest_types.proofs.ExampleContest.{minutes, hours, settings, started, empty, thawed_at, team_named, accepted, wrong, submitted, released, proposed, asked, announced, rejudged}
 
 ends : end_of settings started ≡ Some (hours 5)
 ends = refl
@@ -142,3 +148,114 @@ general_id = refl
 numbers_by_id : map (λ (c : SeenClarification). c.number) (seen_clarifications (audience.Team 2) (record empty { clarifications = asked 1 2 5 ∷ asked 1 10 5 ∷ announced 1 5 None ∷ [] })) ≡ 10 ∷ 2 ∷ 1 ∷ []
 unfolding digits
 numbers_by_id = refl
+
+-- a file and where its program starts are shown to the team itself and the jury alone
+abbrev with_program : ContestState
+with_program = record empty { submissions = record (submitted 1 1 (minutes 5) 0) { file = 80 ∷ 75 ∷ []; entry_point = Some (codes "Main") } ∷ [] }
+
+abbrev programs_seen : Audience → List (Option Program)
+programs_seen a = map (λ (s : SeenSubmission). s.program) (seen_submissions a (hours 9) (thawed_at with_program (hours 5)))
+
+abbrev its_program : Option Program
+its_program = Some (record { file = 80 ∷ 75 ∷ []; entry_point = Some (codes "Main") })
+
+shown_to_owner : programs_seen (audience.Team 2) ≡ its_program ∷ []
+shown_to_owner = refl
+
+shown_to_jury : programs_seen audience.Jury ≡ its_program ∷ []
+shown_to_jury = refl
+
+never_to_others : programs_seen (audience.Team 1) ≡ None ∷ []
+never_to_others = refl
+
+never_to_public : programs_seen audience.Public ≡ None ∷ []
+never_to_public = refl
+
+-- the jury hears what a team asks, and which question an answer answers
+jury_hears : replies_heard audience.Jury talk ≡ None ∷ Some (record { addressee = addressee.Team 1; number = 1 }) ∷ []
+unfolding digits
+jury_hears = refl
+
+-- results that are to be final later aren't yet
+final_to_come : is_finalized (record started { finalized = Some 7 }) 6 ≡ false
+final_to_come = refl
+
+-- without a freeze duration nothing is ever frozen; a freeze of no length begins at the end
+abbrev with_freeze : Option ℕ → Setup
+with_freeze freeze = record settings { head = record settings.head { freeze = freeze } }
+
+no_freeze : is_frozen (with_freeze None) started (hours 9) ≡ false
+no_freeze = refl
+
+empty_freeze : freeze_of (with_freeze (Some 0)) started ≡ Some (hours 5)
+empty_freeze = refl
+
+last_not_frozen : is_frozen (with_freeze (Some 0)) started (hours 5 - 1) ≡ false
+last_not_frozen = refl
+
+-- of one moment submissions stand by the team's id, not by its place
+abbrev other_ids : Setup
+other_ids = record settings { teams = team_named (codes "zebra") (codes "Alpha") false ∷ team_named (codes "ant") (codes "Beta") false ∷ [] }
+
+by_team_id : order_of (seen_submissions audience.Public 0 (record empty { fixed = record empty.fixed { settings = other_ids }; submissions = submitted 0 1 (minutes 3) 0 ∷ submitted 1 1 (minutes 3) 0 ∷ [] })) ≡ 1 ∷ 0 ∷ []
+by_team_id = refl
+
+-- of a submission's verdicts the last is judged, and the judgements stand in the order of the submissions
+abbrev judgements_seen : Audience → ℕ → ContestState → List (ℕ × ℕ)
+judgements_seen a now x = map (λ (v : SeenJudgement). (v.submission.number, v.judgement.verdict)) (seen_judgements a now x)
+
+last_judged : judgements_seen audience.Public 0 judged_twice ≡ (1, wrong) ∷ []
+last_judged = refl
+
+judged_before_freeze : judgements_seen audience.Public (hours 4 + minutes 20) around_freeze ≡ (1, accepted) ∷ []
+judged_before_freeze = refl
+
+jury_judges : judgements_seen audience.Jury (hours 4 + minutes 20) around_freeze ≡ (1, accepted) ∷ (2, accepted) ∷ []
+jury_judges = refl
+
+judgement_ids : judgement_id 1 12 3 ≡ codes "s2-12.3"
+unfolding digits
+judgement_ids = refl
+
+-- what is proposed and not released waits for the jury, the last proposal of each submission
+abbrev proposed_twice : ContestState
+proposed_twice = record around_freeze { releases = released 1 1 1 accepted 9 ∷ []; proposals = proposed 1 1 wrong 5 ∷ proposed 1 2 wrong 5 ∷ proposed 1 2 accepted 6 ∷ [] }
+
+one_waits : map (λ (p : Proposed). p.proposal) (open_proposals 0 proposed_twice) ≡ proposed 1 2 accepted 6 ∷ []
+one_waits = refl
+
+-- a thaw only adds: before it one verdict is seen, from it on both
+shortly_before_thaw : verdicts_seen audience.Public (hours 5 - 1) (thawed_at around_freeze (hours 5)) ≡ its_acceptance ∷ None ∷ []
+shortly_before_thaw = refl
+
+-- but a thaw that is put off hides again what it showed
+thaw_put_off : verdicts_seen audience.Public (hours 5) (add (thawed_at around_freeze (hours 5)) (SetThaw (hours 6))) ≡ its_acceptance ∷ None ∷ []
+thaw_put_off = refl
+
+-- the verdict that is seen is one of two
+abbrev verdicts_by : (Submission → Option ℕ) → List (Option ℕ)
+verdicts_by verdict = map verdict around_freeze.submissions
+
+released_last : verdicts_by (full_verdict around_freeze) ≡ Some accepted ∷ Some accepted ∷ []
+released_last = refl
+
+held_back : verdicts_by (held_verdict around_freeze) ≡ Some accepted ∷ None ∷ []
+held_back = refl
+
+held_from_public : verdicts_by (seen_verdict audience.Public (hours 5) around_freeze) ≡ verdicts_by (held_verdict around_freeze)
+held_from_public = refl
+
+full_for_jury : verdicts_by (seen_verdict audience.Jury (hours 5) around_freeze) ≡ verdicts_by (full_verdict around_freeze)
+full_for_jury = refl
+
+-- another verdict is proposed, and the submission rejudged: the jury too sees the old one until a release
+abbrev rejudging : List Entry
+rejudging =
+    NewProposal (proposed 0 1 accepted (minutes 10)) ∷ NewRejudging (rejudged 0 1 accepted state.Open) ∷ SetMember 1 0 (member.Ready accepted) ∷ SetRejudging 1 state.Applied
+    ∷ []
+
+shown_as_before : verdicts_seen audience.Jury (minutes 20) (add_all judged_twice rejudging) ≡ verdicts_seen audience.Jury (minutes 20) judged_twice
+shown_as_before = refl
+
+shown_by_release : verdicts_seen audience.Public (minutes 20) (add (add_all judged_twice rejudging) (NewRelease (released 0 1 3 accepted (minutes 11)))) ≡ Some (record { round = 3; verdict = accepted; time = minutes 11 }) ∷ []
+shown_by_release = refl

@@ -81,7 +81,7 @@ bad_submissions =
     ∷ with_submissions (submitted 0 1 9 0 ∷ submitted 0 2 8 0 ∷ [])
     ∷ with_submissions (record (submitted 0 1 9 0) { key = Some (codes "k") } ∷ record (submitted 0 2 9 0) { key = Some (codes "k") } ∷ [])
     ∷ with_submissions (submitted 0 1 (hours 5) 0 ∷ [])
-    ∷ with_submissions (submitted 4 1 0 0 ∷ []) ∷ with_submissions (submitted 0 1 0 2 ∷ []) ∷ with_submissions (record (submitted 0 1 0 0) { language = 1 } ∷ [])
+    ∷ with_submissions (submitted 4 1 0 0 ∷ []) ∷ with_submissions (submitted 0 1 0 2 ∷ []) ∷ with_submissions (record (submitted 0 1 0 0) { language = 2 } ∷ [])
     ∷ with_marks (record started { start = Some 10 }) (with_submissions (submitted 0 1 9 0 ∷ []))
     ∷ []
 
@@ -112,7 +112,7 @@ imported number verdict = record (proposed 0 number verdict 5) { proposer = prop
 abbrev bad_proposals : List ContestState
 bad_proposals =
     with_proposals (imported 1 wrong ∷ imported 1 wrong ∷ []) ∷ with_proposals (imported 2 wrong ∷ [])
-    ∷ with_proposals (imported 1 3 ∷ []) ∷ with_proposals (record (proposed 0 1 wrong 5) { proposer = proposer.Account 6 } ∷ []) ∷ []
+    ∷ with_proposals (imported 1 3 ∷ []) ∷ with_proposals (record (proposed 0 1 wrong 5) { proposer = proposer.Account (codes "j3") } ∷ []) ∷ []
 
 no_proposals : list_any is_valid bad_proposals ≡ false
 no_proposals = refl
@@ -130,7 +130,7 @@ abbrev bad_talk : List ContestState
 bad_talk =
     with_talk (asked 0 1 5 ∷ answered 0 3 6 ∷ [])
     ∷ with_talk (record (announced 1 5 None) { from_jury = false } ∷ [])
-    ∷ with_talk (record (asked 0 1 5) { account = 1 } ∷ [])
+    ∷ with_talk (record (asked 0 1 5) { account = codes "a2" } ∷ [])
     ∷ with_talk (answered 0 1 5 ∷ replying (answered 0 2 5) addressee.All 1 ∷ [])
     ∷ with_talk (asked 1 1 5 ∷ replying (asked 0 1 6) (addressee.Team 1) 1 ∷ [])
     ∷ with_talk (record (asked 0 1 5) { key = Some (codes "k") } ∷ record (asked 0 2 5) { key = Some (codes "k") } ∷ [])
@@ -143,7 +143,7 @@ no_talk : list_any is_valid bad_talk ≡ false
 no_talk = refl
 
 -- a team may answer what is told to all; two judges may use one key
-good_talk : is_valid (with_talk (record (announced 1 5 None) { key = Some (codes "k") } ∷ replying (asked 0 1 6) addressee.All 1 ∷ record (answered 0 2 5) { account = 5; key = Some (codes "k") } ∷ [])) ≡ true
+good_talk : is_valid (with_talk (record (announced 1 5 None) { key = Some (codes "k") } ∷ replying (asked 0 1 6) addressee.All 1 ∷ record (answered 0 2 5) { account = codes "j2"; key = Some (codes "k") } ∷ [])) ≡ true
 good_talk = refl
 
 abbrev with_rejudgings : List Rejudging → ContestState

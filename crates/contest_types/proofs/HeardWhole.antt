@@ -1,6 +1,6 @@
 -- In a valid contest all that an audience may hear is listed, and nothing else.
 use Rattle.std.proofs.Common.{◌≡◌, ℕ, suc, ◌+◌, ◌<◌, ◌≤◌, Bool, true, false, List, [], ◌∷◌, ◌++◌, length, map, refl, sym, ap, subst, ◌∙◌, inl, inr, arith}
-use Rattle.std.specs.Prelude.{◌↔◌, ◌&&◌, ◌^◌, nat_lt, nat_le, count_by, if◌then◌else◌}
+use Rattle.std.specs.Prelude.{◌↔◌, ◌&&◌, ◌^◌, nat_lt, nat_le, count_by, is_some, if◌then◌else◌}
 use Rattle.std.specs.Fmt.{decimal}
 use Rattle.std.specs.List.{list_all, flat_map, range_with_len}
 use Rattle.std.specs.Option.{option_map_or}
@@ -11,11 +11,13 @@ use Rattle.std.proofs.lemmas.Fmt.{decimal_injective}
 use Rattle.std.proofs.lemmas.List.{append_assoc, length-map}
 use Rattle.std.proofs.lemmas.Map.Lookups.{exact_bytes}
 use Rattle.std.proofs.lemmas.Slice.Eq.{bytes_eq-Decides}
+use Rattle.contest_types.specs.Accounts.{account_named}
 use Rattle.contest_types.specs.Series.{in_each, count_up}
 use Rattle.contest_types.specs.TeamPlaces.{team_places}
 use Rattle.contest_types.specs.Order.{Has, IsInOrder}
 use Rattle.contest_types.specs.State.{FixedPart, ContestState, same_addressee, clarifications_to}
-use Rattle.contest_types.specs.Sight.{SeenClarification, hears, seen_clarification, heard_of, clarification_id, clarification_cmp, addressees, seen_clarifications}
+use Rattle.contest_types.specs.VisibleIds.{clarification_id}
+use Rattle.contest_types.specs.Sight.{SeenClarification, hears, seen_clarification, heard_of, clarification_cmp, addressees, seen_clarifications}
 use Rattle.contest_types.specs.ValidClarifications.{is_an_addressee, has_clarification, is_well_sent, is_valid_clarification, to_one_addressee, is_request, are_valid_clarifications, in_one_scope, keys_are_own}
 use Rattle.contest_types.specs.Valid.{is_valid}
 use Rattle.contest_types.specs.Laws.{IsHeard}
@@ -89,7 +91,7 @@ first_of_five a b c d e v = and_left a b (and_left (a && b) c (and_left (a && b 
 -- it goes to all, or to a team that is there
 goes_to : (x : ContestState) (c : Clarification) → is_valid x ≡ true → Has x.clarifications c → is_an_addressee x.fixed c.addressee ≡ true
 goes_to x c valid h =
-    first_of_five (is_an_addressee x.fixed c.addressee) (nat_lt c.account (length x.fixed.accounts)) (option_map_or (λ problem. nat_lt problem (length x.fixed.settings.problems)) c.problem true)
+    first_of_five (is_an_addressee x.fixed c.addressee) (is_some (account_named x.fixed.accounts c.account)) (option_map_or (λ problem. nat_lt problem (length x.fixed.settings.problems)) c.problem true)
     (option_map_or (has_clarification x) c.reply true) (is_well_sent x.fixed c) (all_has (is_valid_clarification x) x.clarifications c (tests x valid).alone h)
 
 has_addressee : (f : FixedPart) (p : Addressee) → is_an_addressee f p ≡ true → Has (addressees f.settings) p
@@ -134,13 +136,13 @@ one_clarification x c d valid hc hd same number =
 -- what is gathered of an addressee is what is heard of its clarifications
 of_addressee : (a : Audience) (x : ContestState) (p : Addressee) (v : SeenClarification) → Has (heard_of a x p) v → IsHeard a x v
 of_addressee a x p v h =
-    let go : (b : Bool) → hears a p ≡ b → Has (if b then map (seen_clarification a) (clarifications_to p x.clarifications) else []) v → IsHeard a x v = elim [
-      | true ↦ λ e k. (let m = map_has (seen_clarification a) (clarifications_to p x.clarifications) v k in
+    let go : (b : Bool) → hears a x.fixed.settings p ≡ b → Has (if b then map (seen_clarification a x.fixed.settings) (clarifications_to p x.clarifications) else []) v → IsHeard a x v = elim [
+      | true ↦ λ e k. (let m = map_has (seen_clarification a x.fixed.settings) (clarifications_to p x.clarifications) v k in
           let f = filter_has (λ (c : Clarification). same_addressee c.addressee p) x.clarifications m.item m.there in
-          record { clarification = m.item; there = f.0; hears = subst (λ q. hears a q ≡ true) (sym (same_is_one m.item.addressee p f.1)) e; told = m.is })
+          record { clarification = m.item; there = f.0; hears = subst (λ q. hears a x.fixed.settings q ≡ true) (sym (same_is_one m.item.addressee p f.1)) e; told = m.is })
       | false ↦ λ e k. absurd k
     ] in
-    go (hears a p) refl h
+    go (hears a x.fixed.settings p) refl h
 
 abbrev gathered : Audience → ContestState → List SeenClarification
 gathered a x = flat_map (heard_of a x) (addressees x.fixed.settings)
@@ -158,22 +160,22 @@ no_ties a x valid v w iv iw e =
     let d = iv.clarification in
     let small_c : c.number < 2 ^ 64 = omega (arith, own_number x c valid iw.there) in
     let small_d : d.number < 2 ^ 64 = omega (arith, own_number x d valid iv.there) in
-    let e' : clarification_cmp (seen_clarification a c) (seen_clarification a d) ≡ Equal = ap (λ z. clarification_cmp z (seen_clarification a d)) (sym iw.told) ∙ (ap (clarification_cmp w) (sym iv.told) ∙ e) in
+    let e' : clarification_cmp (seen_clarification a x.fixed.settings c) (seen_clarification a x.fixed.settings d) ≡ Equal = ap (λ z. clarification_cmp z (seen_clarification a x.fixed.settings d)) (sym iw.told) ∙ (ap (clarification_cmp w) (sym iv.told) ∙ e) in
     let ids : clarification_id c.addressee c.number ≡ clarification_id d.addressee d.number = exact_bytes _ _ (both_equal _ _ e').1 in
     let few : length x.fixed.settings.teams ≤ TEAMS = at_most _ TEAMS (tests_of x (parts x valid).settings).few_teams in
     let both = one_id x.fixed c.addressee d.addressee c.number d.number few (goes_to x c valid iw.there) (goes_to x d valid iv.there) small_c small_d ids in
-    iw.told ∙ (ap (seen_clarification a) (one_clarification x c d valid iw.there iv.there both.0 both.1) ∙ sym iv.told)
+    iw.told ∙ (ap (seen_clarification a x.fixed.settings) (one_clarification x c d valid iw.there iv.there both.0 both.1) ∙ sym iv.told)
 
 pub heard_listed : (a : Audience) (x : ContestState) → is_valid x ≡ true → (v : SeenClarification) → IsHeard a x v → Has (seen_clarifications a x) v
 heard_listed a x valid v i =
     let c = i.clarification in
-    let rows = map (seen_clarification a) (clarifications_to c.addressee x.clarifications) in
-    let row : Has rows (seen_clarification a c) = has_map (seen_clarification a) (clarifications_to c.addressee x.clarifications) c
+    let rows = map (seen_clarification a x.fixed.settings) (clarifications_to c.addressee x.clarifications) in
+    let row : Has rows (seen_clarification a x.fixed.settings c) = has_map (seen_clarification a x.fixed.settings) (clarifications_to c.addressee x.clarifications) c
     (has_filter (λ (d : Clarification). same_addressee d.addressee c.addressee) x.clarifications c i.there (addressed_itself c.addressee)) in
-    let go : (b : Bool) → b ≡ true → Has (if b then rows else []) (seen_clarification a c) = elim [ true ↦ λ e. row | false ↦ λ e. absurd (false≢true e) ] in
-    let told : Has (heard_of a x c.addressee) (seen_clarification a c) = go (hears a c.addressee) i.hears in
+    let go : (b : Bool) → b ≡ true → Has (if b then rows else []) (seen_clarification a x.fixed.settings c) = elim [ true ↦ λ e. row | false ↦ λ e. absurd (false≢true e) ] in
+    let told : Has (heard_of a x c.addressee) (seen_clarification a x.fixed.settings c) = go (hears a x.fixed.settings c.addressee) i.hears in
     let here : Has (gathered a x) v = subst (λ w. Has (gathered a x) w) (sym i.told)
-    (flat_has (heard_of a x) (addressees x.fixed.settings) c.addressee (seen_clarification a c) (has_addressee x.fixed c.addressee (goes_to x c valid i.there)) told) in
+    (flat_has (heard_of a x) (addressees x.fixed.settings) c.addressee (seen_clarification a x.fixed.settings c) (has_addressee x.fixed c.addressee (goes_to x c valid i.there)) told) in
     nothing_lost clarification_order (gathered a x) v here (λ w h e. no_ties a x valid v w i (from_gathered a x w h) e)
 
 -- whoever lists in order just what is heard has the same list

@@ -72,7 +72,7 @@ find_has {X} p (y ∷ xs) x h =
     elim [ true ↦ λ e. (let same : y ≡ x = cc e in inl (sym same)) | false ↦ λ e. inr (find_has p xs x e) ] in
     go (p y) h
 
-has_option : {X : Type 0} (o : Option X) (xs : List X) (x : X) → (o ≡ Some x) ⊎ Has xs x → Has (cons_option o xs) x
+pub has_option : {X : Type 0} (o : Option X) (xs : List X) (x : X) → (o ≡ Some x) ⊎ Has xs x → Has (cons_option o xs) x
 has_option None xs x h = elim h [ inl e ↦ absurd (cc e) | inr k ↦ k ]
 has_option {X} (Some y) xs x h = elim h [ inl e ↦ (let same : y ≡ x = cc e in inl (sym same)) | inr k ↦ inr k ]
 

@@ -24,10 +24,13 @@ pub mod ValidParts
 pub mod AddLemmas
 pub mod AddClarification
 pub mod AddRejudging
+pub mod AccountLemmas
 pub mod AddSettings
 pub mod AddRows
 pub mod AddEntry
 mod ExamplesValid
+mod ExamplesSettings
+mod ExamplesAdding
 pub mod Different
 pub mod InOrderLemmas
 pub mod Rising
@@ -35,3 +38,9 @@ pub mod SeenWhole
 pub mod DashedNumbers
 pub mod HeardWhole
 pub mod SettingsTest
+pub mod ShownVerdicts
+pub mod RoleLemmas
+pub mod ThawLemmas
+pub mod ReleaseLemmas
+pub mod OwnLemmas
+pub mod JudgementLemmas

@@ -25,25 +25,25 @@ and_right false b h = absurd (false≢true h)
 pub both_true : (a b : Bool) → a ≡ true → b ≡ true → (a && b) ≡ true
 both_true a b g h = rw (g, h) refl
 
-or_left : (a b : Bool) → (a || b) ≡ false → a ≡ false
+pub or_left : (a b : Bool) → (a || b) ≡ false → a ≡ false
 or_left true b h = h
 or_left false b h = refl
 
-or_right : (a b : Bool) → (a || b) ≡ false → b ≡ false
+pub or_right : (a b : Bool) → (a || b) ≡ false → b ≡ false
 or_right true b h = absurd (false≢true (sym h))
 or_right false b h = h
 
-both_false : (a b : Bool) → a ≡ false → b ≡ false → (a || b) ≡ false
+pub both_false : (a b : Bool) → a ≡ false → b ≡ false → (a || b) ≡ false
 both_false a b g h = rw (g, h) refl
 
-not_true : (a : Bool) → not a ≡ true → a ≡ false
+pub not_true : (a : Bool) → not a ≡ true → a ≡ false
 not_true true h = absurd (false≢true h)
 not_true false h = refl
 
 pub same_bytes : (x y : List ℕ) → bytes_eq x y ≡ true → x ≡ y
 same_bytes x y h = (bytes_eq-Decides x y).0 h
 
-differs : (x y : List ℕ) → bytes_eq x y ≡ false → bytes_eq y x ≡ false
+pub differs : (x y : List ℕ) → bytes_eq x y ≡ false → bytes_eq y x ≡ false
 differs x y h = elim (cases_Bool (bytes_eq y x)) [
   | inl t ↦ absurd (false≢true (sym h ∙ (bytes_eq-Decides x y).1 (sym (same_bytes y x t))))
   | inr f ↦ f

@@ -41,7 +41,7 @@ looked_for {X} F first (suc n) x h =
     let later : LookedFor F (first + 1) x → LookedFor F first x = λ r. (let from = r.from in record { at = r.at; from = omega arith; found = r.found }) in
     elim (option_has (F first) (filter_map F (range_with_len (first + 1) n)) x h) [ inl e ↦ record { at = first; from = omega arith; found = e } | inr t ↦ later (looked_for F (first + 1) n x t) ]
 
-before_all : {X : Type 0} (before : X → X → Bool) (x : X) (ys : List X) → ((y : X) → Has ys y → before x y ≡ true) → IsBefore before x ys
+pub before_all : {X : Type 0} (before : X → X → Bool) (x : X) (ys : List X) → ((y : X) → Has ys y → before x y ≡ true) → IsBefore before x ys
 before_all before x [] h = tt
 before_all before x (y ∷ ys) h = (h y (inl refl), before_all before x ys (λ z k. h z (inr k)))
 

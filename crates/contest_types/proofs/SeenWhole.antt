@@ -19,7 +19,8 @@ use Rattle.contest_types.specs.Series.{count_up}
 use Rattle.contest_types.specs.TeamPlaces.{team_places, team_id_at}
 use Rattle.contest_types.specs.Order.{Has, IsInOrder}
 use Rattle.contest_types.specs.State.{ContestState, submissions_of}
-use Rattle.contest_types.specs.Sight.{SeenSubmission, sees_team, seen_submission, seen_of_team, submission_cmp, seen_submissions, SeenClarification, clarification_id, clarification_cmp, heard_of, addressees, seen_clarifications}
+use Rattle.contest_types.specs.VisibleIds.{clarification_id}
+use Rattle.contest_types.specs.Sight.{SeenSubmission, sees_team, seen_submission, seen_of_team, submission_cmp, seen_submissions, SeenClarification, clarification_cmp, heard_of, addressees, seen_clarifications}
 use Rattle.contest_types.specs.ValidSubmissions.{is_valid_submission, of_one_team, are_valid_submissions}
 use Rattle.contest_types.specs.Valid.{is_valid}
 use Rattle.contest_types.specs.Laws.{IsSeen}

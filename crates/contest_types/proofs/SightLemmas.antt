@@ -5,6 +5,7 @@ use Rattle.std.specs.List.{flat_map, last_or}
 use Rattle.std.proofs.lemmas.Simd.{map-map}
 use Rattle.std.proofs.lemmas.Bool.{eqb-true}
 use Rattle.contest_types.specs.Order.{in_order}
+use Rattle.contest_types.specs.Setup.{Setup}
 use Rattle.contest_types.specs.TeamPlaces.{team_places, is_public}
 use Rattle.contest_types.specs.Clock.{is_frozen, is_thawed}
 use Rattle.contest_types.specs.Masks.{is_jury, owns}
@@ -116,20 +117,21 @@ same_is_one addressee.All (addressee.Team t) e = absurd (cc)
 same_is_one (addressee.Team t) addressee.All e = absurd (cc)
 same_is_one (addressee.Team t) (addressee.Team u) e = ap addressee.Team (eqb-true t u e)
 
-shown_clarification : (a : Audience) (addressee : Addressee) (c : Clarification) → same_addressee c.addressee addressee ≡ true → seen_clarification a c ≡ without_key addressee (open_clarification a c)
-shown_clarification a addressee c e = rw (same_is_one c.addressee addressee e) refl
+shown_clarification : (a : Audience) (s : Setup) (addressee : Addressee) (c : Clarification) → same_addressee c.addressee addressee ≡ true → seen_clarification a s c ≡ without_key addressee (open_clarification a s c)
+shown_clarification a s addressee c e = rw (same_is_one c.addressee addressee e) refl
 
 -- what is heard follows from what is told
 pub heard_from_told : (a : Audience) (x : ContestState) (addressee : Addressee) → heard_of a x addressee ≡ map (without_key addressee) (told_of a x addressee)
 heard_from_told a x addressee =
     let cs = clarifications_to addressee x.clarifications in
-    let go : (b : Bool) → (if b then map (seen_clarification a) cs else []) ≡ map (without_key addressee) (if b then map (open_clarification a) cs else []) =
+    let s = x.fixed.settings in
+    let go : (b : Bool) → (if b then map (seen_clarification a s) cs else []) ≡ map (without_key addressee) (if b then map (open_clarification a s) cs else []) =
     elim [
-      | true ↦ map-filter_same (seen_clarification a) (λ c. without_key addressee (open_clarification a c)) (λ c. same_addressee c.addressee addressee) (shown_clarification a addressee) x.clarifications
-          ∙ sym (map-map (without_key addressee) (open_clarification a) cs)
+      | true ↦ map-filter_same (seen_clarification a s) (λ c. without_key addressee (open_clarification a s c)) (λ c. same_addressee c.addressee addressee) (shown_clarification a s addressee) x.clarifications
+          ∙ sym (map-map (without_key addressee) (open_clarification a s) cs)
       | false ↦ refl
     ] in
-    go (hears a addressee)
+    go (hears a s addressee)
 
 heard_alike_of : (a : Audience) (x y : ContestState) (addressee : Addressee) → Alike a x y → heard_of a x addressee ≡ heard_of a y addressee
 heard_alike_of a x y addressee h =

@@ -2,18 +2,17 @@
 use Rattle.std.specs.Prelude.{◌+◌, Bool, true, false, not, ◌&&◌, ◌||◌, ◌==◌, nat_le, nat_lt, List, [], ◌∷◌, ◌++◌, length, map, filter, count_by, Result, Ok, Err, is_some, if◌then◌else◌}
 use Rattle.std.specs.List.{list_all}
 use Rattle.std.specs.Option.{option_map_or}
-use Rattle.contest_types.specs.Places.{is_among}
 use Rattle.contest_types.specs.MomentText.{latest}
 use Rattle.contest_types.specs.Clock.{after}
 use Rattle.contest_types.specs.Series.{is_new_key}
+use Rattle.contest_types.specs.Accounts.{account_addition}
 use Rattle.contest_types.specs.SetupAdditions.{type_addition, language_addition, problem_addition, group_addition, team_addition}
 use Rattle.contest_types.specs.State.{ContestState, submissions_of, releases_on, proposals_for, clarifications_to, add, Entry, NewSubmission, NewProposal, NewRelease, NewClarification, NewRejudging, SetMember, SetRejudging, SetStart, SetThaw, SetFinalized, NewType, NewLanguage, NewProblem, NewGroup, NewTeam, NewAccount}
 use Rattle.contest_types.specs.ValidFixed.{is_valid_account}
 use Rattle.contest_types.specs.ValidSubmissions.{is_valid_submission, is_valid_proposal, is_valid_release, is_imported}
 use Rattle.contest_types.specs.ValidClarifications.{is_valid_clarification, is_request, in_one_scope}
 use Rattle.contest_types.specs.ValidRejudgings.{is_valid_rejudging, is_valid_state, is_open, is_open_by, open_members, are_different_members}
-use Rattle.contest_types.specs.declared.limits.TheConstants.{ACCOUNTS, TEAM_SUBMISSIONS, PROPOSALS, TEAM_REQUESTS, JURY_CLARIFICATIONS, REJUDGINGS}
-use Rattle.contest_types.specs.declared.account.Account.{Account}
+use Rattle.contest_types.specs.declared.limits.TheConstants.{TEAM_SUBMISSIONS, PROPOSALS, TEAM_REQUESTS, JURY_CLARIFICATIONS, REJUDGINGS}
 use Rattle.contest_types.specs.declared.refusal.Cause.{Cause}
 use Rattle.contest_types.specs.declared.submission.Submission.{Submission}
 use Rattle.contest_types.specs.declared.submission.Release.{Release}
@@ -45,13 +44,7 @@ abbrev pub is_next_rejudging : List Rejudging → Rejudging → Bool
 is_next_rejudging rs r =
     nat_lt (length rs) REJUDGINGS && (not (is_open r) || are_different_members (open_members rs ++ r.members))
 
--- id and digest are new, and there is room
-abbrev pub is_next_account : List Account → Account → Bool
-is_next_account accounts a =
-    not (is_among (map (λ (b : Account). b.id) accounts) a.id) && not (is_among (map (λ (b : Account). b.digest) accounts) a.digest)
-    && nat_lt (length accounts) ACCOUNTS
-
--- the settings take the row as a new one
+-- the row is taken as a new one
 abbrev pub is_added : Result Bool Cause → Bool
 is_added (Ok added) = added
 is_added (Err cause) = false
@@ -77,7 +70,7 @@ is_addable x (NewLanguage l) = is_added (language_addition x.fixed.settings l)
 is_addable x (NewProblem p) = is_added (problem_addition x.fixed.settings p)
 is_addable x (NewGroup g) = is_added (group_addition x.fixed.settings g)
 is_addable x (NewTeam t) = is_added (team_addition x.fixed.settings t)
-is_addable x (NewAccount a) = is_valid_account x.fixed.settings a && is_next_account x.fixed.accounts a
+is_addable x (NewAccount a) = is_valid_account x.fixed.settings a && is_added (account_addition x.fixed.settings x.fixed.accounts a)
 
 -- the changes may be made one after another
 abbrev pub are_addable : ContestState → List Entry → Bool

@@ -22,6 +22,12 @@ addition_by Same full = Ok false
 addition_by Other full = Err KeyReused
 addition_by New full = if full then Err TableFull else Ok true
 
+-- the same of a row with a second key, which may be held by another row
+abbrev pub keyed_addition : Standing → (held : Bool) → (full : Bool) → Result Bool Cause
+keyed_addition New held full = if held then Err KeyReused else addition_by New full
+keyed_addition Same held full = addition_by Same full
+keyed_addition Other held full = addition_by Other full
+
 abbrev pub addition : {T : Type 0} → (T → List ℕ) → (T → T → Bool) → (most : ℕ) → List T → T → Result Bool Cause
 addition id same most rows row = addition_by (standing_of id same rows row) (nat_le most (length rows))
 

@@ -1,9 +1,10 @@
--- When two contests agree on all that an audience may learn before the thaw (own). Nothing else is
--- compared: not proposals, rejudgings, files, entry points or keys of others, hidden teams'
+-- When two contests agree on all that an audience may learn before the thaw, and on their fixed parts,
+-- which the promise takes as equal (own). Nothing else is compared: not proposals, rejudgings, files, entry points or keys of others, hidden teams'
 -- submissions, releases on others' frozen submissions, clarifications of other teams, who wrote for
 -- the jury, or the order of acceptance across teams.
 use Rattle.std.specs.Prelude.{◌≡◌, ◌≢◌, ℕ, Bool, false, List, [], map, Option, None, if◌then◌else◌}
 use Rattle.std.specs.Option.{option_and_then}
+use Rattle.contest_types.specs.Setup.{Setup}
 use Rattle.contest_types.specs.Clock.{is_frozen, is_thawed}
 use Rattle.contest_types.specs.TeamPlaces.{is_public}
 use Rattle.contest_types.specs.Masks.{owns}
@@ -51,12 +52,12 @@ pub record OpenClarification : Type 0 where
   pub time : ℕ
   pub key : Option (List ℕ)
 
-abbrev pub open_clarification : Audience → Clarification → OpenClarification
-open_clarification a c = record {
+abbrev pub open_clarification : Audience → Setup → Clarification → OpenClarification
+open_clarification a s c = record {
   number = c.number;
   from_jury = c.from_jury;
   problem = c.problem;
-  reply = option_and_then (heard_reference a) c.reply;
+  reply = option_and_then (heard_reference a s) c.reply;
   text = c.text;
   time = c.time;
   key = if c.from_jury then None else c.key;
@@ -76,7 +77,7 @@ sight_of a x team =
 
 -- what it may learn of one addressee's clarifications
 abbrev pub told_of : Audience → ContestState → Addressee → List OpenClarification
-told_of a x addressee = if hears a addressee then map (open_clarification a) (clarifications_to addressee x.clarifications) else []
+told_of a x addressee = if hears a x.fixed.settings addressee then map (open_clarification a x.fixed.settings) (clarifications_to addressee x.clarifications) else []
 
 -- the two contests are alike for the audience. The public is an audience that owns no team
 pub record Alike (a : Audience) (x y : ContestState) : Type 0 where

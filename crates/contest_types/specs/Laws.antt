@@ -63,8 +63,8 @@ OneListIsSeen =
 pub record IsHeard (a : Audience) (x : ContestState) (v : SeenClarification) : Type 0 where
   pub clarification : Clarification
   pub there : Has x.clarifications clarification
-  pub hears : sees_clarification a clarification ≡ true
-  pub told : v ≡ seen_clarification a clarification
+  pub hears : sees_clarification a x.fixed.settings clarification ≡ true
+  pub told : v ≡ seen_clarification a x.fixed.settings clarification
 
 -- in a valid contest all clarifications that an audience may hear are listed for it, and nothing else
 abbrev pub HeardIsListed : Type 0

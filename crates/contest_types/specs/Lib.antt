@@ -15,10 +15,13 @@ pub mod SetupAdditions
 pub mod TeamPlaces
 pub mod ProblemPlaces
 pub mod Order
+pub mod Accounts
 pub mod Clock
 pub mod Masks
 pub mod State
+pub mod VisibleIds
 pub mod Sight
+pub mod Judging
 pub mod Alike
 pub mod Series
 pub mod ValidFixed
@@ -29,3 +32,4 @@ pub mod Valid
 pub mod Loads
 pub mod Addable
 pub mod Laws
+pub mod SightLaws

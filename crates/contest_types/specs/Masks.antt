@@ -20,6 +20,10 @@ owns audience.Public team = false
 owns (audience.Team number) team = number == team + 1
 owns audience.Jury team = false
 
+-- the audience that the team at this place is
+abbrev pub audience_at : ℕ → Audience
+audience_at team = audience.Team (team + 1)
+
 -- the jury and the team itself
 abbrev pub knows_all_of : Audience → ℕ → Bool
 knows_all_of who team = is_jury who || owns who team

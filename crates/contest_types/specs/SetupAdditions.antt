@@ -3,11 +3,9 @@ use Rattle.std.specs.Prelude.{◌≡◌, Bool, [], length, Result, Err, if◌the
 use Rattle.contest_types.specs.Places.{is_among}
 use Rattle.contest_types.specs.Setup.{Setup, labels_of, refers}
 use Rattle.contest_types.specs.Rows.{same_type, same_language, same_problem, same_group, same_team}
-use Rattle.contest_types.specs.Additions.{standing_of, addition, addition_by, grown}
-use Rattle.contest_types.specs.declared.id_list.Standing.{Standing}
-use Rattle.contest_types.specs.declared.id_list.Standing.TheVariants.{New, Same, Other}
+use Rattle.contest_types.specs.Additions.{standing_of, addition, keyed_addition, grown}
 use Rattle.contest_types.specs.declared.refusal.Cause.{Cause}
-use Rattle.contest_types.specs.declared.refusal.Cause.TheVariants.{KeyReused, UnknownReference}
+use Rattle.contest_types.specs.declared.refusal.Cause.TheVariants.{UnknownReference}
 use Rattle.contest_types.specs.declared.contest.ContestHead.{ContestHead}
 use Rattle.contest_types.specs.declared.objects.JudgementType.{JudgementType}
 use Rattle.contest_types.specs.declared.objects.Language.{Language}
@@ -34,14 +32,9 @@ abbrev pub team_addition : Setup → Team → Result Bool Cause
 team_addition s row = if refers (length s.groups) row then addition (λ t. t.id) same_team TEAMS s.teams row else Err UnknownReference
 
 -- a problem's label is its own
-abbrev pub problem_addition_by : Standing → (label_held : Bool) → (full : Bool) → Result Bool Cause
-problem_addition_by New label_held full = if label_held then Err KeyReused else addition_by New full
-problem_addition_by Same label_held full = addition_by Same full
-problem_addition_by Other label_held full = addition_by Other full
-
 abbrev pub problem_addition : Setup → Problem → Result Bool Cause
 problem_addition s row =
-    problem_addition_by (standing_of (λ p. p.id) same_problem s.problems row) (is_among (labels_of s.problems) row.label) (nat_le PROBLEMS (length s.problems))
+    keyed_addition (standing_of (λ p. p.id) same_problem s.problems row) (is_among (labels_of s.problems) row.label) (nat_le PROBLEMS (length s.problems))
 
 -- the settings with one more row, where it is added
 abbrev pub with_type : Bool → Setup → JudgementType → Setup

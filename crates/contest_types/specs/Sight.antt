@@ -1,19 +1,19 @@
 -- What an audience sees of a contest (Contest API 2023-06, submissions, judgements and
 -- clarifications; DOMjudge manual, "Scoreboard" and "Clarifications").
-use Rattle.std.specs.Prelude.{ℕ, ◌+◌, Bool, true, ◌||◌, List, [], ◌∷◌, ◌++◌, map, Option, Some, None, if◌then◌else◌, codes}
+use Rattle.std.specs.Prelude.{ℕ, Bool, true, ◌||◌, List, [], ◌∷◌, map, Option, Some, None, if◌then◌else◌}
 use Rattle.std.specs.List.{flat_map, last_or}
 use Rattle.std.specs.Option.{option_map, option_and_then}
-use Rattle.std.specs.Fmt.{decimal}
 use Rattle.std.specs.Ordering.{nat_cmp, ordering_then}
 use Rattle.std.specs.Cmp.Lexicographic.{slice_cmp}
 use Rattle.std.specs.declared.cmp.Ordering.{Ordering}
 use Rattle.contest_types.specs.Setup.{Setup}
 use Rattle.contest_types.specs.TeamPlaces.{team_places, team_id_at, is_public}
 use Rattle.contest_types.specs.Order.{in_order}
+use Rattle.contest_types.specs.VisibleIds.{clarification_id}
+use Rattle.contest_types.specs.Clock.{is_frozen}
 use Rattle.contest_types.specs.Masks.{knows_all_of, mask_for, verdict_under}
 use Rattle.contest_types.specs.State.{ContestState, submissions_of, releases_on, clarifications_to}
 use Rattle.contest_types.specs.declared.audience.Audience.{Audience}
-use Rattle.contest_types.specs.declared.mask.Mask.TheVariants.{Full, Held}
 use Rattle.contest_types.specs.declared.submission.Submission.{Submission}
 use Rattle.contest_types.specs.declared.submission.Release.{Release}
 use Rattle.contest_types.specs.declared.clarification.Clarification.{Clarification}
@@ -34,20 +34,23 @@ judgement_of v = record { round = v.round; verdict = v.verdict; time = v.time }
 abbrev pub judgements_on : ContestState → Submission → List Judgement
 judgements_on x s = map judgement_of (releases_on s.team s.number x.releases)
 
--- the last that was released on it counts
+-- of the releases on a team's submission with this number the last counts
+abbrev pub last_on : List Release → (team number : ℕ) → Option Judgement
+last_on releases team number = last_or None (map judgement_of (releases_on team number releases))
+
 abbrev pub last_judgement : ContestState → Submission → Option Judgement
-last_judgement x s = last_or None (judgements_on x s)
+last_judgement x s = last_on x.releases s.team s.number
 
 abbrev pub type_of : Option Judgement → Option ℕ
 type_of = option_map (λ j. j.verdict)
 
 -- the type that was released last, or none
 abbrev pub full_verdict : ContestState → Submission → Option ℕ
-full_verdict x s = type_of (verdict_under Full x.fixed.settings x.fixed.marks s.time (last_judgement x s))
+full_verdict x s = type_of (last_judgement x s)
 
 -- the same, but none where the submission is frozen
 abbrev pub held_verdict : ContestState → Submission → Option ℕ
-held_verdict x s = type_of (verdict_under Held x.fixed.settings x.fixed.marks s.time (last_judgement x s))
+held_verdict x s = if is_frozen x.fixed.settings x.fixed.marks s.time then None else full_verdict x s
 
 -- the submissions of the team at this place are seen: by the jury and by the team itself, and by
 -- anyone unless it is hidden
@@ -109,16 +112,16 @@ abbrev pub seen_submissions : Audience → ℕ → ContestState → List SeenSub
 seen_submissions a now x = in_order (submission_cmp x.fixed.settings) (flat_map (seen_of_team a now x) (team_places x.fixed.settings))
 
 -- what belongs to an addressee is heard: by the jury and by all to whom it goes
-abbrev pub hears : Audience → Addressee → Bool
-hears a ToAll = true
-hears a (ToTeam team) = knows_all_of a team
+abbrev pub hears : Audience → Setup → Addressee → Bool
+hears a s ToAll = true
+hears a s (ToTeam team) = knows_all_of a team
 
-abbrev pub sees_clarification : Audience → Clarification → Bool
-sees_clarification a c = hears a c.addressee
+abbrev pub sees_clarification : Audience → Setup → Clarification → Bool
+sees_clarification a s c = hears a s c.addressee
 
 -- which clarification is answered is told only where that one is heard too
-abbrev pub heard_reference : Audience → Reference → Option Reference
-heard_reference a r = if hears a r.addressee then Some r else None
+abbrev pub heard_reference : Audience → Setup → Reference → Option Reference
+heard_reference a s r = if hears a s r.addressee then Some r else None
 
 -- a clarification as an audience sees it: never who wrote it for the jury, and no key
 pub record SeenClarification : Type 0 where
@@ -130,25 +133,20 @@ pub record SeenClarification : Type 0 where
   pub text : List ℕ
   pub time : ℕ
 
-abbrev pub seen_clarification : Audience → Clarification → SeenClarification
-seen_clarification a c = record {
+abbrev pub seen_clarification : Audience → Setup → Clarification → SeenClarification
+seen_clarification a s c = record {
   addressee = c.addressee;
   number = c.number;
   from_jury = c.from_jury;
   problem = c.problem;
-  reply = option_and_then (heard_reference a) c.reply;
+  reply = option_and_then (heard_reference a s) c.reply;
   text = c.text;
   time = c.time;
 }
 
 -- what is heard of one addressee's clarifications
 abbrev pub heard_of : Audience → ContestState → Addressee → List SeenClarification
-heard_of a x addressee = if hears a addressee then map (seen_clarification a) (clarifications_to addressee x.clarifications) else []
-
--- `g-<number>` for one to all, `c<team number>-<number>` for one of a team
-abbrev pub clarification_id : Addressee → ℕ → List ℕ
-clarification_id ToAll number = codes "g-" ++ decimal number
-clarification_id (ToTeam team) number = codes "c" ++ decimal (team + 1) ++ codes "-" ++ decimal number
+heard_of a x addressee = if hears a x.fixed.settings addressee then map (seen_clarification a x.fixed.settings) (clarifications_to addressee x.clarifications) else []
 
 -- by time, then by the bytes of the id
 abbrev pub clarification_cmp : SeenClarification → SeenClarification → Ordering

@@ -1,8 +1,9 @@
--- A contest as whole lists, and what each change makes of it (own; the rows are those of the Contest
--- API 2023-06). Places count from 0, numbers and rounds from 1.
+-- A contest as whole lists, and what each change makes of it (own; settings, submissions and
+-- clarifications are those of the Contest API 2023-06). Places count from 0, numbers and rounds from 1.
 use Rattle.std.specs.Prelude.{ℕ, Bool, true, false, ◌&&◌, ◌==◌, List, [], ◌∷◌, ◌++◌, filter, map, Some, if◌then◌else◌}
 use Rattle.std.specs.List.{enumerate_from}
 use Rattle.contest_types.specs.Setup.{Setup}
+use Rattle.contest_types.specs.Accounts.{with_account}
 use Rattle.contest_types.specs.declared.fixed.Fixed.{Fixed}
 pub use Rattle.contest_types.specs.declared.entry.Entry.{Entry}
 pub use Rattle.contest_types.specs.declared.entry.Entry.TheVariants.{NewSubmission, NewProposal, NewRelease, NewClarification, NewRejudging, SetMember, SetRejudging, SetStart, SetThaw, SetFinalized, NewType, NewLanguage, NewProblem, NewGroup, NewTeam, NewAccount}
@@ -17,7 +18,7 @@ use Rattle.contest_types.specs.declared.rejudging.Rejudging.{Rejudging}
 use Rattle.contest_types.specs.declared.rejudging.Member.{Member}
 use Rattle.contest_types.specs.declared.rejudging.MemberState.{MemberState}
 
--- what every caller may know: the settings, the accounts and the marks of the clock
+-- what the promise of isolation takes as equal: the settings, the accounts and the marks of the clock
 abbrev pub FixedPart : Type 0
 FixedPart = Fixed
 
@@ -34,13 +35,34 @@ pub record ContestState : Type 0 where
 abbrev pub submissions_of : ℕ → List Submission → List Submission
 submissions_of team = filter (λ s. s.team == team)
 
+-- what names a submission: the place of its team, and its number among that team's
+pub record SubmissionRef : Type 0 where
+  pub team : ℕ
+  pub number : ℕ
+
+abbrev pub of_submission : Submission → SubmissionRef
+of_submission s = record { team = s.team; number = s.number }
+
+abbrev pub of_release : Release → SubmissionRef
+of_release v = record { team = v.team; number = v.number }
+
+abbrev pub of_proposal : Proposal → SubmissionRef
+of_proposal p = record { team = p.team; number = p.number }
+
+abbrev pub of_member : Member → SubmissionRef
+of_member m = record { team = m.team; number = m.number }
+
+-- it is this team's submission with this number
+abbrev pub names : (team number : ℕ) → SubmissionRef → Bool
+names team number r = (r.team == team) && (r.number == number)
+
 -- the releases on a team's submission with this number
 abbrev pub releases_on : (team number : ℕ) → List Release → List Release
-releases_on team number = filter (λ v. (v.team == team) && (v.number == number))
+releases_on team number = filter (λ v. names team number (of_release v))
 
 -- the proposals for a team's submission with this number
 abbrev pub proposals_for : (team number : ℕ) → List Proposal → List Proposal
-proposals_for team number = filter (λ p. (p.team == team) && (p.number == number))
+proposals_for team number = filter (λ p. names team number (of_proposal p))
 
 abbrev pub same_addressee : Addressee → Addressee → Bool
 same_addressee ToAll ToAll = true
@@ -81,7 +103,7 @@ add x (NewLanguage l) = with_settings x (record x.fixed.settings { languages = x
 add x (NewProblem p) = with_settings x (record x.fixed.settings { problems = x.fixed.settings.problems ++ p ∷ [] })
 add x (NewGroup g) = with_settings x (record x.fixed.settings { groups = x.fixed.settings.groups ++ g ∷ [] })
 add x (NewTeam t) = with_settings x (record x.fixed.settings { teams = x.fixed.settings.teams ++ t ∷ [] })
-add x (NewAccount a) = record x { fixed = record x.fixed { accounts = x.fixed.accounts ++ a ∷ [] } }
+add x (NewAccount a) = record x { fixed = record x.fixed { accounts = with_account x.fixed.accounts a } }
 
 -- the contest after one change after another
 abbrev pub add_all : ContestState → List Entry → ContestState

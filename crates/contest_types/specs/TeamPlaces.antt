@@ -1,6 +1,6 @@
 -- Teams by their places in the settings, from 0.
-use Rattle.std.specs.Prelude.{ℕ, Bool, false, not, List, [], length, slice_get}
-use Rattle.std.specs.List.{range_with_len}
+use Rattle.std.specs.Prelude.{ℕ, ◌==◌, Bool, false, not, List, [], length, slice_get}
+use Rattle.std.specs.List.{list_any, range_with_len}
 use Rattle.std.specs.Option.{option_map_or}
 use Rattle.contest_types.specs.Setup.{Setup}
 
@@ -13,6 +13,10 @@ name_at s u = option_map_or (λ t. t.name) (slice_get s.teams u) []
 
 abbrev pub team_id_at : Setup → ℕ → List ℕ
 team_id_at s u = option_map_or (λ t. t.id) (slice_get s.teams u) []
+
+-- the team at a place is one of a group's
+abbrev pub is_of_group : Setup → (group team : ℕ) → Bool
+is_of_group s group u = option_map_or (λ t. list_any (λ g. g == group) t.groups) (slice_get s.teams u) false
 
 -- the team at a place isn't hidden
 abbrev pub is_public : Setup → ℕ → Bool

@@ -1,8 +1,12 @@
 -- When the clarifications of a contest are valid (own).
-use Rattle.std.specs.Prelude.{Bool, true, false, not, ◌&&◌, ◌||◌, ◌==◌, nat_le, nat_lt, List, length, map, count_by, slice_get, if◌then◌else◌}
+use Rattle.std.specs.Prelude.{ℕ, Bool, true, false, not, ◌&&◌, ◌||◌, ◌==◌, nat_le, nat_lt, List, length, map, count_by, is_some, if◌then◌else◌}
 use Rattle.std.specs.List.{list_any, list_all}
 use Rattle.std.specs.Option.{option_map_or}
-use Rattle.std.proofs.Math.Bool.{beq}
+use Rattle.std.specs.Str.{bytes_eq}
+use Rattle.contest_types.specs.Setup.{Setup}
+use Rattle.contest_types.specs.Accounts.{account_named}
+use Rattle.contest_types.specs.Masks.{audience_at}
+use Rattle.contest_types.specs.Sight.{hears}
 use Rattle.contest_types.specs.Series.{in_each, count_up, have_own_keys}
 use Rattle.contest_types.specs.State.{FixedPart, ContestState, same_addressee}
 use Rattle.contest_types.specs.declared.limits.TheConstants.{TEAM_REQUESTS, JURY_CLARIFICATIONS}
@@ -20,26 +24,19 @@ is_an_addressee f (addressee.Team team) = nat_lt team (length f.settings.teams)
 abbrev pub has_clarification : ContestState → Reference → Bool
 has_clarification x r = list_any (λ c. same_addressee c.addressee r.addressee && (c.number == r.number)) x.clarifications
 
--- the account speaks for the team that the clarification belongs to
-abbrev pub speaks_for : Role → Addressee → Bool
-speaks_for (role.Team team) to = same_addressee (addressee.Team team) to
-speaks_for _ to = false
+-- what a team's account writes belongs to that team, and answers nothing that the team doesn't hear
+abbrev pub may_send : Setup → Role → Clarification → Bool
+may_send s (role.Team team) c =
+    same_addressee (addressee.Team team) c.addressee && option_map_or (λ (r : Reference). hears (audience_at team) s r.addressee) c.reply true
+may_send s _ c = false
 
--- a team sees its own clarifications and those to all
-abbrev pub is_seen_from : Addressee → Addressee → Bool
-is_seen_from of addressee.All = true
-is_seen_from of (addressee.Team team) = same_addressee of (addressee.Team team)
-
--- what a team writes belongs to it, and answers nothing that it doesn't see
 abbrev pub is_well_sent : FixedPart → Clarification → Bool
-is_well_sent f c =
-    c.from_jury || (option_map_or (λ a. speaks_for a.role c.addressee) (slice_get f.accounts c.account) false
-    && option_map_or (λ (r : Reference). is_seen_from c.addressee r.addressee) c.reply true)
+is_well_sent f c = c.from_jury || option_map_or (λ a. may_send f.settings a.role c) (account_named f.accounts c.account) false
 
 -- a clarification names what is there
 abbrev pub is_valid_clarification : ContestState → Clarification → Bool
 is_valid_clarification x c =
-    is_an_addressee x.fixed c.addressee && nat_lt c.account (length x.fixed.accounts)
+    is_an_addressee x.fixed c.addressee && is_some (account_named x.fixed.accounts c.account)
     && option_map_or (λ problem. nat_lt problem (length x.fixed.settings.problems)) c.problem true
     && option_map_or (has_clarification x) c.reply true && is_well_sent x.fixed c
 
@@ -55,9 +52,21 @@ are_valid_clarifications cs =
     count_up (map (λ (c : Clarification). c.number) cs)
     && nat_le (count_by is_request cs) TEAM_REQUESTS && nat_le (count_by (λ (c : Clarification). c.from_jury) cs) JURY_CLARIFICATIONS
 
--- keys are told apart by the team, and for the jury by the account
+-- whose idempotency keys are told apart: a team's, which are its addressee's, or a jury account's
+pub data Scope : Type 0 where
+  OfTeam : Addressee → Scope
+  OfAccount : List ℕ → Scope
+
+abbrev pub same_scope : Scope → Scope → Bool
+same_scope (OfTeam to) (OfTeam other) = same_addressee other to
+same_scope (OfAccount id) (OfAccount other) = bytes_eq other id
+same_scope _ _ = false
+
+abbrev pub scope_of : Clarification → Scope
+scope_of c = if c.from_jury then OfAccount c.account else OfTeam c.addressee
+
 abbrev pub in_one_scope : Clarification → Clarification → Bool
-in_one_scope c d = beq c.from_jury d.from_jury && (if c.from_jury then d.account == c.account else same_addressee d.addressee c.addressee)
+in_one_scope c d = same_scope (scope_of c) (scope_of d)
 
 abbrev pub keys_are_own : List Clarification → Bool
 keys_are_own cs = have_own_keys (map (λ (c : Clarification). c.key) cs)

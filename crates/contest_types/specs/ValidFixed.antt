@@ -1,5 +1,5 @@
 -- When the fixed part of a contest is valid (own).
-use Rattle.std.specs.Prelude.{Bool, true, not, ◌&&◌, ◌||◌, ◌==◌, nat_le, nat_lt, length, map, is_some, codes}
+use Rattle.std.specs.Prelude.{Bool, true, not, ◌&&◌, ◌||◌, ◌==◌, nat_le, length, map, is_some, codes}
 use Rattle.std.specs.List.{list_all}
 use Rattle.std.specs.Option.{option_map_or}
 use Rattle.std.specs.Str.{bytes_eq}
@@ -7,11 +7,10 @@ use Rattle.contest_types.specs.Places.{are_different}
 use Rattle.contest_types.specs.MomentText.{latest}
 use Rattle.contest_types.specs.Clock.{end_of}
 use Rattle.contest_types.specs.Setup.{Setup, labels_of, is_valid_head, refers}
+use Rattle.contest_types.specs.Accounts.{has_valid_role}
 use Rattle.contest_types.specs.State.{ContestState}
 use Rattle.contest_types.specs.declared.limits.TheConstants.{JUDGEMENT_TYPES, LANGUAGES, PROBLEMS, GROUPS, TEAMS, ACCOUNTS}
 use Rattle.contest_types.specs.declared.account.Account.{Account}
-use Rattle.contest_types.specs.declared.account.Role.{Role}
-use Rattle.contest_types.specs.declared.account.Role.TheVariants as role
 use Rattle.contest_types.specs.declared.objects.JudgementType.{JudgementType}
 use Rattle.contest_types.specs.declared.objects.Language.{Language}
 use Rattle.contest_types.specs.declared.objects.Problem.{Problem}
@@ -34,12 +33,6 @@ abbrev pub has_valid_clock : ContestState → Bool
 has_valid_clock x =
     option_map_or (λ end. nat_le end latest) (end_of x.fixed.settings x.fixed.marks) true
     && (is_some x.fixed.marks.start || (length x.submissions == 0) && (length x.clarifications == 0))
-
--- an account for a team names one that is there
-abbrev pub has_valid_role : Setup → Role → Bool
-has_valid_role s (role.Team team) = nat_lt team (length s.teams)
-has_valid_role s role.Judge = true
-has_valid_role s role.Admin = true
 
 -- nobody else is called `import`
 abbrev pub is_valid_account : Setup → Account → Bool

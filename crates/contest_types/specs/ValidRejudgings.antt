@@ -1,7 +1,8 @@
 -- When the rejudgings of a contest are valid (own).
-use Rattle.std.specs.Prelude.{ℕ, Bool, true, false, not, ◌&&◌, ◌==◌, nat_le, nat_lt, List, [], ◌∷◌, length, filter}
+use Rattle.std.specs.Prelude.{ℕ, Bool, true, false, not, ◌&&◌, nat_le, nat_lt, List, [], ◌∷◌, length, filter, is_some}
 use Rattle.std.specs.List.{list_any, list_all, flat_map}
-use Rattle.contest_types.specs.State.{FixedPart, ContestState}
+use Rattle.contest_types.specs.Accounts.{account_named}
+use Rattle.contest_types.specs.State.{FixedPart, ContestState, names, of_release, of_member}
 use Rattle.contest_types.specs.declared.limits.TheConstants.{REJUDGINGS, REJUDGING_MEMBERS}
 use Rattle.contest_types.specs.declared.submission.Release.{Release}
 use Rattle.contest_types.specs.declared.rejudging.Rejudging.{Rejudging}
@@ -12,12 +13,12 @@ use Rattle.contest_types.specs.declared.rejudging.MemberState.{MemberState}
 use Rattle.contest_types.specs.declared.rejudging.MemberState.TheVariants as member
 
 abbrev pub has_release : ContestState → (team number : ℕ) → Bool
-has_release x team number = list_any (λ (v : Release). (v.team == team) && (v.number == number)) x.releases
+has_release x team number = list_any (λ (v : Release). names team number (of_release v)) x.releases
 
 -- the judgement type and the account of a member's state are there
 abbrev pub is_valid_state : FixedPart → MemberState → Bool
 is_valid_state f member.Empty = true
-is_valid_state f (member.Proposed verdict account) = nat_lt verdict (length f.settings.types) && nat_lt account (length f.accounts)
+is_valid_state f (member.Proposed verdict account) = nat_lt verdict (length f.settings.types) && is_some (account_named f.accounts account)
 is_valid_state f (member.Ready verdict) = nat_lt verdict (length f.settings.types)
 
 -- a member has a release
@@ -25,7 +26,7 @@ abbrev pub is_valid_member : ContestState → Member → Bool
 is_valid_member x m = has_release x m.team m.number && is_valid_state x.fixed m.state
 
 abbrev pub is_same_member : Member → Member → Bool
-is_same_member m n = (m.team == n.team) && (m.number == n.number)
+is_same_member m n = names n.team n.number (of_member m)
 
 -- no submission is a member twice
 abbrev pub are_different_members : List Member → Bool

@@ -1,9 +1,10 @@
 -- When the submissions, the proposals and the releases of a contest are valid (own).
-use Rattle.std.specs.Prelude.{ℕ, Bool, true, false, not, ◌&&◌, ◌==◌, nat_le, nat_lt, List, length, map, count_by}
+use Rattle.std.specs.Prelude.{ℕ, Bool, true, false, not, ◌&&◌, ◌==◌, nat_le, nat_lt, List, length, map, count_by, is_some}
 use Rattle.std.specs.List.{list_any, list_all}
+use Rattle.contest_types.specs.Accounts.{account_named}
 use Rattle.contest_types.specs.Clock.{reached, end_of}
 use Rattle.contest_types.specs.Series.{in_each, count_up, never_fall, have_own_keys}
-use Rattle.contest_types.specs.State.{FixedPart, ContestState}
+use Rattle.contest_types.specs.State.{FixedPart, ContestState, names, of_submission, of_release, of_proposal}
 use Rattle.contest_types.specs.declared.limits.TheConstants.{TEAM_SUBMISSIONS, POSTED_FILE, PROPOSALS}
 use Rattle.contest_types.specs.declared.submission.Submission.{Submission}
 use Rattle.contest_types.specs.declared.submission.Release.{Release}
@@ -32,14 +33,14 @@ has_valid_submissions x = list_all (is_valid_submission x.fixed) x.submissions &
 
 -- a submission with this number of the team stands
 abbrev pub has_submission : ContestState → (team number : ℕ) → Bool
-has_submission x team number = list_any (λ s. (s.team == team) && (s.number == number)) x.submissions
+has_submission x team number = list_any (λ s. names team number (of_submission s)) x.submissions
 
 -- a release names what is there
 abbrev pub is_valid_release : ContestState → Release → Bool
 is_valid_release x v = has_submission x v.team v.number && nat_lt v.verdict (length x.fixed.settings.types)
 
 abbrev pub on_one_submission : Release → Release → Bool
-on_one_submission v w = (w.team == v.team) && (w.number == v.number)
+on_one_submission v w = names v.team v.number (of_release w)
 
 abbrev pub are_valid_releases : List Release → Bool
 are_valid_releases vs = count_up (map (λ (v : Release). v.round) vs)
@@ -48,7 +49,7 @@ abbrev pub has_valid_releases : ContestState → Bool
 has_valid_releases x = list_all (is_valid_release x) x.releases && in_each on_one_submission are_valid_releases x.releases
 
 abbrev pub is_there : FixedPart → Proposer → Bool
-is_there f (proposer.Account account) = nat_lt account (length f.accounts)
+is_there f (proposer.Account id) = is_some (account_named f.accounts id)
 is_there f proposer.Import = true
 
 -- a proposal names what is there
@@ -57,10 +58,10 @@ is_valid_proposal x p =
     has_submission x p.team p.number && nat_lt p.verdict (length x.fixed.settings.types) && is_there x.fixed p.proposer
 
 abbrev pub for_one_submission : Proposal → Proposal → Bool
-for_one_submission p q = (q.team == p.team) && (q.number == p.number)
+for_one_submission p q = names p.team p.number (of_proposal q)
 
 abbrev pub is_imported_by : Proposer → Bool
-is_imported_by (proposer.Account account) = false
+is_imported_by (proposer.Account id) = false
 is_imported_by proposer.Import = true
 
 abbrev pub is_imported : Proposal → Bool

@@ -29,8 +29,8 @@ pub struct Clarification {
     pub number: usize,
     /// Whether the jury wrote it; else a team did.
     pub from_jury: bool,
-    /// The place of the account that wrote it, from 0.
-    pub account: usize,
+    /// The id of the account that wrote it.
+    pub account: Id,
     /// The place of the problem that it is about, if it is about one.
     pub problem: Option<usize>,
     /// The clarification that it answers, if it answers one.

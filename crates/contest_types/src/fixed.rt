@@ -1,13 +1,13 @@
-//! What every caller may know of a contest.
+//! The part of a contest that isn't its lists.
 use crate::{Account, Marks, Rows, Settings};
 
-/// The part of a contest that isn't its lists: the settings, the accounts in the order of import, and
-/// the marks of the clock.
+/// The part of a contest that isn't its lists: the settings, the accounts by id, and the marks of the
+/// clock.
 #[derive(Drop)]
 pub struct Fixed {
     /// The settings.
     pub settings: Settings,
-    /// The accounts.
+    /// The accounts, by the bytes of their ids.
     pub accounts: Rows<Account>,
     /// Start, thaw and final results.
     pub marks: Marks,

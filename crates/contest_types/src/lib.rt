@@ -29,6 +29,7 @@ mod rejudging;
 mod rel_time;
 mod rows;
 mod settings;
+pub mod sight_laws;
 mod submission;
 mod text;
 mod time_span;

@@ -1,18 +1,18 @@
 //! Proposed verdicts.
-use crate::Moment;
+use crate::{Id, Moment};
 
 /// Who proposed a verdict.
-#[derive(Clone, Copy, Debug, PartialEq, Eq)]
+#[derive(Debug, Drop)]
 pub enum Proposer {
-    /// The account at this place in the list of accounts, from 0.
-    Account(usize),
+    /// The account with this id.
+    Account(Id),
     /// A file of verdicts. It stands for the reserved account `import`, which nobody else has.
     Import,
 }
 
 /// A verdict that was proposed for a submission. Until it is released nobody but the jury learns of
 /// it (DOMjudge manual, "Judging": verification).
-#[derive(Clone, Copy, Debug, PartialEq, Eq)]
+#[derive(Debug, Drop)]
 pub struct Proposal {
     /// The place of the submission's team, from 0.
     pub team: usize,

@@ -1,5 +1,5 @@
 //! Rejudgings: sets of submissions that are judged again, and take their new verdicts all at once.
-use crate::{Name, Rows};
+use crate::{Id, Name, Rows};
 
 /// How far a rejudging is (DOMjudge manual, "Rejudging": applied or cancelled).
 #[derive(Clone, Copy, Debug, PartialEq, Eq)]
@@ -12,19 +12,20 @@ pub enum RejudgingState {
     Cancelled,
 }
 
-/// How far a member of a rejudging is. Judgement types and accounts go by place, from 0.
-#[derive(Clone, Copy, Debug, PartialEq, Eq)]
+/// How far a member of a rejudging is. A judgement type goes by its place, from 0, an
+/// account by its id.
+#[derive(Debug, Drop)]
 pub enum MemberState {
     /// It has no verdict yet.
     Empty,
     /// An account proposed a verdict, which another has to verify.
-    Proposed { verdict: usize, account: usize },
+    Proposed { verdict: usize, account: Id },
     /// Its verdict stands.
     Ready(usize),
 }
 
 /// A submission in a rejudging.
-#[derive(Clone, Copy, Debug, PartialEq, Eq)]
+#[derive(Debug, Drop)]
 pub struct Member {
     /// The place of the submission's team, from 0.
     pub team: usize,

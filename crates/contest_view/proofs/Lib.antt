@@ -7,3 +7,4 @@ pub mod SeenArray
 pub mod SubmissionIds
 pub mod SeenById
 pub mod ReadLaws
+mod ExamplesState

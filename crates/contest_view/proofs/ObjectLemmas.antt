@@ -9,7 +9,8 @@ use Rattle.contest_types.specs.MomentText.{moment_text}
 use Rattle.contest_types.specs.TeamPlaces.{team_id_at}
 use Rattle.contest_view.specs.Members.{put_where}
 use Rattle.contest_types.specs.ProblemPlaces.{problem_id_at}
-use Rattle.contest_view.specs.Objects.{contest_time_data, files_data, language_id_at, submission_data, submission_id, submission_members}
+use Rattle.contest_types.specs.VisibleIds.{submission_id}
+use Rattle.contest_view.specs.Objects.{contest_time_data, files_data, language_id_at, submission_data, submission_members}
 
 pub members_in_order : (contest_time : Data) (entry_point files : Option Data) (id language problem team : List ℕ) (time : Data)
     → put (codes "time") time (put (codes "team_id") (string team) (put (codes "problem_id") (string problem) (put (codes "language_id") (string language) (put (codes "id") (string id)

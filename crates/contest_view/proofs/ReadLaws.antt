@@ -15,7 +15,8 @@ use Rattle.contest_types.proofs.Rising.{find_passes}
 use Rattle.contest_types.proofs.SightLemmas.{seen_alike}
 use Rattle.contest_view.specs.Items.{array_of, found_in as item_found}
 use Rattle.contest_view.specs.Laws.{AlikeReadTheSame, SeenIsFound, NothingElseIsFound}
-use Rattle.contest_view.specs.Objects.{submission_id, submission_object}
+use Rattle.contest_types.specs.VisibleIds.{submission_id}
+use Rattle.contest_view.specs.Objects.{submission_object}
 use Rattle.contest_view.specs.Reads.{submission_item, submission_items, submission_found}
 use Rattle.contest_view.proofs.SeenById.{is_asked, has_this_id, one_with_id, seen_found, seen_none, found_as}
 

@@ -18,7 +18,8 @@ use Rattle.contest_types.proofs.Rising.{find_passes}
 use Rattle.contest_types.proofs.SeenWhole.{listed_seen, seen_listed, one_submission, team_there}
 use Rattle.contest_types.proofs.ValidParts.{parts}
 use Rattle.contest_view.specs.Items.{Item}
-use Rattle.contest_view.specs.Objects.{submission_data, submission_id, submission_object}
+use Rattle.contest_types.specs.VisibleIds.{submission_id}
+use Rattle.contest_view.specs.Objects.{submission_data, submission_object}
 use Rattle.contest_view.specs.Reads.{submission_item, submission_found}
 use Rattle.contest_view.proofs.SeenApart.{number_small, within_limit}
 use Rattle.contest_view.proofs.SeenKeys.{same_object}

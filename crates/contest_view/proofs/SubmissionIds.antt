@@ -2,7 +2,7 @@
 use Rattle.std.proofs.Common.{◌≡◌, ℕ, ◌+◌, ◌≤◌, ◌∷◌, ◌++◌, arith}
 use Rattle.std.specs.Fmt.{decimal}
 use Rattle.contest_types.proofs.DashedNumbers.{dashed}
-use Rattle.contest_view.specs.Objects.{submission_id}
+use Rattle.contest_types.specs.VisibleIds.{submission_id}
 
 pub one_id : (t m u n : ℕ) → t ≤ 1_000 → m ≤ 1_000 → u ≤ 1_000 → n ≤ 1_000 → submission_id t m ≡ submission_id u n → (t ≡ u) × (m ≡ n)
 one_id t m u n lt lm lu ln e =

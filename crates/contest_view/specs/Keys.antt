@@ -1,4 +1,5 @@
 -- What the list of submissions is sorted by.
+-- Words of private functions: nothing public is said with them.
 use Rattle.std.specs.Prelude.{ℕ, List, filter, slice_get}
 use Rattle.std.specs.List.{enumerate_from}
 use Rattle.std.specs.Option.{option_map_or}

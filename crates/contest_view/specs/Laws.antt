@@ -7,7 +7,8 @@ use Rattle.contest_types.specs.Sight.{sees_submission, seen_submission}
 use Rattle.contest_types.specs.Valid.{is_valid}
 use Rattle.contest_types.specs.declared.audience.Audience.{Audience}
 use Rattle.contest_types.specs.declared.submission.Submission.{Submission}
-use Rattle.contest_view.specs.Objects.{submission_id, submission_object}
+use Rattle.contest_types.specs.VisibleIds.{submission_id}
+use Rattle.contest_view.specs.Objects.{submission_object}
 use Rattle.contest_view.specs.Reads.{submissions_data, submission_found}
 
 -- until the thaw, alike contests give an audience the same submissions to read, all of them and by any id

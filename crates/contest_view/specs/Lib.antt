@@ -3,4 +3,5 @@ pub mod Members
 pub mod Items
 pub mod Reads
 pub mod Keys
+pub mod StateObject
 pub mod Laws

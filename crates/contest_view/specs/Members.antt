@@ -1,4 +1,5 @@
 -- The members of a JSON object, put in one by one.
+-- Words of private functions: nothing public is said with them.
 use Rattle.std.specs.Prelude.{ℕ, List, Option, Some, None}
 use Rattle.serde_json.specs.Data.{Data, Members, put}
 

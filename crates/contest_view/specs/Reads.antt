@@ -5,7 +5,8 @@ use Rattle.serde_json.specs.Data.{Data}
 use Rattle.contest_types.specs.State.{FixedPart, ContestState}
 use Rattle.contest_types.specs.Sight.{SeenSubmission, seen_submissions}
 use Rattle.contest_types.specs.declared.audience.Audience.{Audience}
-use Rattle.contest_view.specs.Objects.{submission_id, submission_object}
+use Rattle.contest_types.specs.VisibleIds.{submission_id}
+use Rattle.contest_view.specs.Objects.{submission_object}
 use Rattle.contest_view.specs.Items.{Item, array_of, found_in}
 
 abbrev pub submission_item : FixedPart → SeenSubmission → Item

@@ -2,7 +2,7 @@
 ghost use Rattle.std.specs.Prelude.{◌≡◌, ◌≤◌, ◌+◌, ◌++◌};
 ghost use Rattle.std.specs.Str.{bytes_eq};
 ghost use Rattle.arrayvec.specs.ArrayString.{array_string_len};
-ghost use Rattle.contest_view.specs.Objects.{submission_id};
+ghost use Rattle.contest_types.specs.VisibleIds.{submission_id};
 
 use arrayvec::ArrayString;
 use itoa::{Buffer, Integer};

@@ -6,7 +6,8 @@ ghost use Rattle.serde_json.specs.Written.{has_float};
 ghost use Rattle.contest_types.specs.Sight.{program_for};
 ghost use Rattle.contest_types.specs.TeamPlaces.{team_id_at};
 ghost use Rattle.contest_types.specs.ProblemPlaces.{problem_id_at};
-ghost use Rattle.contest_view.specs.Objects.{contest_time_data, file_array, files_data, files_path, language_id_at, submission_data, submission_id, submission_members};
+ghost use Rattle.contest_types.specs.VisibleIds.{submission_id};
+ghost use Rattle.contest_view.specs.Objects.{contest_time_data, file_array, files_data, files_path, language_id_at, submission_data, submission_members};
 
 use crate::members::{moment_value, put_text, put_where, reltime_value};
 use crate::submission_id::submission_id;

@@ -7,7 +7,7 @@ ghost use Rattle.contest_types.specs.Sight.{sees_team};
 ghost use Rattle.contest_types.specs.State.{ContestState};
 ghost use Rattle.contest_types.specs.Valid.{is_valid};
 ghost use Rattle.contest_view.specs.Keys.{object_at};
-ghost use Rattle.contest_view.specs.Objects.{submission_id};
+ghost use Rattle.contest_types.specs.VisibleIds.{submission_id};
 ghost use Rattle.contest_view.specs.Reads.{submissions_data, submission_found};
 
 use crate::submission_id::has_id;

@@ -74,14 +74,14 @@ pub const POSTS: Asked = Asked {
     ..LISTS
 };
 
-/// The accounts. The token of each is `token-` and its id.
+/// The accounts, by id. The token of each is `token-` and its id.
 static ACCOUNTS: [(&str, Role); 6] = [
     ("a1", Role::Team(0)),
     ("a2", Role::Team(1)),
     ("a3", Role::Team(2)),
     ("a9", Role::Team(3)),
-    ("j1", Role::Judge),
     ("adm", Role::Admin),
+    ("j1", Role::Judge),
 ];
 
 /// Two languages, two problems and four teams, the last of them hidden.

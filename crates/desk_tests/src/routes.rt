@@ -3,7 +3,7 @@
 use crate::demo_desk::{Asked, LISTS, Who};
 use contest_desk::{AllowedMethods, ExtraField, Method};
 
-pub static WALK: [Asked; 13] = [
+pub static WALK: [Asked; 15] = [
     Asked {
         shows: "a method that the list doesn't offer",
         method: Method::Other,
@@ -47,6 +47,19 @@ pub static WALK: [Asked; 13] = [
         status: 405,
         extra: ExtraField::Allow(AllowedMethods::Get),
         answer: r#"{"code":405,"message":"Method"}"#,
+        ..LISTS
+    },
+    Asked {
+        shows: "HEAD is answered as GET is",
+        method: Method::Head,
+        ..LISTS
+    },
+    Asked {
+        shows: "and refused as GET is",
+        method: Method::Head,
+        path: "/contests/demo/submissions/s1-1",
+        status: 404,
+        answer: r#"{"code":404,"message":"NotFound"}"#,
         ..LISTS
     },
     Asked {

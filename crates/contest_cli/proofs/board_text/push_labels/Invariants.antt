@@ -1,6 +1,7 @@
 use Rattle.std.specs.Prelude.{◌≡◌, ◌++◌, take, string_bytes}
 use Rattle.std.specs.List.{flat_map}
-use Rattle.contest_cli.specs.BoardText.{right_field, label_at}
+use Rattle.contest_cli.specs.BoardText.{right_field}
+use Rattle.contest_types.specs.ProblemPlaces.{label_at}
 use Rattle.contest_cli.proofs.board_text.push_labels.Given as goal
 
 abbrev pub invariant-loop-place : goal.invariant-loop-place

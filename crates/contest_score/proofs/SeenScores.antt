@@ -1,0 +1,61 @@
+-- A board is the scoring of what its reader may see.
+use Rattle.std.proofs.Common.{◌≡◌, ℕ, Bool, true, false, List, [], ◌∷◌, ◌++◌, refl, sym, ap, ◌∙◌, inl, inr, append_assoc}
+use Rattle.std.specs.Prelude.{◌||◌}
+use Rattle.std.specs.List.{list_any}
+use Rattle.std.proofs.lemmas.List.Folds.{list_any-append}
+use Rattle.contest_types.specs.Clock.{is_thawed}
+use Rattle.contest_types.specs.Masks.{knows_all_of, mask_for}
+use Rattle.contest_types.specs.State.{ContestState}
+use Rattle.contest_types.specs.Sight.{sees_team}
+use Rattle.contest_types.specs.TeamPlaces.{is_public}
+use Rattle.contest_types.specs.declared.audience.Audience.{Audience}
+use Rattle.contest_types.specs.declared.audience.Audience.TheVariants.{Jury}
+use Rattle.contest_types.specs.declared.marks.Marks.{Marks}
+use Rattle.contest_types.specs.declared.mask.Mask.TheVariants.{Full}
+use Rattle.contest_score.specs.declared.attempt.Attempt.{Attempt}
+use Rattle.contest_score.specs.Scoring.{is_solving, cell_of_attempts}
+use Rattle.contest_score.specs.Masks.{start_of}
+use Rattle.contest_score.specs.Ranking.{board_rows}
+use Rattle.contest_score.specs.Contest.{contest_cell, seen_cell, board_for}
+use Rattle.contest_score.specs.ScoringLaws.{scored_by_sight, HoldsNothing}
+use Rattle.contest_score.proofs.CellSteps.{cell_past}
+use Rattle.contest_score.proofs.MaskLemmas.{attempts_seen}
+use Rattle.contest_score.proofs.BoardAlike.{board_same, seen_of_public}
+use Rattle.contest_score.proofs.AwardsAlike.{same_attempts}
+
+pub cells_score_the_seen : (a : Audience) (now : ℕ) (x : ContestState) (team problem : ℕ) → sees_team a x.fixed.settings team ≡ true → seen_cell a now x team problem ≡ scored_by_sight a now x team problem
+cells_score_the_seen a now x team problem h = ap (cell_of_attempts (start_of x.fixed.marks)) (attempts_seen a now x team problem h)
+
+pub boards_score_the_seen : (a : Audience) (now : ℕ) (x : ContestState) → board_for a now x ≡ board_rows x.fixed.settings (is_public x.fixed.settings) (scored_by_sight a now x)
+boards_score_the_seen a now x =
+    let s = x.fixed.settings in
+    board_same s (is_public s) (seen_cell a now x) (scored_by_sight a now x) (λ u p e. cells_score_the_seen a now x u p (seen_of_public a s u e))
+
+thawed_full : (a : Audience) (marks : Marks) (now team : ℕ) → is_thawed marks now ≡ true → mask_for a marks now team ≡ Full
+thawed_full a marks now team h =
+    let go : (b : Bool) → (b || true) ≡ true = elim [ true ↦ refl | false ↦ refl ] in
+    rw (h, go (knows_all_of a team)) refl
+
+pub all_read_the_jurys_cells : (a : Audience) (now : ℕ) (x : ContestState) (team problem : ℕ) → HoldsNothing now x → seen_cell a now x team problem ≡ seen_cell Jury now x team problem
+all_read_the_jurys_cells a now x team problem h = elim h [
+  | inl thawed ↦ (let full : seen_cell a now x team problem ≡ contest_cell Full x team problem = ap (λ m. contest_cell m x team problem) (thawed_full a x.fixed.marks now team thawed) in full)
+  | inr none ↦ ap (cell_of_attempts (start_of x.fixed.marks)) (same_attempts (mask_for a x.fixed.marks now team) x team problem none)
+]
+
+pub all_read_the_jurys_board : (a : Audience) (now : ℕ) (x : ContestState) → HoldsNothing now x → board_for a now x ≡ board_for Jury now x
+all_read_the_jurys_board a now x h =
+    let s = x.fixed.settings in
+    board_same s (is_public s) (seen_cell a now x) (seen_cell Jury now x) (λ u p e. all_read_the_jurys_cells a now x u p h)
+
+pub jurys_board_stays : (now later : ℕ) (x : ContestState) → board_for Jury now x ≡ board_for Jury later x
+jurys_board_stays now later x = refl
+
+or_true : (b : Bool) → (b || (true || false)) ≡ true
+or_true true = refl
+or_true false = refl
+
+pub nothing_after_accepted : (start : ℕ) (earlier : List Attempt) (a : Attempt) (later : List Attempt) → is_solving a ≡ true → cell_of_attempts start (earlier ++ a ∷ later) ≡ cell_of_attempts start (earlier ++ a ∷ [])
+nothing_after_accepted start earlier a later h =
+    let yet : list_any is_solving (earlier ++ a ∷ []) ≡ true = list_any-append is_solving earlier (a ∷ []) ∙ (rw h (or_true (list_any is_solving earlier))) in
+    let joined : (earlier ++ a ∷ []) ++ later ≡ earlier ++ a ∷ later = append_assoc earlier (a ∷ []) later in
+    ap (cell_of_attempts start) (sym joined) ∙ cell_past start (earlier ++ a ∷ []) later yet

@@ -1,0 +1,80 @@
+-- Worked examples: each kind of change, one that may be made and one that may not.
+use Rattle.std.proofs.Common.{◌≡◌, ◌+◌, ◌-◌, List, [], ◌∷◌, refl, Some, None, true, false}
+use Rattle.std.specs.Prelude.{codes}
+use Rattle.std.specs.List.{list_any, list_all}
+use Rattle.contest_types.specs.State.{Entry, NewSubmission, NewProposal, NewRelease, NewClarification, NewRejudging, SetMember, SetRejudging, SetStart, SetThaw, SetFinalized, NewType, NewLanguage, NewProblem, NewGroup, NewTeam, NewAccount}
+use Rattle.contest_types.specs.Addable.{is_addable}
+use Rattle.contest_types.specs.Judging.{next_release, last_proposal, new_contest}
+use Rattle.contest_types.specs.Valid.{is_valid}
+use Rattle.contest_types.specs.declared.account.Role.TheVariants as role
+use Rattle.contest_types.specs.declared.proposal.Proposer.TheVariants as proposer
+use Rattle.contest_types.specs.declared.rejudging.RejudgingState.TheVariants as state
+use Rattle.contest_types.specs.declared.rejudging.MemberState.TheVariants as member
+use Rattle.contest_types.proofs.ExampleContest.{minutes, hours, head, wrong, accepted, account_for, team_named, empty, submitted, released, proposed, asked, announced, rejudged}
+use Rattle.contest_types.proofs.ExampleTalk.{base}
+
+-- what judges, teams and directors add to the contest
+abbrev may_be_added : List Entry
+may_be_added =
+    NewSubmission (submitted 0 2 (minutes 10) 1) ∷ NewProposal (proposed 1 2 wrong 5) ∷ NewProposal (record (proposed 1 2 wrong 5) { proposer = proposer.Import })
+    ∷ NewRelease (released 0 1 2 accepted 9) ∷ NewRelease (released 1 2 1 wrong 9)
+    ∷ NewClarification (asked 0 3 5) ∷ NewClarification (announced 2 5 None) ∷ NewRejudging (rejudged 0 1 wrong state.Open)
+    ∷ SetMember 1 0 (member.Proposed accepted (codes "j2")) ∷ SetMember 1 0 (member.Ready wrong) ∷ SetRejudging 1 state.Applied
+    ∷ SetThaw 9 ∷ SetFinalized 9
+    ∷ NewType (record { id = codes "RE"; name = codes "run error"; solved = false; penalty = true })
+    ∷ NewLanguage (record { id = codes "py"; name = codes "Python"; entry_point_required = false })
+    ∷ NewProblem (record { id = codes "c"; label = codes "C"; name = codes "Cakes"; ordinal = 0 })
+    ∷ NewGroup (record { id = codes "n"; name = codes "North" })
+    ∷ NewTeam (team_named (codes "t4") (codes "Delta") false) ∷ NewAccount (account_for (codes "adm") role.Admin) ∷ []
+
+all_may : list_all (is_addable base) may_be_added ≡ true
+all_may = refl
+
+-- and what they may not: a number or a round left out or held, a time before the team's last, what isn't
+-- there, a second imported proposal, a reopened rejudging, a start once something stands, an equal row,
+-- another one under an id, a label or a token
+abbrev may_not : List Entry
+may_not =
+    NewSubmission (submitted 0 3 (minutes 10) 1) ∷ NewSubmission (submitted 0 2 (minutes 9) 1) ∷ NewSubmission (submitted 0 2 (hours 5) 1)
+    ∷ NewProposal (proposed 0 2 wrong 5) ∷ NewProposal (record (proposed 0 1 wrong 5) { proposer = proposer.Account (codes "j3") })
+    ∷ NewRelease (released 0 1 1 accepted 9) ∷ NewRelease (released 0 2 1 accepted 9) ∷ NewRelease (released 0 1 2 3 9)
+    ∷ NewClarification (asked 0 4 5) ∷ NewClarification (record (asked 0 3 5) { account = codes "a2" }) ∷ NewClarification (announced 1 5 None)
+    ∷ NewRejudging (rejudged 1 2 wrong state.Open) ∷ SetMember 1 0 (member.Ready 3) ∷ SetMember 1 0 (member.Proposed wrong (codes "j3")) ∷ SetRejudging 1 state.Open
+    ∷ SetStart None ∷ SetStart (Some 5)
+    ∷ NewType (record { id = codes "AC"; name = codes "correct"; solved = true; penalty = false })
+    ∷ NewLanguage (record { id = codes "cpp"; name = codes "C"; entry_point_required = false })
+    ∷ NewProblem (record { id = codes "c"; label = codes "A"; name = codes "Cakes"; ordinal = 0 })
+    ∷ NewTeam (record { id = codes "t4"; name = codes "Delta"; groups = 0 ∷ []; hidden = false })
+    ∷ NewAccount (account_for (codes "j1") role.Admin) ∷ NewAccount (account_for (codes "import") role.Judge) ∷ NewAccount (account_for (codes "a4") (role.Team 4)) ∷ []
+
+none_may : list_any (is_addable base) may_not ≡ false
+none_may = refl
+
+-- a second group of the same id, and a second imported proposal
+same_group_not : is_addable (record base { fixed = record base.fixed { settings = record base.fixed.settings { groups = record { id = codes "n"; name = codes "North" } ∷ [] } } }) (NewGroup (record { id = codes "n"; name = codes "South" })) ≡ false
+same_group_not = refl
+
+one_import : is_addable (record base { proposals = record (proposed 0 1 wrong 5) { proposer = proposer.Import } ∷ [] }) (NewProposal (record (proposed 0 1 accepted 5) { proposer = proposer.Import })) ≡ false
+one_import = refl
+
+-- with nothing submitted or asked the start may be set, moved and unset, and so late that the end is the last moment
+starts : list_all (is_addable empty) (SetStart None ∷ SetStart (Some 5) ∷ SetStart (Some (253_370_764_799_999 - hours 5)) ∷ []) ≡ true
+starts = refl
+
+no_start : list_any (is_addable empty) (SetStart (Some (253_370_764_799_999 - hours 5 + 1)) ∷ []) ≡ false
+no_start = refl
+
+-- a contest that is set up is valid, with a start or without
+set_up : list_all is_valid (new_contest (record { head = head; start = None }) ∷ new_contest (record { head = head; start = Some 5 }) ∷ []) ≡ true
+set_up = refl
+
+-- the next release of a submission is its next round
+second_round : next_release base (record { team = 0; number = 1 }) accepted 9 ≡ released 0 1 2 accepted 9
+second_round = refl
+
+first_round : next_release base (record { team = 1; number = 2 }) wrong 9 ≡ released 1 2 1 wrong 9
+first_round = refl
+
+-- of several proposals the last stands
+stands_last : last_proposal (record base { proposals = proposed 0 1 wrong 5 ∷ proposed 1 2 wrong 6 ∷ proposed 0 1 accepted 7 ∷ [] }) (record { team = 0; number = 1 }) ≡ Some (proposed 0 1 accepted 7)
+stands_last = refl

@@ -1,0 +1,5 @@
+use Rattle.contest_types.proofs.ThawLemmas as lemmas
+use Rattle.contest_types.proofs.sight_laws.thaw_only_adds.Goals as goal
+
+pub returns : goal.returns
+returns c = lemmas.only_adds

@@ -1,0 +1,19 @@
+-- The ids of what teams and judges make, as the Contest API 2023-06 shows them. Teams are numbered from 1,
+-- and each number counts its own team's, or its own submission's, alone.
+use Rattle.std.specs.Prelude.{ℕ, ◌+◌, List, ◌++◌, codes}
+use Rattle.std.specs.Fmt.{decimal}
+use Rattle.contest_types.specs.declared.clarification.Addressee.{Addressee}
+use Rattle.contest_types.specs.declared.clarification.Addressee.TheVariants.{All as ToAll, Team as ToTeam}
+
+-- `s<team number>-<number>`
+abbrev pub submission_id : (team number : ℕ) → List ℕ
+submission_id team number = codes "s" ++ (decimal (team + 1) ++ (codes "-" ++ decimal number))
+
+-- `<submission id>.<round>`
+abbrev pub judgement_id : (team number round : ℕ) → List ℕ
+judgement_id team number round = submission_id team number ++ (codes "." ++ decimal round)
+
+-- `g-<number>` for one to all, `c<team number>-<number>` for one of a team
+abbrev pub clarification_id : Addressee → ℕ → List ℕ
+clarification_id ToAll number = codes "g-" ++ decimal number
+clarification_id (ToTeam team) number = codes "c" ++ decimal (team + 1) ++ codes "-" ++ decimal number
