@@ -1,7 +1,7 @@
 //! Which attempts count, what they cost, and who stands where.
 
 use crate::worked::assert_prints;
-use contest_fixtures::{HEAD, SETTINGS};
+use replay_fixtures::{HEAD, SETTINGS};
 use std::test::Fail;
 
 /// The lines above the rows, for the problems and the names of `SETTINGS`.

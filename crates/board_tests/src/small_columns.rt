@@ -1,7 +1,7 @@
 //! Small contests whose boards were worked out by hand: the order of rows and columns, and their
 //! widths.
 
-use contest_fixtures::Worked;
+use replay_fixtures::Worked;
 
 pub static CONTESTS: [Worked; 11] = [
     Worked {

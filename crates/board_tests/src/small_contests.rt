@@ -1,7 +1,7 @@
 //! Small contests whose boards were worked out by hand: which attempts count, what they cost, and
 //! who stands where. None of them has a freeze.
 
-use contest_fixtures::Worked;
+use replay_fixtures::Worked;
 
 pub static CONTESTS: [Worked; 17] = [
     Worked {

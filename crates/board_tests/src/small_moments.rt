@@ -1,7 +1,7 @@
 //! Small contests whose boards were worked out by hand: what is shown at a moment, in a freeze and
 //! after the thaw.
 
-use contest_fixtures::Worked;
+use replay_fixtures::Worked;
 
 pub static CONTESTS: [Worked; 19] = [
     Worked {

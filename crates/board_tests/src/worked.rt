@@ -1,7 +1,7 @@
 //! The small contests whose boards were worked out by hand, printed by the command.
 
 use crate::{small_columns, small_contests, small_moments};
-use contest_fixtures::{Worked, run};
+use replay_fixtures::{Worked, run};
 use std::alloc::AllocError;
 use std::process::Abort;
 use std::test::Fail;

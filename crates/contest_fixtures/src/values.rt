@@ -20,3 +20,8 @@ pub fn span(milliseconds: u64) -> Result<TimeSpan, Fail> {
 pub fn moment(milliseconds: u64) -> Result<Moment, Fail> {
     Ok(Moment::from_milliseconds(milliseconds).ok_or("no moment")?)
 }
+
+/// The bytes as a text, for messages that can be read.
+pub fn text_of(bytes: &[u8]) -> &str {
+    std::str::from_utf8(bytes).unwrap_or("(not UTF-8)")
+}

@@ -1,6 +1,6 @@
 //! What the command must give for a file.
 
-use contest_fixtures::run;
+use replay_fixtures::run;
 use std::alloc::AllocError;
 use std::process::Abort;
 

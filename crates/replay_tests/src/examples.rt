@@ -1,7 +1,7 @@
 //! The boards of the first example, and of one contest at several moments.
 
 use crate::asserted::assert_prints;
-use contest_fixtures::{FIRST, HEAD, SETTINGS};
+use replay_fixtures::{FIRST, HEAD, SETTINGS};
 use std::test::Fail;
 
 /// Options, the last record, and the board.

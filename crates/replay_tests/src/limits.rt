@@ -2,7 +2,7 @@
 
 use crate::asserted::{assert_prints, assert_refuses};
 use crate::streams::take_piece;
-use contest_fixtures::{HEAD, SETTINGS, answer_to, run};
+use replay_fixtures::{HEAD, SETTINGS, answer_to, run};
 use std::alloc::{AllocError, Global};
 use std::io;
 use std::io::Read;

@@ -1,7 +1,7 @@
 //! One file in many spellings: each prints the same board.
 
 use crate::asserted::assert_prints;
-use contest_fixtures::{FIRST, FIRST_BOARD, HEAD, LAST};
+use replay_fixtures::{FIRST, FIRST_BOARD, HEAD, LAST};
 use std::alloc::{AllocError, Global};
 use std::test::Fail;
 

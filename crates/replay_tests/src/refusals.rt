@@ -1,7 +1,7 @@
 //! What is refused, by which cause and at which record.
 
 use crate::asserted::assert_refuses;
-use contest_fixtures::{FIRST, HEAD, SETTINGS};
+use replay_fixtures::{FIRST, HEAD, SETTINGS};
 use std::process::Abort;
 use std::test::Fail;
 

@@ -2,7 +2,8 @@
 
 ghost use Rattle.std.specs.Prelude.{◌≤◌, length};
 
-use contest_fixtures::{Answer, FIRST, FIRST_BOARD, HEAD, LAST, answer_to, replay, text_of};
+use contest_fixtures::text_of;
+use replay_fixtures::{Answer, FIRST, FIRST_BOARD, HEAD, LAST, answer_to, replay};
 use std::alloc::Global;
 use std::io;
 use std::io::{Read, Write};

@@ -3,7 +3,7 @@
 use crate::asserted::assert_prints;
 use crate::streams::Source;
 use contest_cli::Counted;
-use contest_fixtures::{Answer, HEAD, answer_to, words_of};
+use replay_fixtures::{Answer, HEAD, answer_to, words_of};
 use std::alloc::{AllocError, Global};
 use std::test::Fail;
 

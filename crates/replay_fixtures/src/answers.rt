@@ -1,6 +1,7 @@
 //! The command `replay` over memory: words and a file, and what comes of them.
 
 use contest_cli::Counted;
+use contest_fixtures::text_of;
 use std::alloc::{AllocError, Global};
 use std::fmt;
 use std::io::{Read, Write};
@@ -70,9 +71,4 @@ pub fn run(alloc: Global, options: &str, file: &[u8]) -> Result<Answer, AllocErr
     let words = words_of(alloc, options)?;
     let mut reader = file;
     Ok(answer_to(alloc, words.as_slice(), &mut reader))
-}
-
-/// The bytes as a text, for messages that can be read.
-pub fn text_of(bytes: &[u8]) -> &str {
-    std::str::from_utf8(bytes).unwrap_or("(not UTF-8)")
 }
