@@ -99,6 +99,13 @@ shared_ranks = refl
 tied_by_name : map (λ (r : Row). r.team) (board_rows four_teams (is_public four_teams) tied_cells) ≡ 1 ∷ 0 ∷ 2 ∷ []
 tied_by_name = refl
 
+-- teams that tie and have one name stand by id
+abbrev one_name : Setup
+one_name = setup (problem (codes "a") 1 ∷ []) (team (codes "zoo") (codes "Bats") false ∷ team (codes "ark") (codes "Bats") false ∷ [])
+
+tied_by_id : map (λ (r : Row). r.team) (board_rows one_name (is_public one_name) tied_cells) ≡ 1 ∷ 0 ∷ []
+tied_by_id = refl
+
 -- two teams with a total of 30 each: the first one's last accepted minute is smaller
 abbrev two_teams : Setup
 two_teams = setup (problem (codes "a") 1 ∷ []) (team (codes "t1") (codes "Zebras") false ∷ team (codes "t2") (codes "Apes") false ∷ [])

@@ -1,5 +1,5 @@
 -- Worked examples: awards, and when they are shown.
-use Rattle.std.proofs.Common.{◌≡◌, ℕ, ◌+◌, List, [], ◌∷◌, refl, Some, None, false, map}
+use Rattle.std.proofs.Common.{◌≡◌, ℕ, ◌+◌, List, [], ◌∷◌, ◌++◌, refl, Some, None, true, false, map}
 use Rattle.std.specs.Prelude.{codes}
 use Rattle.contest_types.specs.State.{ContestState}
 use Rattle.contest_types.specs.declared.audience.Audience.TheVariants as audience
@@ -85,3 +85,35 @@ silver = refl
 
 nobody_solved : shown_awards audience.Jury (hours 6) (finalized_at (record tie_for_gold { releases = [] }) (hours 6)) ≡ []
 nobody_solved = refl
+
+-- three ranks take gold, silver and bronze
+abbrev three_ranks : ContestState
+three_ranks = record tie_for_gold {
+  submissions = submitted 0 1 (minutes 30) 0 ∷ submitted 1 1 (minutes 31) 0 ∷ submitted 2 1 (minutes 40) 0 ∷ [];
+  releases = released 0 1 1 accepted (hours 1) ∷ released 1 1 1 accepted (hours 1) ∷ released 2 1 1 accepted (hours 1) ∷ [];
+}
+
+bronze : map id_and_teams (shown_awards audience.Jury (hours 6) (finalized_at three_ranks (hours 6)))
+    ≡ (codes "winner", 0 ∷ []) ∷ (codes "gold-medal", 0 ∷ []) ∷ (codes "silver-medal", 1 ∷ []) ∷ (codes "bronze-medal", 2 ∷ [])
+    ∷ (codes "first-to-solve-a", 0 ∷ []) ∷ (codes "group-winner-north", 0 ∷ []) ∷ (codes "group-winner-south", 1 ∷ []) ∷ []
+bronze = refl
+
+-- a hidden team that solves first takes no award, and leaves each to the team that it would go to without it
+abbrev with_hidden_solver : ContestState
+with_hidden_solver = record three_ranks {
+  fixed = record three_ranks.fixed { settings = record three_ranks.fixed.settings { teams = three_ranks.fixed.settings.teams ++ in_group 1 (team_named (codes "t9") (codes "Staff") true) ∷ [] } };
+  submissions = submitted 3 1 (minutes 5) 0 ∷ three_ranks.submissions;
+  releases = released 3 1 1 accepted (minutes 6) ∷ three_ranks.releases;
+}
+
+hidden_solves_first : shown_awards audience.Jury (hours 6) (finalized_at with_hidden_solver (hours 6)) ≡ shown_awards audience.Jury (hours 6) (finalized_at three_ranks (hours 6))
+hidden_solves_first = refl
+
+-- groups stand by id, whichever came first
+abbrev south_first : ContestState
+south_first = record three_ranks { fixed = record three_ranks.fixed { settings = record three_ranks.fixed.settings { groups = record { id = codes "south"; name = codes "South" } ∷ record { id = codes "north"; name = codes "North" } ∷ [] } } }
+
+groups_by_id : map id_and_teams (shown_awards audience.Jury (hours 6) (finalized_at south_first (hours 6)))
+    ≡ (codes "winner", 0 ∷ []) ∷ (codes "gold-medal", 0 ∷ []) ∷ (codes "silver-medal", 1 ∷ []) ∷ (codes "bronze-medal", 2 ∷ [])
+    ∷ (codes "first-to-solve-a", 0 ∷ []) ∷ (codes "group-winner-north", 1 ∷ []) ∷ (codes "group-winner-south", 0 ∷ []) ∷ []
+groups_by_id = refl
