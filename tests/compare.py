@@ -3,8 +3,10 @@
 
     compare.py [--program PATH] [--seed N] [--cases N] [--keep FOLDER] [--no-large]
 
-The boards in examples/ come first: both sides must print them. Then come the files of the seed, and
-at last a few large ones. Every second file of the seed has a fault, and the kinds of faults come in
+The boards in examples/ and the worked ones under tests/replay/ come first: both sides must print them.
+Of the latter NAME.csv is the file, NAME.options has the options, one a line below a comment that says
+what the board shows, and NAME.txt is the board, worked out by hand. Then come the files of the seed,
+and at last a few large ones. Every second file of the seed has a fault, and the kinds of faults come in
 turn. Status, standard output and standard error must be equal byte for byte; where the words are
 refused (status 2) standard error is the program's own, and must only say something.
 
@@ -103,6 +105,17 @@ def compare_examples(options, tally):
         tally.note(f"example {board.stem}", words, data, wanted, run_program(options.program, words, data))
 
 
+def compare_worked(options, tally):
+    """The boards that were worked out by hand."""
+    for file in sorted((ROOT / "tests/replay").rglob("*.csv")):
+        given = file.with_suffix(".options").read_text().splitlines()
+        words = ["replay"] + [word for word in given if not word.startswith("#")]
+        data, wanted = file.read_bytes(), (0, file.with_suffix(".txt").read_bytes(), b"")
+        if second_opinion.replay(words, data) != wanted:
+            sys.exit(f"{file}: its board isn't what second_opinion.py gives")
+        tally.note(f"worked {file.stem}", words, data, wanted, run_program(options.program, words, data))
+
+
 def made_case(seed, index):
     """The words and the bytes of a case, and what the second opinion gives. Each odd case is refused."""
     if index % 2 == 0:
@@ -156,6 +169,7 @@ def main():
         parser.error(f"there is no program {options.program}: build it, or name one by --program")
     tally, start = Tally(options.keep), time.monotonic()
     compare_examples(options, tally)
+    compare_worked(options, tally)
     compare_made(options, tally)
     if not options.no_large:
         compare_large(options, tally)

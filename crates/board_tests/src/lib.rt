@@ -12,14 +12,4 @@ mod made_contest;
 #[cfg(test)]
 mod plain_scoring;
 #[cfg(test)]
-mod ranks;
-#[cfg(test)]
 mod scored_twice;
-#[cfg(test)]
-mod small_columns;
-#[cfg(test)]
-mod small_contests;
-#[cfg(test)]
-mod small_moments;
-#[cfg(test)]
-mod worked;

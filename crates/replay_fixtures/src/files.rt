@@ -36,16 +36,3 @@ team,t2,Beta,,
 team,t3,Gamma,,
 team,t9,Staff,true,
 ";
-
-/// A file whose board was worked out by hand.
-#[derive(Clone, Copy)]
-pub struct Worked {
-    /// What it is there to show.
-    pub shows: &'static str,
-    /// The options, separated by single spaces.
-    pub options: &'static str,
-    /// The file.
-    pub file: &'static str,
-    /// The board that it must print.
-    pub board: &'static str,
-}

@@ -5,4 +5,4 @@ mod answers;
 mod files;
 
 pub use answers::{Answer, answer_to, replay, run, words_of};
-pub use files::{FIRST, FIRST_BOARD, HEAD, LAST, SETTINGS, Worked};
+pub use files::{FIRST, FIRST_BOARD, HEAD, LAST, SETTINGS};

@@ -6,8 +6,6 @@
 #[cfg(test)]
 mod asserted;
 #[cfg(test)]
-mod contests;
-#[cfg(test)]
 mod examples;
 #[cfg(test)]
 mod limits;
