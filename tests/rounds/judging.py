@@ -2,7 +2,8 @@
 
 Why a round is as good as single tries: a function is proved from its own body and from the contracts of what it calls,
 and an edit changes no contract. Should the check refuse a function for itself that no edit of the round touches, that
-is not so, and each edit of the round is tried alone.
+is not so, and each edit of the round is tried alone. For the same reason only what is edited is checked, and what
+that calls; that the crate is proved as it stands is the gate's to say.
 """
 
 import dataclasses
@@ -40,7 +41,7 @@ class Verdict:
         return f"{self.kind.value}: {self.detail}" if self.detail else self.kind.value
 
 
-PROVED = Verdict(Kind.PASSED, "the crate is proved with it")
+PROVED = Verdict(Kind.PASSED, "it is proved with it")
 
 
 @dataclasses.dataclass(frozen=True)
@@ -60,7 +61,7 @@ class Report:
 
     @property
     def is_refusal(self):
-        return self.status == 1 and self.last.startswith("logic=not-proved")
+        return self.status == 1 and self.last.startswith(("only=", "logic=not-proved"))
 
     def faulty(self):
         """The functions that are refused for themselves."""
@@ -88,6 +89,15 @@ def module_of(crate, path):
     words = os.path.splitext(path)[0].split("/")[1:]
     words = words[:-1] if words[-1] in ("mod", "lib", "main") else words
     return "::".join([crate.name, *words])
+
+
+def paths_of(crate, places):
+    """The functions at these places by their paths below the crate; of a method, whose name the prover makes of its
+    type and trait, the module."""
+    modules = {it: module_of(crate, it.path).partition("::")[2] for it in places}
+    paths = {module if it.owner else f"{module}::{it.function}".removeprefix("::") for it, module in modules.items()}
+    # a function of the root, whose module has no name, stands for the whole crate
+    return [] if "" in paths else sorted(paths)
 
 
 def names(crate, place, name):
@@ -124,7 +134,7 @@ def verdict_of(crate, report, places):
 
 def try_alone(crate, edit, places, jobs, kept):
     texts = applied(crate, edit, {})
-    status, said = kit.check(crate, texts, jobs, kept)
+    status, said = kit.check(crate, texts, paths_of(crate, places), jobs, kept)
     report = Report.of(status, said)
     unread = next((it for it in said.split("\n") if kit.is_unread(it, texts)), None)
     if unread:
@@ -148,7 +158,7 @@ def not_believed(crate, report, said, texts, places):
 
 def try_round(crate, made: Round, places, jobs, kept):
     """The verdict on each edit of the round, by its label, and why the round as a whole was not believed, if so."""
-    status, said = kit.check(crate, made.texts, jobs, kept)
+    status, said = kit.check(crate, made.texts, paths_of(crate, made.places), jobs, kept)
     if status == 0:
         return {edit.label: PROVED for edit in made.edits}, None
     report = Report.of(status, said)

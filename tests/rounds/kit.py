@@ -40,9 +40,11 @@ def are_libraries_built(crate, jobs):
     return not any(below.build_rlib(["--jobs", str(jobs)], anew=False) for below in crate.below())
 
 
-def check(crate, texts, jobs, kept):
-    """Checks a copy of the crate with these texts, by path, in place of its own. Gives the status and what was said."""
-    ran = RT.checked(crate, texts, ["--jobs", str(jobs)], str(kept))
+def check(crate, texts, paths, jobs, kept):
+    """Checks a copy of the crate with these texts, by path, in place of its own: these functions and modules and all
+    that they call, or the whole crate where none is named. Gives the status and what was said."""
+    only = [word for it in paths for word in ("--only", it)]
+    ran = RT.checked(crate, texts, ["--jobs", str(jobs), *only], str(kept))
     return ran.returncode, ran.stdout
 
 

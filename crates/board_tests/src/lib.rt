@@ -1,6 +1,5 @@
-//! Tests of boards and awards: contests as they are printed, made from a seed and scored twice, and the
-//! awards of small ones. The expected values come from worked examples, and from counting by hand and
-//! by a plain program.
+//! Tests of boards and awards: contests made from a seed and scored twice, which release counts, and the
+//! awards of small ones. The expected values come from counting by hand and by a plain program.
 #![tactic(auto)]
 
 #[cfg(test)]

@@ -1,5 +1,5 @@
--- A team submits (Contest API 2023-06, submissions). It is a function of what every caller may know and
--- of the team's own submissions, and of nothing else.
+-- A team submits (Contest API 2023-06, submissions). It is a function of the fixed part and of the team's
+-- own submissions, and of nothing else.
 use Rattle.std.specs.Prelude.{ℕ, ◌+◌, List, Option, Some, None, Ok, Err, slice_get}
 use Rattle.serde_json.specs.Data.{Data}
 use Rattle.contest_types.specs.State.{FixedPart, ContestState, submissions_of}

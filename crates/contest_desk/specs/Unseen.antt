@@ -45,7 +45,8 @@ IsUnseen a x (NewClarification c) = IsUnheard a x c
 IsUnseen a x (NewRejudging r) = Unit {0}
 IsUnseen a x (SetMember n place state) = Unit {0}
 IsUnseen a x (SetRejudging n state) = Unit {0}
--- the marks of the clock, the settings and the accounts are everyone's to notice
+-- the marks of the clock, the settings and the accounts are what the promise takes as equal: a change of
+-- these doesn't count as unseen
 IsUnseen a x (SetStart start) = ⊥
 IsUnseen a x (SetThaw thaw) = ⊥
 IsUnseen a x (SetFinalized finalized) = ⊥

@@ -2,8 +2,8 @@
 //! contest.
 ghost use Rattle.contest_desk.specs.Laws.{GetsAlike, HeadIsGet, ListsAlike, PostsAlike, StepsAlike, StepsKeepValid, StepsNeverFail};
 
-/// Until the thaw, valid contests that agree on all that a caller may learn answer each of its
-/// requests byte for byte alike, and agree on it afterwards.
+/// Until the thaw, valid contests with equal settings, accounts and marks that agree on all that a
+/// caller may learn answer each of its requests byte for byte alike, and agree on it afterwards.
 pub fn steps_alike()
     ensures { StepsAlike }
 {}

@@ -84,8 +84,8 @@ awards_of s rows solves =
     listed
     (winner rows ∷ medals s rows ++ map (first_to_solve s rows solves) (problem_order s) ++ map (group_winner s rows) (group_order s))
 
--- the jury is shown the awards once the contest is finalized, all others once it is thawed too, or if
--- it never froze
+-- the jury is shown the awards once the contest is finalized, all others once it is thawed too, or where
+-- there is no freeze moment
 abbrev pub shows_awards : Audience → ℕ → ContestState → Bool
 shows_awards a now x =
     is_finalized x.fixed.marks now

@@ -1,5 +1,4 @@
 -- How a cell grows, attempt by attempt.
--- Words of private functions: nothing public is said with them.
 use Rattle.std.specs.Prelude.{ℕ, ◌+◌, ◌<◌, ◌^◌, not, ◌&&◌, if◌then◌else◌, Option, Some, None}
 use Rattle.contest_types.specs.declared.minute.Minute.{Minute}
 use Rattle.contest_score.specs.declared.attempt.Verdict.{Verdict}

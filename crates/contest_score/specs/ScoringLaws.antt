@@ -136,7 +136,7 @@ ReleaseMovesOneCell =
     → Has x.submissions s → names s.team s.number (of_release v) ≡ true → (team ≢ s.team) ⊎ (problem ≢ s.problem)
     → seen_cell a now (add x (NewRelease v)) team problem ≡ seen_cell a now x team problem
 
--- after an accepted attempt nothing changes its cell
+-- attempts after an accepted one change nothing of its cell
 abbrev pub NothingAfterAccepted : Type 0
 NothingAfterAccepted =
     (start : ℕ) (earlier : List Attempt) (a : Attempt) (later : List Attempt) → is_solving a ≡ true

@@ -1,5 +1,5 @@
--- Cells in plain lists, one for each team.
--- Words of private functions: nothing public is said with them.
+-- Cells in plain lists, one for each team: what they have at a team and a problem, and no attempts where
+-- they have nothing.
 use Rattle.std.specs.Prelude.{ℕ, List, [], Option, Some, None, slice_get, slice_set, map}
 use Rattle.std.specs.List.{range_with_len}
 use Rattle.contest_score.specs.declared.cell.Cell.{Cell}

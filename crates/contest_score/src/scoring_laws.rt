@@ -65,7 +65,7 @@ pub fn release_moves_one_cell()
     ensures { ReleaseMovesOneCell }
 {}
 
-/// After an accepted attempt nothing changes its cell.
+/// Attempts after an accepted one change nothing of its cell.
 pub fn nothing_after_accepted()
     ensures { NothingAfterAccepted }
 {}

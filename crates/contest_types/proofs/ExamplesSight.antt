@@ -228,7 +228,8 @@ one_waits = refl
 shortly_before_thaw : verdicts_seen audience.Public (hours 5 - 1) (thawed_at around_freeze (hours 5)) ≡ its_acceptance ∷ None ∷ []
 shortly_before_thaw = refl
 
--- but a thaw that is put off hides again what it showed
+-- adding alone would let a thaw that has come be put off, and hide again what it showed: that is for the
+-- command on the clock to refuse
 thaw_put_off : verdicts_seen audience.Public (hours 5) (add (thawed_at around_freeze (hours 5)) (SetThaw (hours 6))) ≡ its_acceptance ∷ None ∷ []
 thaw_put_off = refl
 

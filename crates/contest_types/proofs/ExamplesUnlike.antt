@@ -196,3 +196,6 @@ talks_are_valid = refl
 
 fixed_are_valid : list_all is_valid (with_marks None (Some (hours 6)) ∷ with_marks (Some (hours 6)) None ∷ with_fixed (record base.fixed { accounts = with_account accounts (account_for (codes "b1") role.Judge) }) ∷ with_fixed (record base.fixed { settings = record settings { head = record settings.head { penalty_time = 10 } } }) ∷ []) ≡ true
 fixed_are_valid = refl
+
+others_too_are_valid : list_all is_valid (with_releases (record own_release { time = minutes 12 } ∷ other_release ∷ []) ∷ in_freeze (own_release ∷ []) ∷ record base { submissions = own_submission ∷ other_submission ∷ hidden_submission ∷ [] } ∷ with_fixed (record base.fixed { marks = record { start = Some 1; thaw = None; finalized = None } }) ∷ record base { clarifications = clarifications ++ announced 2 (minutes 61) None ∷ [] } ∷ record base { submissions = own_submission ∷ other_submission ∷ frozen_submission ∷ record hidden_submission { file = 80 ∷ [] } ∷ [] } ∷ []) ≡ true
+others_too_are_valid = refl
