@@ -1,13 +1,3 @@
-pub mod Records
-pub mod FieldTexts
-pub mod ReplayRows
-pub mod Replayed
-pub mod TeamsSoFar
-pub mod ReplayedContest
-pub mod ReplayFile
-pub mod Columns
-pub mod CellText
-pub mod BoardText
 pub mod Words
 pub mod Input
 pub mod Lines

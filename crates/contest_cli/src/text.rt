@@ -1,9 +1,12 @@
 //! The text that `replay` gives of a file.
-ghost use Rattle.std.specs.Prelude.{◌≡◌, ◌⊎◌, Ok, Err, Some, IfOk, IfErr, string_bytes};
-ghost use Rattle.contest_cli.specs.Text.{board_of, audience_for, marks_for, moment_for};
+ghost use Rattle.std.specs.Prelude.{◌≡◌, ◌⊎◌, ◌<◌, ◌^◌, Ok, Err, IfOk, IfErr, All, length, string_bytes};
+ghost use Rattle.contest_score.specs.Masks.{IsAdmitted};
+ghost use Rattle.contest_cli.specs.Text.{board_of, audience_for, moment_for, text_of};
 
-use crate::replay_csv::read_replay_csv;
 use crate::words::Options;
+use contest_import::read_replay_csv;
+use contest_score::{JudgedSubmission, board, plain_cells};
+use contest_text::board_text;
 use contest_types::{Audience, Marks, Moment, Refusal, RelTime, Settings, TimeSpan};
 use std::alloc::Global;
 
@@ -18,10 +21,37 @@ pub(crate) fn replay_text(
     ensures ok { IfOk result (λ text. board_of options.now.jury options.now.thawed at bytes.now ≡ Ok (string_bytes text)) }
     ensures err { IfErr result (λ r. (r ≡ Refusal.Memory) ⊎ (board_of options.now.jury options.now.thawed at bytes.now ≡ Err r)) }
 {
-    let replayed = read_replay_csv(alloc, bytes)?;
-    let marks = marks_for(replayed.settings(), options.thawed);
-    let now = moment_for(replayed.settings(), at);
-    replayed.into_text(alloc, &marks, now, audience_for(options.jury))
+    let mut contest = read_replay_csv(alloc, bytes)?;
+    let marks = contest.marks(options.thawed);
+    let now = moment_for(contest.settings(), at);
+    contest.retain_until(now);
+    text_of(
+        alloc,
+        contest.settings(),
+        &marks,
+        now,
+        audience_for(options.jury),
+        contest.submissions(),
+    )
+}
+
+/// The text of the board of these submissions, for a caller at a moment.
+fn text_of(
+    alloc: Global,
+    settings: &Settings,
+    marks: &Marks,
+    now: Moment,
+    audience: Audience,
+    submissions: &[JudgedSubmission],
+) -> Result<String, Refusal>
+    requires few { length submissions.now < 2 ^ 32 }
+    requires admitted { All (IsAdmitted settings.now marks.now) submissions.now }
+    ensures text { IfOk result (λ text. string_bytes text ≡ text_of audience settings.now marks.now now submissions.now) }
+    ensures err { IfErr result (λ e. e ≡ Refusal.Memory) }
+{
+    let cells = plain_cells(alloc, settings, marks, audience, now, submissions)?;
+    let board = board(alloc, settings, &cells)?;
+    board_text(alloc, settings, marks, now, audience, &board)
 }
 
 /// Who looks: the jury, or anyone.
@@ -35,37 +65,15 @@ fn audience_for(jury: bool) -> Audience
     }
 }
 
-/// The marks of a replay: it starts at moment 0 and, where it is thawed, it is from its end on.
-fn marks_for(settings: &Settings, thawed: bool) -> Marks
-    ensures { result ≡ marks_for settings.now thawed }
-{
-    let end = moment_at(settings.head().duration);
-    Marks {
-        start: Some(moment_at(TimeSpan::ZERO)),
-        thaw: if thawed { Some(end) } else { None },
-        finalized: None,
-    }
-}
-
 /// The moment of a contest time, at the earliest the start; the end where none is asked for.
 fn moment_for(settings: &Settings, at: Option<RelTime>) -> Moment
     ensures { result ≡ moment_for settings.now at }
 {
     match at {
-        None => moment_at(settings.head().duration),
+        None => Moment::from_time_span(settings.head().duration),
         Some(time) => match TimeSpan::from_reltime(time) {
-            Some(span) => moment_at(span),
-            None => moment_at(TimeSpan::ZERO),
+            Some(span) => Moment::from_time_span(span),
+            None => Moment::from_time_span(TimeSpan::ZERO),
         },
-    }
-}
-
-/// The moment so long after moment 0.
-fn moment_at(span: TimeSpan) -> Moment
-    ensures { result ≡ span }
-{
-    match Moment::from_milliseconds(span.milliseconds()) {
-        Some(moment) => moment,
-        None => unreachable!(),
     }
 }

@@ -5,8 +5,7 @@ ghost use Rattle.contest_rules.specs.Submitting.{asks_the_same, has_key, lacks_e
 
 use crate::Decision;
 use contest_types::limits::TEAM_SUBMISSIONS;
-use contest_types::{Fixed, Id, Moment, Name, Phase, Refusal, Rows, Submission};
-use contest_view::phase;
+use contest_types::{Fixed, Id, Moment, Name, Phase, Refusal, Rows, Submission, phase};
 
 /// What a team asks for when it submits (Contest API 2023-06, submissions).
 #[derive(Debug, Drop)]

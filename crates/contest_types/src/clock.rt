@@ -1,8 +1,8 @@
-//! The contest's clock: its end, its freeze and its thaw.
+//! The contest's clock: its phase, its end, its freeze and its thaw.
 ghost use Rattle.std.specs.Prelude.{◌≡◌};
-ghost use Rattle.contest_types.specs.Clock.{end_of, freeze_of, is_frozen, is_thawed, is_freezing, is_finalized};
+ghost use Rattle.contest_types.specs.Clock.{end_of, freeze_of, is_frozen, is_thawed, is_freezing, is_finalized, phase_at, reached};
 
-use crate::{Marks, Moment, Settings};
+use crate::{Marks, Moment, Phase, Settings};
 
 /// When the contest ends, in milliseconds since 1970: its start and its duration (Contest API
 /// 2023-06, contest object); none where no start is set.
@@ -11,6 +11,34 @@ pub fn end_of(settings: &Settings, marks: &Marks) -> Option<u64>
 {
     let start = marks.start?;
     Some(start.milliseconds() + settings.head().duration.milliseconds())
+}
+
+/// Where the contest stands at a moment: before its start, running, or ended from its end on. It
+/// takes no memory.
+pub fn phase(marks: &Marks, settings: &Settings, now: Moment) -> Phase
+    ensures { result ≡ phase_at settings.now marks.now now }
+{
+    let start = match marks.start {
+        Some(start) => Some(start.milliseconds()),
+        None => None,
+    };
+    if !has_come(start, now) {
+        Phase::Before
+    } else if has_come(end_of(settings, marks), now) {
+        Phase::Ended
+    } else {
+        Phase::Running
+    }
+}
+
+/// Whether a moment that is there, in milliseconds since 1970, isn't after now.
+fn has_come(moment: Option<u64>, now: Moment) -> bool
+    ensures { result ≡ reached moment now }
+{
+    match moment {
+        Some(moment) => moment <= now.milliseconds(),
+        None => false,
+    }
 }
 
 /// When the scoreboard freezes, in milliseconds since 1970: so long before the end (Contest API

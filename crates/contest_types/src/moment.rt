@@ -3,8 +3,8 @@ ghost use Rattle.std.specs.Prelude.{◌≡◌, ◌*◌, ◌≤◌, ℕ, List, Ok
 ghost use Rattle.std.specs.Str.{IsUtf8};
 ghost use Rattle.contest_types.specs.MomentText.{latest, IsMomentText, ShowsMoment, moment_text};
 
-use crate::Refusal;
 use crate::limits::LAST_MOMENT;
+use crate::{Refusal, TimeSpan};
 use jiff::Timestamp;
 use jiff::fmt::temporal;
 use jiff::tz::Offset;
@@ -39,6 +39,15 @@ impl Moment {
             Some(Moment { milliseconds })
         } else {
             None
+        }
+    }
+
+    /// The moment so long after 1970.
+    pub fn from_time_span(span: TimeSpan) -> Moment
+        ensures { result ≡ span }
+    {
+        Moment {
+            milliseconds: span.milliseconds(),
         }
     }
 

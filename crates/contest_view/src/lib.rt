@@ -9,7 +9,7 @@ mod submission_order;
 mod submissions;
 mod visibility;
 
-pub use contest_types::{Audience, Phase};
+pub use contest_types::{Audience, Phase, phase};
 pub use submission_object::submission_value;
 pub use submissions::{submission_by_id, submissions_value};
-pub use visibility::{phase, seen_verdict, sees_submission};
+pub use visibility::{seen_verdict, sees_submission};

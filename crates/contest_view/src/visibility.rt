@@ -1,42 +1,12 @@
-//! What a caller sees: the contest's phase, submissions and their verdicts.
+//! What a caller sees: submissions and their verdicts.
 ghost use Rattle.std.specs.Prelude.{◌≡◌};
-ghost use Rattle.contest_types.specs.Clock.{phase_at, reached};
 ghost use Rattle.contest_types.specs.Sight.{last_judgement, seen_verdict, sees_submission, sees_team, type_of};
 ghost use Rattle.contest_types.specs.State.{ContestState};
 ghost use Rattle.contest_types.specs.TeamPlaces.{is_public};
 
 use contest_types::{
-    Audience, Marks, Moment, Phase, Settings, Submission, end_of, knows_all_of, mask_for,
-    verdict_under,
+    Audience, Marks, Moment, Settings, Submission, knows_all_of, mask_for, verdict_under,
 };
-
-/// Where the contest stands at a moment: before its start, running, or ended from its end on. It
-/// takes no memory.
-pub fn phase(marks: &Marks, settings: &Settings, now: Moment) -> Phase
-    ensures { result ≡ phase_at settings.now marks.now now }
-{
-    let start = match marks.start {
-        Some(start) => Some(start.milliseconds()),
-        None => None,
-    };
-    if !has_come(start, now) {
-        Phase::Before
-    } else if has_come(end_of(settings, marks), now) {
-        Phase::Ended
-    } else {
-        Phase::Running
-    }
-}
-
-/// Whether a moment that is there, in milliseconds since 1970, isn't after now.
-fn has_come(moment: Option<u64>, now: Moment) -> bool
-    ensures { result ≡ reached moment now }
-{
-    match moment {
-        Some(moment) => moment <= now.milliseconds(),
-        None => false,
-    }
-}
 
 /// Whether a caller sees a team's submissions: the jury sees all, a team its own, and anyone those
 /// of a team that isn't hidden (DOMjudge manual, "Scoreboard"). It takes no memory.

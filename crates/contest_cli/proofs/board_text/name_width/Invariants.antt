@@ -1,6 +1,0 @@
-use Rattle.std.specs.Prelude.{◌≡◌, take}
-use Rattle.contest_cli.specs.BoardText.{name_width}
-use Rattle.contest_cli.proofs.board_text.name_width.Given as goal
-
-abbrev pub invariant-loop-row : goal.invariant-loop-row
-invariant-loop-row l = l.width ≡ name_width l.settings (take l.row-index l.rows)

@@ -1,7 +1,0 @@
-use Rattle.std.specs.Prelude.{◌≡◌, ◌++◌, take, string_bytes}
-use Rattle.std.specs.List.{flat_map}
-use Rattle.contest_cli.specs.BoardText.{row_line}
-use Rattle.contest_cli.proofs.board_text.push_rows.Given as goal
-
-abbrev pub invariant-loop-row : goal.invariant-loop-row
-invariant-loop-row l = string_bytes l.out ≡ string_bytes l.fn.out ++ flat_map (row_line l.settings l.width) (take l.row-index l.rows)

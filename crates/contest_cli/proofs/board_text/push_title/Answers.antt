@@ -1,7 +1,0 @@
-use Rattle.std.proofs.lemmas.Result.{on_ok_weaker}
-use Rattle.contest_cli.proofs.TextLemmas.{joined}
-use Rattle.contest_cli.proofs.board_text.push_title.Goals as goal
-
-pub returns : goal.returns
-returns c =
-    on_ok_weaker c.push_title_end.result (λ e. joined _ _ _ _ _ _ _ _ _ c.in_ok-push_who.ensures c.in_ok-push_str.ensures.bytes c.in_ok-push_contest_time.ensures e) c.push_title_end.ensures

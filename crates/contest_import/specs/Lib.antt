@@ -1,0 +1,8 @@
+pub mod CsvRecords
+pub mod FieldTexts
+pub mod ReplayRecord
+pub mod ReplayRows
+pub mod ReplayLists
+pub mod ReplayContest
+pub mod ReplayState
+pub mod ReplayFile
