@@ -26,11 +26,11 @@ class BadEdit(Exception):
     """Why an edit can't be tried."""
 
 
-# A function: the path of its file in the crate, its name, the type of its impl or trait ('' where it has none), and the
-# lines of its head and body.
-Place = collections.namedtuple("Place", "path function owner first last")
-# A block: its name, where its head begins, and its braces.
-Span = collections.namedtuple("Span", "name starts opens closes")
+# A function: the path of its file in the crate, its name, the type of its impl or trait ('' where it has none), what the
+# prover calls that block (the type, then the trait), and the lines of its head and body.
+Place = collections.namedtuple("Place", "path function owner block first last")
+# A block: its name, where its head begins, its braces, and the trait of an impl that has one.
+Span = collections.namedtuple("Span", "name starts opens closes of", defaults=[""])
 
 
 @dataclasses.dataclass(frozen=True)
@@ -107,15 +107,20 @@ def bodies_in(text):
     return [Span(name, start, *body) for name, start, body in found if body]
 
 
+def last_word(text):
+    words = re.findall(r"[A-Za-z_]\w*", text)
+    return words[-1] if words else ""
+
+
 @functools.lru_cache(maxsize=None)
 def owners_in(text):
     """The impl and trait blocks, each with the name of its type."""
     found = []
     for block in OWNER.finditer(text):
         head = re.sub(r"<[^<>]*>", "", re.sub(r"<[^<>]*>", "", block[1]))
-        words = re.findall(r"[A-Za-z_]\w*", head.split(" for ")[-1].split(" where ")[0])
+        names = [last_word(part.split(" where ")[0]) for part in head.split(" for ")]
         opens = block.end() - 1
-        found.append(Span(words[-1] if words else "", block.start(), opens, closing(text, opens)))
+        found.append(Span(names[-1], block.start(), opens, closing(text, opens), "".join(names[:-1])))
     return found
 
 
@@ -146,7 +151,7 @@ def place_of(crate, path, old):
         raise BadEdit(f"a text in {path} stands in no function's body: {old[:60]}")
     owner = innermost(owners_in(blank), body.opens, body.closes)
     lines = [blank.count("\n", 0, at) + 1 for at in (body.starts, body.closes)]
-    return Place(path, body.name, owner.name if owner else "", *lines)
+    return Place(path, body.name, *((owner.name, owner.name + owner.of) if owner else ("", "")), *lines)
 
 
 def places_of(crate, edit):

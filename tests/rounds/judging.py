@@ -92,12 +92,23 @@ def module_of(crate, path):
 
 
 def paths_of(crate, places):
-    """The functions at these places by their paths below the crate; of a method, whose name the prover makes of its
-    type and trait, the module."""
-    modules = {it: module_of(crate, it.path).partition("::")[2] for it in places}
-    paths = {module if it.owner else f"{module}::{it.function}".removeprefix("::") for it, module in modules.items()}
-    # a function of the root, whose module has no name, stands for the whole crate
-    return [] if "" in paths else sorted(paths)
+    """The functions at these places by their paths below the crate."""
+    names = {it: [*module_of(crate, it.path).split("::")[1:], *filter(None, [it.block]), it.function] for it in places}
+    return sorted("::".join(words) for words in names.values())
+
+
+def modules_of(crate, places):
+    """The modules of these functions, nothing where one stands in the root."""
+    modules = {module_of(crate, it.path).partition("::")[2] for it in places}
+    return [] if "" in modules else sorted(modules)
+
+
+def checked(crate, texts, places, jobs, kept):
+    """A check of the functions at these places and of what they call. The prover's name of a method in an impl of a
+    trait with types of its own can't be told from here; it then says that nothing has the name (status 2), and the
+    modules are checked."""
+    status, said = kit.check(crate, texts, paths_of(crate, places), jobs, kept)
+    return (status, said) if status != 2 else kit.check(crate, texts, modules_of(crate, places), jobs, kept)
 
 
 def names(crate, place, name):
@@ -134,7 +145,7 @@ def verdict_of(crate, report, places):
 
 def try_alone(crate, edit, places, jobs, kept):
     texts = applied(crate, edit, {})
-    status, said = kit.check(crate, texts, paths_of(crate, places), jobs, kept)
+    status, said = checked(crate, texts, places, jobs, kept)
     report = Report.of(status, said)
     unread = next((it for it in said.split("\n") if kit.is_unread(it, texts)), None)
     if unread:
@@ -158,7 +169,7 @@ def not_believed(crate, report, said, texts, places):
 
 def try_round(crate, made: Round, places, jobs, kept):
     """The verdict on each edit of the round, by its label, and why the round as a whole was not believed, if so."""
-    status, said = kit.check(crate, made.texts, paths_of(crate, made.places), jobs, kept)
+    status, said = checked(crate, made.texts, made.places, jobs, kept)
     if status == 0:
         return {edit.label: PROVED for edit in made.edits}, None
     report = Report.of(status, said)

@@ -7,13 +7,12 @@ use Rattle.std.proofs.lemmas.Bool.Decides.{nat_tests}
 use Rattle.std.proofs.Math.Seq.{get_or-append_seam}
 use Rattle.std.proofs.lemmas.List.{length-append, map-append, get_or_append_left, get_or-set_same, get_or-set_other, length-set}
 use Rattle.std.proofs.lemmas.List.Sums.{fold-append, sum_by_push, sum_by-set, sum_by-le, length-filter, count_by-le-length}
-use Rattle.std.proofs.lemmas.List.Elements.{filter-append, All-push, All-tail, All-filter}
+use Rattle.std.proofs.lemmas.List.Elements.{filter-append, All-push, All-tail}
 use Rattle.std.specs.Str.{chars}
 use Rattle.contest_types.specs.Series.{never_fall}
 use Rattle.contest_types.specs.Setup.{Setup}
 use Rattle.contest_types.specs.NameText.{name_of}
 use Rattle.contest_types.specs.declared.limits.TheConstants.{TEAMS, TEAM_SUBMISSIONS}
-use Rattle.contest_types.specs.declared.marks.Marks.{Marks}
 use Rattle.contest_types.proofs.PlaceLemmas.{both_true}
 use Rattle.contest_types.proofs.SeriesLemmas.{never_fall_push}
 use Rattle.contest_score.specs.Masks.{IsAdmitted}

@@ -1,7 +1,6 @@
 -- The text board, line by line.
-use Rattle.std.specs.Prelude.{ℕ, pos, ◌-◌, ◌-ℤ◌, ◌==◌, ◌&&◌, ◌||◌, not, is_some, Bool, List, [], ◌++◌, map, fold, max, slice_get, Option, Some, None, if◌then◌else◌, codes}
+use Rattle.std.specs.Prelude.{ℕ, pos, ◌-◌, ◌-ℤ◌, ◌==◌, ◌&&◌, ◌||◌, not, is_some, Bool, List, [], ◌++◌, map, fold, max, Option, Some, None, if◌then◌else◌, codes}
 use Rattle.std.specs.List.{flat_map}
-use Rattle.std.specs.Option.{option_map_or}
 use Rattle.std.specs.Fmt.{decimal}
 use Rattle.contest_types.specs.Setup.{Setup}
 use Rattle.contest_types.specs.ProblemPlaces.{label_at}

@@ -1,4 +1,5 @@
 pub mod ObjectLemmas
+pub mod CollectionLemmas
 pub mod KeyPlaces
 pub mod Sorting
 pub mod SeenApart

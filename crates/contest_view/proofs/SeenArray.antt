@@ -1,11 +1,12 @@
 -- The sorted keys of what is seen list the submissions that an audience sees.
-use Rattle.std.proofs.Common.{◌≡◌, ℕ, true, false, List, [], ◌∷◌, map, Option, None, Some, refl, sym, ap, subst, ◌∙◌}
-use Rattle.std.specs.Prelude.{◌↔◌, slice_get}
+use Rattle.std.proofs.Common.{◌≡◌, ◌<◌, ℕ, true, false, List, [], ◌∷◌, map, Option, None, Some, refl, sym, ap, subst, ◌∙◌}
+use Rattle.std.specs.Prelude.{◌↔◌, All, slice_get}
 use Rattle.std.specs.Option.{option_map_or}
 use Rattle.std.specs.List.{filter, IsDistinct}
 use Rattle.std.specs.List.Sorted.{IsPermutation, IsSorted}
 use Rattle.std.specs.Ordering.{eq_by_cmp}
 use Rattle.std.proofs.lemmas.Cmp.{eq_by_cmp_equiv}
+use Rattle.std.proofs.lemmas.List.Elements.{All-map}
 use Rattle.std.proofs.lemmas.List.Sorted.{IsPermutation-map, IsPermutation-sym, All-permutation}
 use Rattle.std.proofs.lemmas.Map.Keys.{IsDistinct-IsPermutation}
 use Rattle.std.proofs.lemmas.Simd.{map-map}
@@ -83,3 +84,7 @@ object_has_none f a rows place =
 pub array_has_none : (f : FixedPart) (a : Audience) (rows : List Submission) (ks : List SubmissionKey) → has_float (array (items_of (map (λ k. object_at f a rows k.place) ks))) ≡ false
 array_has_none f a rows [] = refl
 array_has_none f a rows (k ∷ ks) = rw (object_has_none f a rows k.place) (array_has_none f a rows ks)
+
+-- places that are within a bound one by one are so together
+pub places_within : (n : ℕ) (ks : List SubmissionKey) → All (λ k. k.place < n) ks → All (λ p. p < n) (map (λ (k : SubmissionKey). k.place) ks)
+places_within n ks h = All-map (λ p. p < n) (λ (k : SubmissionKey). k.place) ks h

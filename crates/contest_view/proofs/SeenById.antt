@@ -1,6 +1,6 @@
 -- What is found by its id is the one submission that is seen with this id.
-use Rattle.std.proofs.Common.{◌≡◌, ℕ, ◌≤◌, Bool, true, false, List, [], ◌∷◌, map, Option, Some, None, refl, sym, ap, subst, ◌∙◌, arith}
-use Rattle.std.specs.Prelude.{◌&&◌, bytes_eq, find, if◌then◌else◌, length}
+use Rattle.std.proofs.Common.{◌≡◌, ℕ, ◌≤◌, Bool, true, List, Option, Some, None, refl, sym, ap, subst, ◌∙◌, arith}
+use Rattle.std.specs.Prelude.{◌&&◌, bytes_eq, find, length}
 use Rattle.std.specs.Option.{option_map}
 use Rattle.std.proofs.lemmas.Slice.Eq.{bytes_eq-Decides}
 use Rattle.contest_types.specs.Loads.{without_file, loaded_submissions}
@@ -21,16 +21,10 @@ use Rattle.contest_view.specs.Items.{Item}
 use Rattle.contest_types.specs.VisibleIds.{submission_id}
 use Rattle.contest_view.specs.Objects.{submission_data, submission_object}
 use Rattle.contest_view.specs.Reads.{submission_item, submission_found}
+use Rattle.contest_view.proofs.CollectionLemmas.{find_mapped}
 use Rattle.contest_view.proofs.SeenApart.{number_small, within_limit}
 use Rattle.contest_view.proofs.SeenKeys.{same_object}
 use Rattle.contest_view.proofs.SubmissionIds.{one_id}
-
-find_mapped : {X Y : Type 0} (p : Y → Bool) (f : X → Y) (xs : List X) → find p (map f xs) ≡ option_map f (find (λ x. p (f x)) xs)
-find_mapped p f [] = refl
-find_mapped {X} {Y} p f (x ∷ xs) =
-    let rest = find_mapped p f xs in
-    let go : (b : Bool) → (if b then Some (f x) else find p (map f xs)) ≡ option_map f (if b then Some x else find (λ y. p (f y)) xs) = elim [ true ↦ refl | false ↦ rest ] in
-    go (p (f x))
 
 -- where none is found, none passes
 none_passes : {X : Type 0} (p : X → Bool) (xs : List X) (x : X) → find p xs ≡ None → Has xs x → p x ≡ true → ⊥

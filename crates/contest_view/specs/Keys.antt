@@ -1,15 +1,16 @@
 -- What the list of submissions is sorted by.
 -- Words of private functions: nothing public is said with them.
-use Rattle.std.specs.Prelude.{ℕ, List, filter, slice_get}
+use Rattle.std.specs.Prelude.{ℕ, List, filter}
 use Rattle.std.specs.List.{enumerate_from}
-use Rattle.std.specs.Option.{option_map_or}
-use Rattle.serde_json.specs.Data.{Data, null}
+use Rattle.serde_json.specs.Data.{Data}
 use Rattle.contest_types.specs.Setup.{Setup}
 use Rattle.contest_types.specs.TeamPlaces.{team_id_at}
 use Rattle.contest_types.specs.Sight.{sees_team, program_for}
 use Rattle.contest_types.specs.declared.audience.Audience.{Audience}
 use Rattle.contest_types.specs.declared.submission.Submission.{Submission}
 use Rattle.contest_types.specs.State.{FixedPart}
+use Rattle.contest_types.specs.VisibleIds.{submission_id}
+use Rattle.contest_view.specs.Items.{Item, object_at as item_at}
 use Rattle.contest_view.specs.Objects.{submission_data}
 use Rattle.contest_view.specs.declared.submission_order.SubmissionKey.{SubmissionKey}
 
@@ -31,6 +32,10 @@ key_of s p = record { time = p.1.time; team = team_id_at s p.1.team; number = p.
 abbrev pub seen_places : Audience → Setup → List Submission → List (ℕ × Submission)
 seen_places a s rows = filter (λ p. sees_team a s p.1.team) (enumerate_from 0 rows)
 
+-- a submission as an audience is served it
+abbrev pub row_item : FixedPart → Audience → Submission → Item
+row_item f a s = record { id = submission_id s.team s.number; object = submission_data f s.team s.number s.time s.problem s.language (program_for a s) }
+
 -- the object of the submission at a place
 abbrev pub object_at : FixedPart → Audience → List Submission → ℕ → Data
-object_at f a rows place = option_map_or (λ (s : Submission). submission_data f s.team s.number s.time s.problem s.language (program_for a s)) (slice_get rows place) null
+object_at f a = item_at (row_item f a)

@@ -1,6 +1,7 @@
 //! What an audience is shown of a contest: who sees what, and the JSON values that are served.
 #![tactic(auto)]
 
+mod collection;
 pub mod laws;
 mod members;
 mod submission_id;
@@ -9,6 +10,7 @@ mod submission_order;
 mod submissions;
 mod visibility;
 
+pub use collection::{Collection, array_value, value_by_id};
 pub use contest_types::{Audience, Phase, phase};
 pub use submission_object::submission_value;
 pub use submissions::{submission_by_id, submissions_value};

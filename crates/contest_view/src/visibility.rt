@@ -9,7 +9,8 @@ use contest_types::{
 };
 
 /// Whether a caller sees a team's submissions: the jury sees all, a team its own, and anyone those
-/// of a team that isn't hidden (DOMjudge manual, "Scoreboard"). It takes no memory.
+/// of a team that isn't hidden (own: the Contest API 2023-06 takes a hidden team off the scoreboard,
+/// and says no more). It takes no memory.
 pub fn sees_submission(audience: Audience, settings: &Settings, submission: &Submission) -> bool
     ensures { (x : ContestState) → x.fixed.settings ≡ settings.now → result ≡ sees_submission audience x submission.now }
 {
