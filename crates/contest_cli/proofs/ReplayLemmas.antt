@@ -1,5 +1,5 @@
 -- What an input that is read to its end, or not, says of the text.
-use Rattle.std.proofs.Common.{◌≡◌, ◌≤◌, ◌<◌, ◌+◌, ◌++◌, ◌⊎◌, inl, inr, refl, ap, subst, ℕ, ℤ, List, Bool, true, false, Option, Some, None, IfSome, Result, Err, length, length-append, arith, nat_lt, string_bytes}
+use Rattle.std.proofs.Common.{◌≡◌, ◌≤◌, ◌<◌, ◌+◌, ◌++◌, ◌⊎◌, inl, inr, refl, ap, subst, ℕ, ℤ, List, Bool, true, false, Option, Some, None, IfSome, Result, Ok, Err, length, length-append, arith, nat_lt, string_bytes}
 use Rattle.std.proofs.lemmas.Bool.Decides.{nat_tests}
 use Rattle.std.specs.Io.KnownBytes.{Keeps}
 use Rattle.clap.specs.Walk.{Text}
@@ -7,6 +7,7 @@ use Rattle.contest_types.specs.declared.refusal.Refusal.{Refusal}
 use Rattle.contest_types.specs.declared.refusal.Refusal.TheVariants.{BodyTooLarge, Memory}
 use Rattle.contest_types.specs.declared.limits.TheConstants.{IMPORTED_FILE}
 use Rattle.contest_cli.specs.Asked.{Asks}
+use Rattle.contest_cli.specs.Commands.{Shows}
 use Rattle.contest_cli.specs.Input.{ReadsAll, TakesFront}
 use Rattle.contest_cli.specs.Replay.{replay_of, Gives, StopsBy, Replays, stop_of, status_of, line_of}
 use Rattle.contest_types.specs.Streams.{Stream, Fails, Tells}
@@ -94,3 +95,16 @@ stopped words in_old in_new out err_old err_new File status stops is told = reco
   refused = λ e. (File, refl, told, inl (stops, keeps_same out.bytes));
   faulty = λ e. absurd (omega (arith, is, e));
 }
+
+-- where there is one, and it is shown
+pub shown : (words : List Text) (in_old in_new out_old out_new err_old err_new : Stream) (text written : List ℕ) (status : ℕ)
+    → Gives words in_old.bytes (Ok text) → written ≡ text → Shows written out_old out_new err_old err_new status
+    → Replays words in_old in_new out_old out_new err_old err_new status
+shown words in_old in_new out_old out_new err_old err_new text written status given same h =
+    let s = subst (λ t. Shows t out_old out_new err_old err_new status) same h in
+    record {
+      statuses = omega (arith, s.statuses);
+      done = λ e. (text, given, (s.done e).0, (s.done e).1);
+      refused = λ e. (File, refl, (s.cut e).2, inr (refl, ((s.cut e).0, text, given, (s.cut e).1)));
+      faulty = λ e. absurd (omega (arith, s.statuses, e));
+    }

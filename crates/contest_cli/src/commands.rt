@@ -2,11 +2,12 @@
 ghost use Rattle.std.specs.Prelude.{◌≡◌, ◌≤◌, codes, map, string_bytes, IfErr, IfOk};
 ghost use Rattle.std.specs.List.{list_any};
 ghost use Rattle.contest_types.specs.Streams.{Tells, stream};
-ghost use Rattle.contest_cli.specs.Commands.{AsksHelp, IsReplay, NamesNone, Shows, ShowsSome, TellsNone, TellsWords, is_help, unknown_command};
+ghost use Rattle.contest_cli.specs.Commands.{AsksHelp, IsReplay, NamesNone, ShowsSome, TellsNone, TellsWords, is_help, unknown_command};
 ghost use Rattle.contest_cli.specs.Replay.{Replays};
 
 use crate::output::write_whole;
 use crate::replaying::replay;
+use crate::show::show;
 use crate::stop::Stop;
 use crate::words::replay_command;
 use contest_types::{Counted, Refusal};
@@ -156,18 +157,6 @@ fn is_help(option: &str) -> bool
     ensures { result ≡ is_help option.now }
 {
     option == "--help" || option == "-h"
-}
-
-// Writes a text that was asked for.
-fn show<O: Write, E: Write>(text: &str, out: &mut Counted<O>, err: &mut Counted<E>) -> u8
-    ensures { Shows text.now
-        (stream O.contents out.old) (stream O.contents out.new)
-        (stream E.contents err.old) (stream E.contents err.new) result }
-{
-    match write_whole(out, text.as_bytes()) {
-        Ok(()) => 0,
-        Err(_) => Stop::File.refuse(err),
-    }
 }
 
 // Writes the help of `replay`.

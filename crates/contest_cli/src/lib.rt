@@ -6,6 +6,7 @@ mod input;
 mod lines;
 mod output;
 mod replaying;
+mod show;
 mod stop;
 mod text;
 mod words;

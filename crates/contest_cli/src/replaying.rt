@@ -5,7 +5,7 @@ ghost use Rattle.contest_cli.specs.Asked.{IsContestTime, ShowsTime, ShowsNone};
 ghost use Rattle.contest_cli.specs.Replay.{Gives, StopsBy, Replays, IsMemory, IsWords};
 
 use crate::input::read_limited;
-use crate::output::write_whole;
+use crate::show::show;
 use crate::stop::Stop;
 use crate::text::replay_text;
 use crate::words::{Options, read_words};
@@ -30,10 +30,7 @@ pub fn replay<R: Read, O: Write, E: Write>(
         (stream E.contents err.old) (stream E.contents err.new) result }
 {
     match board_text(alloc, words, reader) {
-        Ok(text) => match write_whole(out, text.as_bytes()) {
-            Ok(()) => 0,
-            Err(_) => Stop::File.refuse(err),
-        },
+        Ok(text) => show(text.as_str(), out, err),
         Err(stop) => stop.refuse(err),
     }
 }

@@ -1,0 +1,21 @@
+//! A text that was asked for, and how a command ends with it.
+ghost use Rattle.contest_types.specs.Streams.{stream};
+ghost use Rattle.contest_cli.specs.Commands.{Shows};
+
+use crate::output::write_whole;
+use crate::stop::Stop;
+use contest_types::Counted;
+use std::io::Write;
+
+/// Writes a text that was asked for to `out`, or tells `err` that `out` failed. Answers the exit status, 0
+/// or 1.
+pub(crate) fn show<O: Write, E: Write>(text: &str, out: &mut Counted<O>, err: &mut Counted<E>) -> u8
+    ensures { Shows text.now
+        (stream O.contents out.old) (stream O.contents out.new)
+        (stream E.contents err.old) (stream E.contents err.new) result }
+{
+    match write_whole(out, text.as_bytes()) {
+        Ok(()) => 0,
+        Err(_) => Stop::File.refuse(err),
+    }
+}
