@@ -16,7 +16,7 @@ use Rattle.contest_types.specs.declared.limits.TheConstants.{TEAMS, TEAM_SUBMISS
 use Rattle.contest_types.specs.declared.marks.Marks.{Marks}
 use Rattle.contest_types.proofs.PlaceLemmas.{both_true}
 use Rattle.contest_types.proofs.SeriesLemmas.{never_fall_push}
-use Rattle.contest_score.specs.Masks.{IsAdmitted}
+use Rattle.contest_score.specs.MaskedCells.{IsAdmitted}
 use Rattle.contest_score.specs.declared.submission.JudgedSubmission.{JudgedSubmission}
 use Rattle.contest_cli.specs.declared.team_so_far.TeamSoFar.{TeamSoFar}
 use Rattle.contest_cli.specs.declared.named_places.NamedPlaces.{NamedPlaces}

@@ -6,7 +6,7 @@ ghost use Rattle.contest_cli.specs.Replayed.{any_language, started, with_type_ro
 ghost use Rattle.contest_cli.specs.ReplayedContest.{contest_of};
 ghost use Rattle.contest_cli.specs.TeamsSoFar.{AreThere};
 ghost use Rattle.contest_cli.specs.Text.{marks_for, shown_text, text_of, up_to};
-ghost use Rattle.contest_score.specs.Masks.{IsAdmitted};
+ghost use Rattle.contest_score.specs.MaskedCells.{IsAdmitted};
 
 use crate::board_text::board_text;
 use crate::fields::Fields;
