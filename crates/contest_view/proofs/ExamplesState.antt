@@ -1,10 +1,9 @@
 -- The state object's moments, computed: five hours from moment 1000, the last of them frozen.
 use Rattle.std.proofs.Common.{◌≡◌, refl}
-use Rattle.std.specs.Prelude.{ℕ, ◌+◌, ◌*◌, Option, Some, None}
-use Rattle.contest_types.specs.Setup.{Setup}
+use Rattle.std.specs.Prelude.{ℕ, ◌+◌, Option, Some, None}
 use Rattle.contest_types.specs.declared.marks.Marks.{Marks}
 use Rattle.contest_types.proofs.ExampleContest.{settings, hours}
-use Rattle.contest_view.specs.StateObject.{StateTimes, state_times}
+use Rattle.contest_view.specs.StateObject.{state_times}
 
 abbrev from : ℕ
 from = 1000
