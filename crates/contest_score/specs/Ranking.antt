@@ -1,13 +1,14 @@
 -- Ranks and the board (Contest Control System Requirements, "Scoring": most solved, least time,
 -- earliest last accepted, shared ranks). Teams and problems go by their places in the settings'
 -- lists, from 0. The shown teams are any set of them: those that aren't hidden, or some of these.
-use Rattle.std.specs.Prelude.{ℕ, ◌+◌, Bool, ◌&&◌, ◌||◌, ◌==◌, nat_lt, List, [], ◌∷◌, length, map, filter, count_by, slice_get}
+use Rattle.std.specs.Prelude.{ℕ, ◌+◌, Bool, List, [], ◌∷◌, length, map, filter, count_by, slice_get}
 use Rattle.std.specs.List.{range_with_len}
 use Rattle.std.specs.Option.{option_map_or}
+use Rattle.std.specs.Ordering.{is_lt}
 use Rattle.std.specs.declared.cmp.Ordering.{Ordering}
 use Rattle.contest_types.specs.declared.objects.Problem.{Problem}
 use Rattle.contest_types.specs.Setup.{Setup}
-pub use Rattle.contest_types.specs.Order.{by_number, by_text, by_each, place_in, in_order}
+pub use Rattle.contest_types.specs.Order.{by_number, by_most, by_text, by_each, place_in, in_order}
 pub use Rattle.contest_types.specs.ProblemPlaces.{problem_id_at}
 pub use Rattle.contest_types.specs.TeamPlaces.{team_places, name_at, team_id_at, is_public}
 use Rattle.contest_score.specs.declared.cell.Cell.{Cell}
@@ -37,9 +38,13 @@ score_of_team s cells u = score_of_cells s.head.penalty_time (cells_of_team s ce
 abbrev pub last_minute : Score → ℕ
 last_minute a = option_map_or (λ m. m.0) a.last 0
 
--- more solved; or as many and less total; or both equal and a smaller last
+-- by most solved, then least total, then earliest last
+abbrev pub score_cmp : Score → Score → Ordering
+score_cmp = by_each (by_most (λ a. a.solved) ∷ by_number (λ a. a.total) ∷ by_number last_minute ∷ [])
+
+-- the first is better
 abbrev pub beats : Score → Score → Bool
-beats a b = nat_lt b.solved a.solved || ((a.solved == b.solved) && (nat_lt a.total b.total || ((a.total == b.total) && nat_lt (last_minute a) (last_minute b))))
+beats a b = is_lt (score_cmp a b)
 
 -- the shown teams, in the settings' order
 abbrev pub shown_teams : Setup → (ℕ → Bool) → List ℕ

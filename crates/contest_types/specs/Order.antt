@@ -10,6 +10,10 @@ use Rattle.std.specs.declared.cmp.Ordering.TheVariants.{Equal}
 abbrev pub by_number : {X : Type 0} → (X → ℕ) → X → X → Ordering
 by_number number x y = nat_cmp (number x) (number y)
 
+-- by such a number, the greatest first
+abbrev pub by_most : {X : Type 0} → (X → ℕ) → X → X → Ordering
+by_most number x y = nat_cmp (number y) (number x)
+
 -- by the bytes of a text that each has
 abbrev pub by_text : {X : Type 0} → (X → List ℕ) → X → X → Ordering
 by_text text x y = slice_cmp nat_cmp (text x) (text y)
