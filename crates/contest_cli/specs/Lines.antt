@@ -1,7 +1,7 @@
 -- The lines that tell of a refusal.
 use Rattle.std.specs.Prelude.{ℕ, List, [], ◌++◌, codes}
 use Rattle.std.specs.Fmt.{decimal}
-use Rattle.contest_types.specs.Refusals.{number_of, name_of, cause_name}
+use Rattle.contest_types.specs.Refusals.{number_of, refusal_name, cause_name}
 use Rattle.contest_types.specs.declared.refusal.Refusal.{Refusal}
 use Rattle.contest_types.specs.declared.refusal.Refusal.TheVariants.{ImportRow}
 
@@ -13,4 +13,4 @@ detail_of _ = []
 -- `refused: E<number> <name>`
 abbrev pub refusal_line : Refusal → List ℕ
 refusal_line r =
-    codes "refused: E" ++ decimal (number_of r) ++ codes " " ++ name_of r ++ detail_of r ++ codes "\n"
+    codes "refused: E" ++ decimal (number_of r) ++ codes " " ++ refusal_name r ++ detail_of r ++ codes "\n"

@@ -1,6 +1,6 @@
 //! The text that `replay` gives of a file.
 ghost use Rattle.std.specs.Prelude.{◌≡◌, ◌⊎◌, ◌<◌, ◌^◌, Ok, Err, IfOk, IfErr, All, length, string_bytes};
-ghost use Rattle.contest_score.specs.Masks.{IsAdmitted};
+ghost use Rattle.contest_score.specs.MaskedCells.{IsAdmitted};
 ghost use Rattle.contest_cli.specs.Text.{board_of, audience_for, moment_for, text_of};
 
 use crate::words::Options;

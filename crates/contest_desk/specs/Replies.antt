@@ -2,7 +2,7 @@
 use Rattle.std.specs.Prelude.{ℕ, List, codes}
 use Rattle.serde_json.specs.Data.{Data, number, unsigned, string, object, member, no_members}
 use Rattle.serde_json.specs.Written.{compact_text}
-use Rattle.contest_types.specs.Refusals.{status_of, name_of}
+use Rattle.contest_types.specs.Refusals.{status_of, refusal_name}
 use Rattle.contest_types.specs.declared.refusal.Refusal.{Refusal}
 use Rattle.contest_types.specs.declared.refusal.Refusal.TheVariants as refusal
 use Rattle.contest_desk.specs.declared.offer.AllowedMethods.{AllowedMethods}
@@ -13,7 +13,7 @@ use Rattle.contest_desk.specs.declared.reply.ContentType.TheVariants.{Json}
 
 -- the object that a refusal's body is
 abbrev pub refusal_data : Refusal → Data
-refusal_data r = object (member (codes "code") (number (unsigned (status_of r))) (member (codes "message") (string (name_of r)) no_members))
+refusal_data r = object (member (codes "code") (number (unsigned (status_of r))) (member (codes "message") (string (refusal_name r)) no_members))
 
 -- its text
 unfoldable pub refusal_text : Refusal → List ℕ

@@ -14,7 +14,7 @@ use Rattle.contest_types.specs.declared.audience.Audience.{Audience}
 use Rattle.contest_types.specs.declared.marks.Marks.{Marks}
 use Rattle.contest_types.specs.declared.submission.Release.{Release}
 use Rattle.contest_score.specs.Contest.{judged_submissions, board_for}
-use Rattle.contest_score.specs.Masks.{cell_for}
+use Rattle.contest_score.specs.MaskedCells.{cell_for}
 use Rattle.contest_score.specs.Ranking.{board_rows, is_public}
 use Rattle.contest_score.specs.declared.submission.JudgedSubmission.{JudgedSubmission}
 use Rattle.contest_import.specs.ReplayLists.{submissions_of}

@@ -15,7 +15,7 @@ use Rattle.contest_types.specs.NameText.{name_of}
 use Rattle.contest_types.specs.declared.limits.TheConstants.{TEAMS, TEAM_SUBMISSIONS}
 use Rattle.contest_types.proofs.PlaceLemmas.{both_true}
 use Rattle.contest_types.proofs.SeriesLemmas.{never_fall_push}
-use Rattle.contest_score.specs.Masks.{IsAdmitted}
+use Rattle.contest_score.specs.MaskedCells.{IsAdmitted}
 use Rattle.contest_score.specs.declared.submission.JudgedSubmission.{JudgedSubmission}
 use Rattle.contest_import.specs.declared.replay.team_progress.TeamProgress.{TeamProgress}
 use Rattle.contest_import.specs.declared.replay.submission_row.SubmissionRefs.{SubmissionRefs}

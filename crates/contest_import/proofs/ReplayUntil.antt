@@ -9,7 +9,7 @@ use Rattle.contest_types.specs.Setup.{Setup, IsValid}
 use Rattle.contest_types.specs.Valid.{is_valid}
 use Rattle.contest_types.proofs.PlaceLemmas.{and_left, and_right, both_true}
 use Rattle.contest_types.specs.declared.limits.TheConstants.{TEAM_SUBMISSIONS}
-use Rattle.contest_score.specs.Masks.{IsAdmitted}
+use Rattle.contest_score.specs.MaskedCells.{IsAdmitted}
 use Rattle.contest_score.specs.declared.submission.JudgedSubmission.{JudgedSubmission}
 use Rattle.contest_import.specs.declared.replay.team_progress.TeamProgress.{TeamProgress}
 use Rattle.contest_import.specs.ReplayLists.{submissions_of}

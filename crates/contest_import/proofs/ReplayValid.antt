@@ -25,7 +25,7 @@ use Rattle.contest_types.specs.declared.submission.Release.{Release}
 use Rattle.contest_types.proofs.PlaceLemmas.{and_left, and_right, both_true}
 use Rattle.contest_types.proofs.ValidParts.{Parts, whole, all_four}
 use Rattle.contest_types.proofs.AddLemmas.{adding_submission, adding_release}
-use Rattle.contest_score.specs.Masks.{IsAdmitted}
+use Rattle.contest_score.specs.MaskedCells.{IsAdmitted}
 use Rattle.contest_score.specs.declared.submission.JudgedSubmission.{JudgedSubmission}
 use Rattle.contest_import.specs.ReplayLists.{submissions_of}
 use Rattle.contest_import.specs.ReplayContest.{Numbered, numbered_after, submission_of, released, releases_of, replay_marks, contest_of}

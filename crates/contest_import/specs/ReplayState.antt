@@ -4,7 +4,7 @@ use Rattle.contest_types.specs.Series.{never_fall}
 use Rattle.contest_types.specs.Setup.{Setup, IsValid}
 use Rattle.contest_types.specs.declared.limits.TheConstants.{TEAM_SUBMISSIONS}
 use Rattle.contest_types.specs.declared.marks.Marks.{Marks}
-use Rattle.contest_score.specs.Masks.{IsAdmitted}
+use Rattle.contest_score.specs.MaskedCells.{IsAdmitted}
 use Rattle.contest_score.specs.declared.submission.JudgedSubmission.{JudgedSubmission}
 use Rattle.contest_import.specs.declared.replay.team_progress.TeamProgress.{TeamProgress}
 use Rattle.contest_import.specs.declared.replay.submission_row.SubmissionRefs.{SubmissionRefs}

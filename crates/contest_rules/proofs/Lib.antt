@@ -1,2 +1,3 @@
 pub mod SubmittingLemmas
 pub mod TakenLemmas
+mod ExamplesSubmitting

@@ -1,12 +1,12 @@
 -- What holds of the decisions, whatever the contest. Each is the contract of a function of src/laws.rt.
-use Rattle.std.specs.Prelude.{◌≡◌, ◌<◌, ◌≤◌, ◌+◌, ℕ, true, length}
+use Rattle.std.specs.Prelude.{◌≡◌, ◌<◌, ◌≤◌, ℕ, true, length}
 use Rattle.contest_types.specs.State.{ContestState, submissions_of}
 use Rattle.contest_types.specs.declared.entry.Entry.TheVariants.{NewSubmission}
 use Rattle.contest_types.specs.Valid.{is_valid}
 use Rattle.contest_types.specs.Addable.{is_addable}
 use Rattle.contest_types.specs.Alike.{Alike}
 use Rattle.contest_types.specs.declared.limits.TheConstants.{POSTED_FILE}
-use Rattle.contest_types.specs.declared.audience.Audience.TheVariants as audience
+use Rattle.contest_types.specs.Masks.{audience_at}
 use Rattle.contest_types.specs.declared.submission.Submission.{Submission}
 use Rattle.contest_rules.specs.declared.decision.Decision.{Decision}
 use Rattle.contest_rules.specs.declared.decision.Decision.TheVariants.{Add}
@@ -28,5 +28,5 @@ SubmittedIsAddable =
 -- contests that are alike for a team decide its submissions alike
 abbrev pub AlikeSubmitAlike : Type 0
 AlikeSubmitAlike =
-    (x y : ContestState) (now team : ℕ) (w : WantedSubmission) → Alike (audience.Team (team + 1)) x y
+    (x y : ContestState) (now team : ℕ) (w : WantedSubmission) → Alike (audience_at team) x y
     → submitted x now team w ≡ submitted y now team w

@@ -22,7 +22,7 @@ use Rattle.contest_score.specs.declared.solve.Solve.{Solve}
 use Rattle.contest_score.specs.declared.submission.JudgedSubmission.{JudgedSubmission}
 use Rattle.contest_score.specs.Scoring.{is_solving, cell_of_attempts}
 use Rattle.contest_score.specs.Ranking.{board_rows, problem_order}
-use Rattle.contest_score.specs.Masks.{attempt_under, attempts_under, is_by, start_of}
+use Rattle.contest_score.specs.MaskedCells.{attempt_under, attempts_under, is_by, start_of}
 use Rattle.contest_score.specs.Contest.{judged_submissions, contest_cell, board_for, solve_of, solves_of}
 use Rattle.contest_score.specs.Awards.{Award, awards_of, shows_awards, shown_awards}
 use Rattle.contest_score.specs.ScoringLaws.{seen_attempt}

@@ -1,5 +1,5 @@
 -- The standings of the shown teams follow the order of the board.
-use Rattle.std.proofs.Common.{◌≡◌, ℕ, zero, suc, ◌+◌, ◌<◌, ◌≤◌, Bool, true, false, cond, ◌&&◌, ◌||◌, List, [], ◌∷◌, ◌++◌, length, take, get_or, refl, sym, ap, ◌∙◌, arith, Ordering, map, All, eqb, ltb}
+use Rattle.std.proofs.Common.{◌≡◌, ℕ, zero, suc, ◌+◌, ◌<◌, ◌≤◌, Bool, true, false, cond, List, [], ◌∷◌, ◌++◌, length, take, get_or, refl, sym, ap, ◌∙◌, arith, Ordering, map, All}
 use Rattle.std.specs.List.{count_by, range_with_len, Contains}
 use Rattle.std.specs.List.Sorted.{IsPermutation, IsSorted}
 use Rattle.std.specs.Cmp.{IsTotalOrder}
@@ -20,12 +20,11 @@ use Rattle.std.proofs.lemmas.Bool.Decides.{nat_tests}
 use Rattle.contest_score.specs.declared.cell.Cell.{Cell}
 use Rattle.contest_types.specs.declared.objects.Team.{Team}
 use Rattle.contest_score.specs.declared.standings.Standing.{Standing}
-use Rattle.contest_score.specs.declared.score.Score.{Score}
 use Rattle.contest_score.specs.declared.row.Row.{Row}
 use Rattle.contest_types.specs.declared.limits.TheConstants.{TEAMS}
 use Rattle.contest_types.specs.Setup.{Setup, IsValid}
 use Rattle.contest_score.specs.Keys.{TellsTeam, standing_cmp, rank_in, row_in, row_of_standing}
-use Rattle.contest_score.specs.Ranking.{in_order, place_in, row_cmp, row_of, rank_of, score_of_team, cells_of_team, beats, last_minute, shown_teams, name_at, team_id_at, board_rows}
+use Rattle.contest_score.specs.Ranking.{in_order, place_in, row_cmp, row_of, rank_of, score_of_team, cells_of_team, beats, shown_teams, name_at, team_id_at, board_rows}
 use Rattle.contest_score.proofs.KeyOrder.{Follows, sorted_keys, range_rises}
 use Rattle.contest_score.proofs.Ranks.{standing_cmp_total, place_tied, count_agree}
 use Rattle.contest_score.proofs.ProblemOrder.{then_less, then_equal}
@@ -48,15 +47,8 @@ then_assoc Greater y z w = refl
 pub row_cmp_total : (s : Setup) (shown : ℕ → Bool) (cells : ℕ → ℕ → Cell) → IsTotalOrder (row_cmp s shown cells)
 row_cmp_total s shown cells = then_total (on_total (rank_of s shown cells) nat_cmp_total) (then_total (on_total (name_at s) nat_list_cmp_total) (on_total (team_id_at s) nat_list_cmp_total))
 
--- better by the test is better by the order
-beats_is : (m n t u l k : ℕ) → (ltb n m || (eqb m n && (ltb t u || (eqb t u && ltb l k)))) ≡ is_lt (ordering_then (nat_cmp n m) (ordering_then (nat_cmp t u) (nat_cmp l k)))
-beats_is m n t u l k = grind (arith, nat_tests)
-
-pub beats_scores : (x y : Score) → beats x y ≡ is_lt (ordering_then (nat_cmp y.solved x.solved) (ordering_then (nat_cmp x.total y.total) (nat_cmp (last_minute x) (last_minute y))))
-beats_scores x y = beats_is x.solved y.solved x.total y.total (last_minute x) (last_minute y)
-
 beats_told : (s : Setup) (cells : ℕ → ℕ → Cell) (a b : Standing) → TellsTeam s cells a → TellsTeam s cells b → beats (score_of_team s cells a.place) (score_of_team s cells b.place) ≡ is_lt (standing_cmp a b)
-beats_told s cells a b ta tb = rw (ta.solved, tb.solved, ta.total, tb.total, ta.last, tb.last) (beats_scores (score_of_team s cells a.place) (score_of_team s cells b.place))
+beats_told s cells a b ta tb = rw (ta.solved, tb.solved, ta.total, tb.total, ta.last, tb.last) refl
 
 pub count_by_map : {X Y : Type 0} (p : Y → Bool) (f : X → Y) (xs : List X) → count_by p (map f xs) ≡ count_by (λ x. p (f x)) xs
 count_by_map p f [] = refl

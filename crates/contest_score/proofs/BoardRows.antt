@@ -3,9 +3,8 @@ use Rattle.std.proofs.Common.{◌≡◌, ℕ, ◌+◌, ◌<◌, Bool, true, fals
 use Rattle.std.specs.Prelude.{◌↔◌, ◌==◌, count_by}
 use Rattle.std.specs.List.{range_with_len}
 use Rattle.std.specs.Cmp.{IsTotalOrder}
-use Rattle.std.specs.Ordering.{is_lt, nat_cmp, ordering_then, ordering_reverse}
+use Rattle.std.specs.Ordering.{is_lt, ordering_reverse}
 use Rattle.std.specs.declared.cmp.Ordering.TheVariants.{Less, Equal, Greater}
-use Rattle.std.proofs.Math.Path.{fun_ext}
 use Rattle.std.proofs.lemmas.Bool.{false≢true}
 use Rattle.std.proofs.lemmas.Cmp.{nat_cmp_total, then_total, on_total, back_total, tied_itself}
 use Rattle.std.proofs.lemmas.List.{length-map}
@@ -23,10 +22,10 @@ use Rattle.contest_types.proofs.SeenWhole.{has_team}
 use Rattle.contest_score.specs.declared.cell.Cell.{Cell}
 use Rattle.contest_score.specs.declared.row.Row.{Row}
 use Rattle.contest_score.specs.declared.score.Score.{Score}
-use Rattle.contest_score.specs.Ranking.{board_rows, shown_teams, row_cmp, row_of, rank_of, score_of_team, problem_cmp, problem_order, beats, last_minute}
+use Rattle.contest_score.specs.Ranking.{board_rows, shown_teams, row_cmp, row_of, rank_of, score_of_team, problem_cmp, problem_order, score_cmp, beats, last_minute}
 use Rattle.contest_score.specs.BoardLaws.{teams_of, stands_above}
 use Rattle.contest_score.proofs.ProblemOrder.{problem_cmp_total, then_equal}
-use Rattle.contest_score.proofs.BoardOrder.{row_cmp_total, beats_scores, count_by_map}
+use Rattle.contest_score.proofs.BoardOrder.{row_cmp_total, count_by_map}
 use Rattle.contest_score.proofs.Ranks.{place_tied}
 use Rattle.contest_score.proofs.SameElements.{other, weaker_order, mapped_order, same_count, same_length, place_within, places_apart, all_apart, differ, has_place}
 
@@ -127,10 +126,6 @@ ranks_count_the_better s shown cells v r h =
     rank ∙ (ap (λ n. 1 + n) (counted_rows s v shown cells (λ (q : Row). beats q.score (score_of_team s cells r.team)))
     ∙ ap (λ z. 1 + count_by (λ (q : Row). beats q.score z) (board_rows s shown cells)) (sym score))
 
--- the order of scores, the better first
-abbrev score_cmp : Score → Score → Ordering
-score_cmp a b = ordering_then (nat_cmp b.solved a.solved) (ordering_then (nat_cmp a.total b.total) (nat_cmp (last_minute a) (last_minute b)))
-
 score_cmp_total : IsTotalOrder score_cmp
 score_cmp_total = then_total (back_total (on_total (λ (a : Score). a.solved) nat_cmp_total)) (then_total (on_total (λ (a : Score). a.total) nat_cmp_total) (on_total last_minute nat_cmp_total))
 
@@ -141,8 +136,7 @@ team_cmp_total : (s : Setup) (cells : ℕ → ℕ → Cell) → IsTotalOrder (te
 team_cmp_total s cells = on_total (score_of_team s cells) score_cmp_total
 
 rank_place : (s : Setup) (shown : ℕ → Bool) (cells : ℕ → ℕ → Cell) (u : ℕ) → rank_of s shown cells u ≡ 1 + place_in (team_cmp s cells) (shown_teams s shown) u
-rank_place s shown cells u =
-    ap (λ p. 1 + count_by p (shown_teams s shown)) (fun_ext (λ w. beats_scores (score_of_team s cells w) (score_of_team s cells u)))
+rank_place s shown cells u = refl
 
 -- where neither is less they tie
 tied : {X : Type 0} {R : X → X → Ordering} (o : IsTotalOrder R) (x y : X) → is_lt (R x y) ≡ false → is_lt (R y x) ≡ false → (r : Ordering) → R x y ≡ r → R x y ≡ Equal
@@ -167,12 +161,10 @@ better s shown cells u w h l Greater e = absurd (omega (arith, l, lower s shown 
 teams_follow : (s : Setup) (shown : ℕ → Bool) (cells : ℕ → ℕ → Cell) (u w : ℕ) → Has (shown_teams s shown) u → Has (shown_teams s shown) w
     → ((beats (score_of_team s cells u) (score_of_team s cells w) ≡ true) ↔ (rank_of s shown cells u < rank_of s shown cells w))
     × (beats (score_of_team s cells u) (score_of_team s cells w) ≡ false → beats (score_of_team s cells w) (score_of_team s cells u) ≡ false → rank_of s shown cells u ≡ rank_of s shown cells w)
-teams_follow s shown cells u w h k =
-    let one = beats_scores (score_of_team s cells u) (score_of_team s cells w) in
-    let two = beats_scores (score_of_team s cells w) (score_of_team s cells u) in (
-      ((λ e. lower s shown cells u w h (is_less _ (sym one ∙ e))), (λ l. one ∙ better s shown cells u w k l (team_cmp s cells u w) refl)),
-      (λ e f. equal s shown cells u w (tied (team_cmp_total s cells) u w (sym one ∙ e) (sym two ∙ f) (team_cmp s cells u w) refl)),
-    )
+teams_follow s shown cells u w h k = (
+  ((λ e. lower s shown cells u w h (is_less _ e)), (λ l. better s shown cells u w k l (team_cmp s cells u w) refl)),
+  (λ e f. equal s shown cells u w (tied (team_cmp_total s cells) u w e f (team_cmp s cells u w) refl)),
+)
 
 abbrev Follow : Row → Row → Type 0
 Follow r q = ((beats r.score q.score ≡ true) ↔ (r.rank < q.rank)) × (beats r.score q.score ≡ false → beats q.score r.score ≡ false → r.rank ≡ q.rank)

@@ -15,7 +15,7 @@ use Rattle.contest_score.specs.declared.row.Row.{Row}
 use Rattle.contest_score.specs.declared.submission.JudgedSubmission.{JudgedSubmission}
 use Rattle.contest_score.specs.Scoring.{counted, cell_of_attempts, points}
 use Rattle.contest_score.specs.Ranking.{problem_order, board_rows, is_public}
-use Rattle.contest_score.specs.Masks.{cell_for}
+use Rattle.contest_score.specs.MaskedCells.{cell_for}
 
 abbrev accepted : Option Verdict
 accepted = Some (record { solving = true; penalised = false })

@@ -1,5 +1,5 @@
 -- Who is first to solve a problem.
-use Rattle.std.proofs.Common.{◌≡◌, ◌⊎◌, ℕ, ◌<◌, ◌≤◌, Bool, true, false, ltb, leb, List, [], ◌∷◌, ◌++◌, length, map, filter, Option, Some, None, refl, sym, ap, ◌∙◌, inl, inr, arith}
+use Rattle.std.proofs.Common.{◌≡◌, ◌⊎◌, ℕ, ◌<◌, ◌≤◌, Bool, true, false, leb, List, [], ◌∷◌, ◌++◌, length, map, filter, Option, Some, None, refl, sym, ap, ◌∙◌, inl, inr, arith}
 use Rattle.std.specs.Prelude.{◌↔◌, ◌==◌, nat_le, nat_lt, find, codes, count_by}
 use Rattle.std.specs.List.{cons_option, filter_map, list_all, list_any}
 use Rattle.std.specs.Option.{option_map}
@@ -20,12 +20,13 @@ use Rattle.contest_score.specs.declared.cell.Cell.{Cell}
 use Rattle.contest_score.specs.declared.row.Row.{Row}
 use Rattle.contest_score.specs.declared.solve.Solve.{Solve}
 use Rattle.contest_score.specs.Scoring.{is_solving, is_solved}
-use Rattle.contest_score.specs.Masks.{start_of}
+use Rattle.contest_score.specs.MaskedCells.{start_of}
 use Rattle.contest_score.specs.Ranking.{row_of, problem_order, problem_id_at, shown_teams}
 use Rattle.contest_score.specs.Contest.{seen_cell, board_for, solve_of, solves_of}
 use Rattle.contest_types.specs.ProblemPlaces.{label_at}
 use Rattle.contest_score.specs.Awards.{Award, winner, medals, first_solves, first_to_solve, group_winner, group_order, awards_of}
 use Rattle.contest_score.specs.AwardLaws.{IsFirst}
+use Rattle.contest_score.proofs.LeastOf.{least_of, some_length, below_or_past, is_lt_zero, is_leb, has_all}
 use Rattle.contest_score.proofs.CellSteps.{solved_cell}
 use Rattle.contest_score.proofs.AwardsAlike.{attempts_of}
 use Rattle.contest_score.proofs.BoardRows.{ranked_teams, ranked, shown_team_has, problem_stands}
@@ -52,22 +53,12 @@ gathered_from {X} {Y} F (x ∷ xs) y h =
     let later : GatheredFrom F xs y → GatheredFrom F (x ∷ xs) y = λ r. record { item = r.item; there = inr r.there; gives = r.gives } in
     elim (option_has (F x) (filter_map F xs) y h) [ inl e ↦ record { item = x; there = inl refl; gives = e } | inr t ↦ later (gathered_from F xs y t) ]
 
-has_all : {X : Type 0} (p : X → Bool) (xs : List X) → ((x : X) → Has xs x → p x ≡ true) → list_all p xs ≡ true
-has_all p [] h = refl
-has_all p (x ∷ xs) h = rw (h x (inl refl), has_all p xs (λ y k. h y (inr k))) refl
-
 some_counted : {X : Type 0} (p : X → Bool) (xs : List X) (x : X) → Has xs x → p x ≡ true → 0 < count_by p xs
 some_counted p [] x h e = absurd h
 some_counted {X} p (y ∷ xs) x h e = elim h [
   | inl i ↦ (let t : p y ≡ true = ap p (sym i) ∙ e in rw (count_more p y xs, t) (omega arith))
   | inr k ↦ (let rest = some_counted p xs x k e in omega (arith, count_more p y xs, rest))
 ]
-
-is_lt_zero : (n : ℕ) → 0 < n → ltb 0 n ≡ true
-is_lt_zero n h = grind (arith, nat_tests)
-
-is_leb : (m n : ℕ) → m ≤ n → leb m n ≡ true
-is_leb m n h = grind (arith, nat_tests)
 
 from_leb : (m n : ℕ) → leb m n ≡ true → m ≤ n
 from_leb m n h = grind (arith, nat_tests)
@@ -87,9 +78,6 @@ solve_is x team problem v h = of_its_own team problem (find is_solving (attempts
 public_within : (s : Setup) (team : ℕ) → is_public s team ≡ true → (team < length s.teams) ⊎ (length s.teams ≤ team) → team < length s.teams
 public_within s team h (inl l) = l
 public_within s team h (inr l) = (let none : is_public s team ≡ false = rw (slice_get_past s.teams team l) refl in absurd (false≢true (sym none ∙ h)))
-
-below_or_past : (k n : ℕ) → (k < n) ⊎ (n ≤ k)
-below_or_past k n = grind arith
 
 shown_has : (s : Setup) (team : ℕ) → is_public s team ≡ true → Has (shown_teams s (is_public s)) team
 shown_has s team h = shown_team_has s (is_public s) team (public_within s team h (below_or_past team (length s.teams))) h
@@ -206,33 +194,6 @@ pub first_award_is_of_the_first : (now : ℕ) (x : ContestState) (problem team :
     → Has (first_to_solve x.fixed.settings (board_for Jury now x) (solves_of x) problem).teams team ↔ IsFirst x problem team
 first_award_is_of_the_first now x problem team valid l = (is_first now x problem team valid l, given now x problem team valid l)
 
--- some solve is the earliest
-record Earliest (vs : List Solve) : Type 0 where
-  solve : Solve
-  there : Has vs solve
-  first : (w : Solve) → Has vs w → solve.time ≤ w.time
-
-with_one : (v : Solve) (vs : List Solve) → Earliest vs → Earliest (v ∷ vs)
-with_one v vs r =
-    let bound : (m : ℕ) → m ≤ v.time → m ≤ r.solve.time → (w : Solve) → Has (v ∷ vs) w → m ≤ w.time = λ m low lower w h.
-    elim h [ inl e ↦ (let t : w.time ≡ v.time = ap (λ (u : Solve). u.time) e in omega (arith, t, low)) | inr k ↦ (let t = r.first w k in omega (arith, t, lower)) ] in
-    elim (below_or_past v.time r.solve.time) [
-      | inl l ↦ record { solve = v; there = inl refl; first = bound v.time (omega arith) (omega (arith, l)) }
-      | inr l ↦ record { solve = r.solve; there = inr r.there; first = bound r.solve.time l (omega arith) }
-    ]
-
-earliest : (v : Solve) (vs : List Solve) → Earliest (v ∷ vs)
-earliest v [] = record { solve = v; there = inl refl; first = λ w h. elim h [ inl e ↦ (let t : w.time ≡ v.time = ap (λ (u : Solve). u.time) e in omega (arith, t)) | inr k ↦ absurd k ] }
-earliest v (w ∷ vs) = with_one v (w ∷ vs) (earliest w vs)
-
-earliest_of : (vs : List Solve) (v : Solve) → Has vs v → Earliest vs
-earliest_of [] v h = absurd h
-earliest_of (w ∷ vs) v h = earliest w vs
-
-some_length : {X : Type 0} (xs : List X) (x : X) → Has xs x → 0 < length xs
-some_length [] x h = absurd h
-some_length (y ∷ xs) x h = omega arith
-
 pub solved_has_a_first : (now : ℕ) (x : ContestState) (problem team : ℕ) (v : Solve) → IsValid x.fixed.settings → problem < length x.fixed.settings.problems
     → is_public x.fixed.settings team ≡ true → solve_of x team problem ≡ Some v
     → Has (awards_of x.fixed.settings (board_for Jury now x) (solves_of x)) (first_to_solve x.fixed.settings (board_for Jury now x) (solves_of x) problem)
@@ -241,16 +202,16 @@ solved_has_a_first now x problem team v valid l shown e =
     let rows = board_for Jury now x in
     let own : Solve → Bool = λ w. w.problem == problem in
     let at_problem : Has (of_problem problem (solves_of x)) v = has_filter own (solves_of x) v (solves_have x team problem v valid l shown e) (eq-eqb v.problem problem (solve_is x team problem v e).1) in
-    let r = earliest_of (of_problem problem (solves_of x)) v at_problem in
-    let f = filter_has own (solves_of x) r.solve r.there in
-    let b = solved_by x r.solve f.0 in
-    let one : IsFirst x problem r.solve.team = record {
+    let r = least_of (λ (w : Solve). w.time) (of_problem problem (solves_of x)) v at_problem in
+    let f = filter_has own (solves_of x) r.item r.there in
+    let b = solved_by x r.item f.0 in
+    let one : IsFirst x problem r.item.team = record {
       shown = b.shown;
-      solve = r.solve;
-      solved = ap (solve_of x r.solve.team) (sym (eqb-true r.solve.problem problem f.1)) ∙ b.is;
-      first = λ other w k i. r.first w (has_filter own (solves_of x) w (solves_have x other problem w valid l k i) (eq-eqb w.problem problem (solve_is x other problem w i).1));
+      solve = r.item;
+      solved = ap (solve_of x r.item.team) (sym (eqb-true r.item.problem problem f.1)) ∙ b.is;
+      first = λ other w k i. r.least w (has_filter own (solves_of x) w (solves_have x other problem w valid l k i) (eq-eqb w.problem problem (solve_is x other problem w i).1));
     } in
-    let many : 0 < length (the_award now x problem).teams = some_length (the_award now x problem).teams r.solve.team (given now x problem r.solve.team valid l one) in
+    let many : 0 < length (the_award now x problem).teams = some_length (the_award now x problem).teams r.item.team (given now x problem r.item.team valid l one) in
     let mapped : Has (map (first_to_solve s rows (solves_of x)) (problem_order s)) (the_award now x problem) = has_map (first_to_solve s rows (solves_of x)) (problem_order s) problem (problem_stands s valid problem l) in
     let groups = map (group_winner s rows) (group_order s) in
     has_filter (λ (w : Award). nat_lt 0 (length w.teams)) (winner rows ∷ medals s rows ++ map (first_to_solve s rows (solves_of x)) (problem_order s) ++ groups) (the_award now x problem)

@@ -11,6 +11,7 @@ use Rattle.std.proofs.lemmas.Cmp.{nat_cmp_total, nat_list_cmp_total, then_total,
 use Rattle.std.proofs.lemmas.Map.Lookups.{exact_bytes}
 use Rattle.contest_types.specs.declared.objects.Group.{Group}
 use Rattle.contest_types.specs.Setup.{Setup, IsValid}
+use Rattle.contest_types.specs.Order.{by_text}
 use Rattle.contest_types.proofs.Different.{one_place}
 use Rattle.contest_score.specs.declared.group_awards.GroupKey.{GroupKey}
 use Rattle.contest_score.specs.Keys.{TellsGroup}
@@ -24,16 +25,13 @@ key_cmp a b = ordering_then (slice_cmp nat_cmp a.id.now b.id.now) (nat_cmp a.pla
 key_cmp_total : IsTotalOrder key_cmp
 key_cmp_total = then_total (on_total (λ (k : GroupKey). k.id.now) nat_list_cmp_total) (on_total (λ (k : GroupKey). k.place) nat_cmp_total)
 
-abbrev group_cmp : Setup → ℕ → ℕ → Ordering
-group_cmp s g h = slice_cmp nat_cmp (group_id_at s g) (group_id_at s h)
-
-group_cmp_total : (s : Setup) → IsTotalOrder (group_cmp s)
+pub group_cmp_total : (s : Setup) → IsTotalOrder (by_text (group_id_at s))
 group_cmp_total s = on_total (group_id_at s) nat_list_cmp_total
 
 first_less : (x z : Ordering) → x ≡ Less → ordering_then x z ≡ Less
 first_less x z h = rw h refl
 
-follows : (s : Setup) → IsValid s → Follows key_cmp (λ k. k.place) (TellsGroup s.groups) (group_cmp s)
+follows : (s : Setup) → IsValid s → Follows key_cmp (λ k. k.place) (TellsGroup s.groups) (by_text (group_id_at s))
 follows s v = record {
   less = λ a b ta tb h. rw (ta.id, tb.id) (first_less _ (nat_cmp a.place b.place) h);
   exact = λ a b ta tb h. one_place (λ (g : Group). g.id) s.groups v.groups a.place b.place ta.within tb.within (exact_bytes _ _ h);

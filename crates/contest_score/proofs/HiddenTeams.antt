@@ -17,7 +17,7 @@ use Rattle.contest_types.specs.declared.submission.Submission.{Submission}
 use Rattle.contest_types.specs.declared.submission.Release.{Release}
 use Rattle.contest_types.proofs.PlaceLemmas.{and_left, and_right}
 use Rattle.contest_score.specs.Scoring.{cell_of_attempts}
-use Rattle.contest_score.specs.Masks.{start_of}
+use Rattle.contest_score.specs.MaskedCells.{start_of}
 use Rattle.contest_score.specs.Ranking.{problem_order}
 use Rattle.contest_score.specs.Contest.{seen_cell, board_for, solve_of, solves_of}
 use Rattle.contest_score.specs.Awards.{Award, awards_of, shows_awards, shown_awards}

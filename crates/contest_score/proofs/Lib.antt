@@ -27,4 +27,7 @@ pub mod HiddenTeams
 pub mod SameElements
 pub mod BoardRows
 pub mod MedalTeams
+pub mod LeastOf
 pub mod FirstTeams
+pub mod GroupWinners
+pub mod LastMinutes

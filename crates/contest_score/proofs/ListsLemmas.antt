@@ -7,7 +7,7 @@ use Rattle.contest_types.specs.declared.audience.Audience.{Audience}
 use Rattle.contest_types.specs.declared.submission.Submission.{Submission}
 use Rattle.contest_types.specs.declared.submission.Release.{Release}
 use Rattle.contest_score.specs.declared.submission.JudgedSubmission.{JudgedSubmission}
-use Rattle.contest_score.specs.Masks.{cell_for, IsAdmitted}
+use Rattle.contest_score.specs.MaskedCells.{cell_for, IsAdmitted}
 use Rattle.contest_score.specs.Contest.{seen_cell}
 use Rattle.contest_score.specs.LastVerdicts.{judged_by, last_type}
 use Rattle.contest_types.specs.Loads.{without_file}

@@ -21,7 +21,7 @@ use Rattle.contest_score.specs.declared.attempt.Attempt.{Attempt}
 use Rattle.contest_score.specs.declared.cell.Cell.{Cell}
 use Rattle.contest_score.specs.declared.submission.JudgedSubmission.{JudgedSubmission}
 use Rattle.contest_score.specs.Scoring.{is_solving, counted, cell_of_attempts}
-use Rattle.contest_score.specs.Masks.{verdict_of, attempt_under, is_by, attempts_under, start_of, cell_under}
+use Rattle.contest_score.specs.MaskedCells.{verdict_of, attempt_under, is_by, attempts_under, start_of, cell_under}
 use Rattle.contest_score.specs.Contest.{judged_submission, judged_submissions, contest_cell, seen_cell}
 use Rattle.contest_score.specs.Laws.{WhatCounts, with_freeze, without_frozen}
 use Rattle.contest_score.specs.ScoringLaws.{seen_attempt}

@@ -30,7 +30,7 @@ use Rattle.contest_types.proofs.SeenWhole.{one_submission}
 use Rattle.contest_score.specs.declared.attempt.Attempt.{Attempt}
 use Rattle.contest_score.specs.declared.submission.JudgedSubmission.{JudgedSubmission}
 use Rattle.contest_score.specs.Scoring.{cell_of_attempts}
-use Rattle.contest_score.specs.Masks.{attempt_under, is_by, start_of, cell_under}
+use Rattle.contest_score.specs.MaskedCells.{attempt_under, is_by, start_of, cell_under}
 use Rattle.contest_score.specs.Contest.{judged_submission, judged_submissions, seen_cell, board_for}
 use Rattle.contest_score.specs.Awards.{shown_awards}
 use Rattle.contest_score.specs.ScoringLaws.{can_score, can_award, is_at, bears_on}

@@ -1,10 +1,10 @@
 -- A board is the scoring of what its reader may see.
-use Rattle.std.proofs.Common.{◌≡◌, ℕ, Bool, true, false, List, [], ◌∷◌, ◌++◌, refl, sym, ap, ◌∙◌, inl, inr, append_assoc}
-use Rattle.std.specs.Prelude.{◌||◌}
+use Rattle.std.proofs.Common.{◌≡◌, ℕ, Bool, true, false, List, [], ◌∷◌, ◌++◌, Option, refl, sym, ap, ◌∙◌, inl, inr, append_assoc}
+use Rattle.std.specs.Prelude.{◌&&◌, ◌||◌, is_none, if◌then◌else◌}
 use Rattle.std.specs.List.{list_any}
 use Rattle.std.proofs.lemmas.List.Folds.{list_any-append}
-use Rattle.contest_types.specs.Clock.{is_thawed}
-use Rattle.contest_types.specs.Masks.{knows_all_of, mask_for}
+use Rattle.contest_types.specs.Clock.{freeze_of, is_thawed, is_finalized}
+use Rattle.contest_types.specs.Masks.{is_jury, knows_all_of, mask_for}
 use Rattle.contest_types.specs.State.{ContestState}
 use Rattle.contest_types.specs.Sight.{sees_team}
 use Rattle.contest_types.specs.TeamPlaces.{is_public}
@@ -14,10 +14,12 @@ use Rattle.contest_types.specs.declared.marks.Marks.{Marks}
 use Rattle.contest_types.specs.declared.mask.Mask.TheVariants.{Full}
 use Rattle.contest_score.specs.declared.attempt.Attempt.{Attempt}
 use Rattle.contest_score.specs.Scoring.{is_solving, cell_of_attempts}
-use Rattle.contest_score.specs.Masks.{start_of}
+use Rattle.contest_score.specs.MaskedCells.{start_of}
 use Rattle.contest_score.specs.Ranking.{board_rows}
-use Rattle.contest_score.specs.Contest.{contest_cell, seen_cell, board_for}
-use Rattle.contest_score.specs.ScoringLaws.{scored_by_sight, HoldsNothing}
+use Rattle.contest_score.specs.Contest.{contest_cell, seen_cell, board_for, solves_of}
+use Rattle.contest_score.specs.Awards.{awards_of, shows_awards, shown_awards}
+use Rattle.contest_score.specs.Laws.{with_freeze}
+use Rattle.contest_score.specs.ScoringLaws.{scored_by_sight, HoldsNothing, with_thaw}
 use Rattle.contest_score.proofs.CellSteps.{cell_past}
 use Rattle.contest_score.proofs.MaskLemmas.{attempts_seen}
 use Rattle.contest_score.proofs.BoardAlike.{board_same, seen_of_public}
@@ -46,6 +48,34 @@ pub all_read_the_jurys_board : (a : Audience) (now : ℕ) (x : ContestState) →
 all_read_the_jurys_board a now x h =
     let s = x.fixed.settings in
     board_same s (is_public s) (seen_cell a now x) (seen_cell Jury now x) (λ u p e. all_read_the_jurys_cells a now x u p h)
+
+last_true : (b c : Bool) → (b || c || true) ≡ true
+last_true true c = refl
+last_true false true = refl
+last_true false false = refl
+
+middle_true : (b c : Bool) → (b || true || c) ≡ true
+middle_true true c = refl
+middle_true false c = refl
+
+shown_to_all : (a : Audience) (now : ℕ) (x : ContestState) → HoldsNothing now x → shows_awards a now x ≡ shows_awards Jury now x
+shown_to_all a now x h =
+    let none = is_none (freeze_of x.fixed.settings x.fixed.marks) in
+    let thawed = is_thawed x.fixed.marks now in
+    let same : (b c : Bool) → c ≡ true → (is_jury a || b || c) ≡ true = λ b c e. rw e (last_true (is_jury a) b) in
+    let any : (is_jury a || none || thawed) ≡ true = elim h [
+      | inl e ↦ same none thawed e
+      | inr e ↦ (rw e (middle_true (is_jury a) thawed))
+    ] in
+    ap (λ b. is_finalized x.fixed.marks now && b) any
+
+pub all_read_the_jurys_awards : (a : Audience) (now : ℕ) (x : ContestState) → HoldsNothing now x → shown_awards a now x ≡ shown_awards Jury now x
+all_read_the_jurys_awards a now x h =
+    let list = awards_of x.fixed.settings (board_for Jury now x) (solves_of x) in
+    ap (λ b. if b then list else []) (shown_to_all a now x h)
+
+pub jurys_board_ignores_the_freeze : (now : ℕ) (x : ContestState) (freeze thaw : Option ℕ) → board_for Jury now (with_thaw (with_freeze x freeze) thaw) ≡ board_for Jury now x
+jurys_board_ignores_the_freeze now x freeze thaw = refl
 
 pub jurys_board_stays : (now later : ℕ) (x : ContestState) → board_for Jury now x ≡ board_for Jury later x
 jurys_board_stays now later x = refl

@@ -14,9 +14,9 @@ use Rattle.contest_types.specs.declared.audience.Audience.{Audience}
 use Rattle.contest_score.specs.declared.cell.Cell.{Cell}
 use Rattle.contest_types.specs.declared.mask.Mask.{Mask}
 use Rattle.contest_score.specs.declared.submission.JudgedSubmission.{JudgedSubmission}
-use Rattle.contest_score.specs.Counting.{HasRoom, cell_with}
-use Rattle.contest_score.specs.Table.{no_attempts, cell_in, cells_table, row_at, with_cell}
-use Rattle.contest_score.specs.Masks.{mask_for, is_by, attempt_under, attempts_under, start_of, cell_for, IsAdmitted}
+use Rattle.contest_score.specs.Counting.{HasRoom, cell_with, cells_table, row_at, with_cell}
+use Rattle.contest_score.specs.Table.{no_attempts, cell_in}
+use Rattle.contest_score.specs.MaskedCells.{mask_for, is_by, attempt_under, attempts_under, start_of, cell_for, IsAdmitted}
 use Rattle.contest_score.proofs.CellSteps.{cell_more, cell_room}
 
 -- one place of a list by places is set

@@ -2,8 +2,9 @@
 -- src/scoring_laws.rt.
 use Rattle.std.specs.Prelude.{◌≡◌, ◌↔◌, ◌==◌, ◌&&◌, ◌+◌, ◌<◌, ◌≤◌, ℕ, Bool, true, nat_lt, nat_le, List, length, count_by, Some, if◌then◌else◌}
 use Rattle.std.specs.List.{list_any}
+use Rattle.std.specs.Ordering.{is_lt}
 use Rattle.contest_types.specs.Setup.{Setup, IsValid}
-use Rattle.contest_types.specs.Order.{Has}
+use Rattle.contest_types.specs.Order.{by_text, Has, IsInOrder}
 use Rattle.contest_types.specs.State.{ContestState}
 use Rattle.contest_types.specs.declared.audience.Audience.TheVariants.{Jury}
 use Rattle.contest_score.specs.declared.cell.Cell.{Cell}
@@ -11,7 +12,7 @@ use Rattle.contest_score.specs.declared.row.Row.{Row}
 use Rattle.contest_score.specs.declared.solve.Solve.{Solve}
 use Rattle.contest_score.specs.Ranking.{board_rows, is_public}
 use Rattle.contest_score.specs.Contest.{board_for, solve_of, solves_of}
-use Rattle.contest_score.specs.Awards.{Award, medals, first_to_solve, awards_of}
+use Rattle.contest_score.specs.Awards.{Award, winners, medals, first_to_solve, is_in_group, group_id_at, group_winner, group_order, awards_of}
 use Rattle.contest_score.specs.BoardLaws.{teams_of}
 
 -- the team is among those that have the award
@@ -56,3 +57,15 @@ SolvedHasAFirst =
     (now : ℕ) (x : ContestState) (problem team : ℕ) (v : Solve) → IsValid x.fixed.settings → problem < length x.fixed.settings.problems
     → is_public x.fixed.settings team ≡ true → solve_of x team problem ≡ Some v
     → Has (awards_of x.fixed.settings (board_for Jury now x) (solves_of x)) (first_to_solve x.fixed.settings (board_for Jury now x) (solves_of x) problem)
+
+-- with valid settings each group stands once in their order, by id, and no other place does
+abbrev pub GroupsStandOnce : Type 0
+GroupsStandOnce =
+    (s : Setup) → IsValid s
+    → ((group : ℕ) → Has (group_order s) group ↔ (group < length s.groups)) × IsInOrder (λ g h. is_lt (by_text (group_id_at s) g h)) (group_order s)
+
+-- and the group's award is given where a team of it that is on the board solved a problem
+abbrev pub SolvedHasAGroupWinner : Type 0
+SolvedHasAGroupWinner =
+    (s : Setup) (rows : List Row) (solves : List Solve) (group : ℕ) (r : Row) → IsValid s → group < length s.groups
+    → Has (winners rows) r → is_in_group s group r ≡ true → Has (awards_of s rows solves) (group_winner s rows group)

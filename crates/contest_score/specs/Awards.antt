@@ -2,8 +2,6 @@
 use Rattle.std.specs.Prelude.{ℕ, ◌+◌, Bool, ◌&&◌, ◌||◌, ◌==◌, nat_lt, nat_le, List, [], ◌∷◌, ◌++◌, length, map, filter, is_none, if◌then◌else◌, codes, slice_get}
 use Rattle.std.specs.List.{list_any, list_all, range_with_len}
 use Rattle.std.specs.Option.{option_map_or}
-use Rattle.std.specs.Ordering.{nat_cmp}
-use Rattle.std.specs.Cmp.Lexicographic.{slice_cmp}
 use Rattle.contest_types.specs.Setup.{Setup}
 use Rattle.contest_types.specs.Clock.{freeze_of, is_thawed, is_finalized}
 use Rattle.contest_types.specs.ProblemPlaces.{label_at}
@@ -15,7 +13,7 @@ use Rattle.contest_types.specs.declared.audience.Audience.TheVariants.{Jury}
 pub use Rattle.contest_score.specs.declared.award.Award.{Award}
 use Rattle.contest_score.specs.declared.row.Row.{Row}
 use Rattle.contest_score.specs.declared.solve.Solve.{Solve}
-use Rattle.contest_score.specs.Ranking.{in_order, problem_order, problem_id_at}
+use Rattle.contest_score.specs.Ranking.{by_text, in_order, problem_order, problem_id_at}
 use Rattle.contest_score.specs.Contest.{board_for, solves_of}
 
 -- only a team that solved a problem wins anything
@@ -72,7 +70,7 @@ group_winner s rows group =
 
 -- the groups by id
 abbrev pub group_order : Setup → List ℕ
-group_order s = in_order (λ g h. slice_cmp nat_cmp (group_id_at s g) (group_id_at s h)) (range_with_len 0 (length s.groups))
+group_order s = in_order (by_text (group_id_at s)) (range_with_len 0 (length s.groups))
 
 -- an award that no team has isn't listed
 abbrev pub listed : List Award → List Award

@@ -1,10 +1,9 @@
 -- What a contest director may ask of a board, whatever teams it shows and cells it is made of. Each is
 -- the contract of a function of src/scoring_laws.rt.
-use Rattle.std.specs.Prelude.{◌≡◌, ◌↔◌, ◌==◌, ◌+◌, ◌<◌, ℕ, Bool, true, false, not, List, length, map, count_by}
-use Rattle.std.specs.Ordering.{is_lt, nat_cmp, ordering_then}
-use Rattle.std.specs.Cmp.Lexicographic.{slice_cmp}
+use Rattle.std.specs.Prelude.{◌≡◌, ◌↔◌, ◌==◌, ◌+◌, ◌<◌, ℕ, Bool, true, false, not, List, [], ◌∷◌, length, map, count_by}
+use Rattle.std.specs.Ordering.{is_lt}
 use Rattle.contest_types.specs.Setup.{Setup, IsValid}
-use Rattle.contest_types.specs.Order.{Has, IsInOrder}
+use Rattle.contest_types.specs.Order.{by_number, by_text, by_each, Has, IsInOrder}
 use Rattle.contest_score.specs.declared.cell.Cell.{Cell}
 use Rattle.contest_score.specs.declared.row.Row.{Row}
 use Rattle.contest_score.specs.Ranking.{board_rows, name_at, team_id_at, problem_cmp, problem_order, beats}
@@ -25,10 +24,7 @@ NoTeamStandsTwice = (s : Setup) (is_shown : ℕ → Bool) (cells : ℕ → ℕ �
 
 -- the first row has a smaller rank, or the same and a smaller name, or both the same and a smaller id
 abbrev pub stands_above : Setup → Row → Row → Bool
-stands_above s r q =
-    is_lt
-    (ordering_then (nat_cmp r.rank q.rank)
-    (ordering_then (slice_cmp nat_cmp (name_at s r.team) (name_at s q.team)) (slice_cmp nat_cmp (team_id_at s r.team) (team_id_at s q.team))))
+stands_above s r q = is_lt (by_each (by_number (λ t. t.rank) ∷ by_text (λ t. name_at s t.team) ∷ by_text (λ t. team_id_at s t.team) ∷ []) r q)
 
 -- each row stands above all that follow
 abbrev pub RowsStandInOrder : Type 0

@@ -16,7 +16,7 @@ use Rattle.contest_score.specs.declared.solve.Solve.{Solve}
 use Rattle.contest_score.specs.declared.submission.JudgedSubmission.{JudgedSubmission}
 use Rattle.contest_score.specs.Scoring.{is_solving}
 use Rattle.contest_score.specs.Ranking.{board_rows, is_public, problem_order, shown_teams}
-use Rattle.contest_score.specs.Masks.{attempts_under, cell_under, cell_for}
+use Rattle.contest_score.specs.MaskedCells.{attempts_under, cell_under, cell_for}
 
 -- a submission as scoring reads it: with the verdict that was released last
 abbrev pub judged_submission : ContestState → Submission → JudgedSubmission

@@ -1,5 +1,7 @@
--- How a cell grows, attempt by attempt.
-use Rattle.std.specs.Prelude.{ℕ, ◌+◌, ◌<◌, ◌^◌, not, ◌&&◌, if◌then◌else◌, Option, Some, None}
+-- How a cell grows, attempt by attempt, and a list of cells with it.
+-- Words of private functions: nothing public is said with them.
+use Rattle.std.specs.Prelude.{ℕ, ◌+◌, ◌<◌, ◌^◌, not, ◌&&◌, if◌then◌else◌, List, [], map, Option, Some, None, slice_get, slice_set}
+use Rattle.std.specs.List.{range_with_len}
 use Rattle.contest_types.specs.declared.minute.Minute.{Minute}
 use Rattle.contest_score.specs.declared.attempt.Verdict.{Verdict}
 use Rattle.contest_score.specs.declared.attempt.Attempt.{Attempt}
@@ -28,3 +30,19 @@ pub record HasRoom (c : Cell) : Type 0 where
   pub judged : c.judged + 1 < 2 ^ 32
   pub pending : c.pending + 1 < 2 ^ 32
   pub penalties : c.penalties + 1 < 2 ^ 32
+
+-- the lists of the cells of these many teams and problems
+abbrev pub cells_table : (ℕ → ℕ → Cell) → ℕ → ℕ → List (List Cell)
+cells_table cells teams problems = map (λ team. map (cells team) (range_with_len 0 problems)) (range_with_len 0 teams)
+
+abbrev pub row_or_none : Option (List Cell) → List Cell
+row_or_none None = []
+row_or_none (Some row) = row
+
+-- the row of a team
+abbrev pub row_at : List (List Cell) → ℕ → List Cell
+row_at rows team = row_or_none (slice_get rows team)
+
+-- the lists with this cell at a team and a problem
+abbrev pub with_cell : List (List Cell) → ℕ → ℕ → Cell → List (List Cell)
+with_cell rows team problem c = slice_set rows team (slice_set (row_at rows team) problem c)

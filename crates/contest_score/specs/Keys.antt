@@ -1,8 +1,7 @@
 -- What the sorts of the board go by.
 -- Words of private functions: nothing public is said with them.
-use Rattle.std.specs.Prelude.{◌≡◌, ℕ, ◌+◌, ◌<◌, List, [], length, slice_get}
+use Rattle.std.specs.Prelude.{◌≡◌, ℕ, ◌+◌, ◌<◌, List, [], ◌∷◌, length, slice_get}
 use Rattle.std.specs.Option.{option_map_or}
-use Rattle.std.specs.Ordering.{nat_cmp, ordering_then}
 use Rattle.std.specs.declared.cmp.Ordering.{Ordering}
 use Rattle.contest_types.specs.declared.objects.Group.{Group}
 use Rattle.contest_types.specs.declared.objects.Problem.{Problem}
@@ -12,7 +11,7 @@ use Rattle.contest_score.specs.declared.group_awards.GroupKey.{GroupKey}
 use Rattle.contest_score.specs.declared.order.ProblemKey.{ProblemKey}
 use Rattle.contest_score.specs.declared.standings.Standing.{Standing}
 use Rattle.contest_score.specs.declared.row.Row.{Row}
-use Rattle.contest_score.specs.Ranking.{ordinal_at, problem_id_at, score_of_team, cells_of_team, last_minute, name_at, team_id_at, place_in}
+use Rattle.contest_score.specs.Ranking.{by_number, by_most, by_each, ordinal_at, problem_id_at, score_of_team, cells_of_team, last_minute, name_at, team_id_at, place_in}
 
 -- the key is that of the problem at its place
 pub record TellsProblem (ps : List Problem) (k : ProblemKey) : Type 0 where
@@ -36,7 +35,7 @@ pub record TellsTeam (s : Setup) (cells : ℕ → ℕ → Cell) (k : Standing) :
 
 -- by most solved, least total, earliest last
 abbrev pub standing_cmp : Standing → Standing → Ordering
-standing_cmp a b = ordering_then (nat_cmp b.solved.0 a.solved.0) (ordering_then (nat_cmp a.total b.total) (nat_cmp a.last b.last))
+standing_cmp = by_each (by_most (λ k. k.solved.0) ∷ by_number (λ k. k.total) ∷ by_number (λ k. k.last) ∷ [])
 
 -- one more than the standings of the list that are better
 abbrev pub rank_in : List Standing → Standing → ℕ

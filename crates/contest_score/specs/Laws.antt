@@ -16,7 +16,7 @@ use Rattle.contest_score.specs.declared.attempt.Attempt.{Attempt}
 use Rattle.contest_score.specs.declared.cell.Cell.{Cell}
 use Rattle.contest_score.specs.declared.submission.JudgedSubmission.{JudgedSubmission}
 use Rattle.contest_score.specs.Scoring.{is_solving, counted}
-use Rattle.contest_score.specs.Masks.{cell_under}
+use Rattle.contest_score.specs.MaskedCells.{cell_under}
 use Rattle.contest_score.specs.Ranking.{board_rows, is_public}
 use Rattle.contest_types.specs.Loads.{without_file}
 use Rattle.contest_score.specs.Lists.{CanBeScored}

@@ -2,7 +2,7 @@ pub mod Scoring
 pub mod Ranking
 pub mod Keys
 pub mod Table
-pub mod Masks
+pub mod MaskedCells
 pub mod Counting
 pub mod Contest
 pub mod LastVerdicts

@@ -1,15 +1,14 @@
 -- Ranks and the board (Contest Control System Requirements, "Scoring": most solved, least time,
 -- earliest last accepted, shared ranks). Teams and problems go by their places in the settings'
 -- lists, from 0. The shown teams are any set of them: those that aren't hidden, or some of these.
-use Rattle.std.specs.Prelude.{ℕ, ◌+◌, Bool, ◌&&◌, ◌||◌, ◌==◌, nat_lt, List, length, map, filter, count_by, slice_get}
+use Rattle.std.specs.Prelude.{ℕ, ◌+◌, Bool, List, [], ◌∷◌, length, map, filter, count_by, slice_get}
 use Rattle.std.specs.List.{range_with_len}
 use Rattle.std.specs.Option.{option_map_or}
-use Rattle.std.specs.Ordering.{nat_cmp, ordering_then}
-use Rattle.std.specs.Cmp.Lexicographic.{slice_cmp}
+use Rattle.std.specs.Ordering.{is_lt}
 use Rattle.std.specs.declared.cmp.Ordering.{Ordering}
 use Rattle.contest_types.specs.declared.objects.Problem.{Problem}
 use Rattle.contest_types.specs.Setup.{Setup}
-pub use Rattle.contest_types.specs.Order.{place_in, in_order}
+pub use Rattle.contest_types.specs.Order.{by_number, by_most, by_text, by_each, place_in, in_order}
 pub use Rattle.contest_types.specs.ProblemPlaces.{problem_id_at}
 pub use Rattle.contest_types.specs.TeamPlaces.{team_places, name_at, team_id_at, is_public}
 use Rattle.contest_score.specs.declared.cell.Cell.{Cell}
@@ -22,7 +21,7 @@ ordinal_at ps p = option_map_or (λ q. q.ordinal) (slice_get ps p) 0
 
 -- by ordinal, then id
 abbrev pub problem_cmp : List Problem → ℕ → ℕ → Ordering
-problem_cmp ps p q = ordering_then (nat_cmp (ordinal_at ps p) (ordinal_at ps q)) (slice_cmp nat_cmp (problem_id_at ps p) (problem_id_at ps q))
+problem_cmp ps = by_each (by_number (ordinal_at ps) ∷ by_text (problem_id_at ps) ∷ [])
 
 -- the problems in the order of the board
 abbrev pub problem_order : Setup → List ℕ
@@ -39,9 +38,13 @@ score_of_team s cells u = score_of_cells s.head.penalty_time (cells_of_team s ce
 abbrev pub last_minute : Score → ℕ
 last_minute a = option_map_or (λ m. m.0) a.last 0
 
--- more solved; or as many and less total; or both equal and a smaller last
+-- by most solved, then least total, then earliest last
+abbrev pub score_cmp : Score → Score → Ordering
+score_cmp = by_each (by_most (λ a. a.solved) ∷ by_number (λ a. a.total) ∷ by_number last_minute ∷ [])
+
+-- the first is better
 abbrev pub beats : Score → Score → Bool
-beats a b = nat_lt b.solved a.solved || ((a.solved == b.solved) && (nat_lt a.total b.total || ((a.total == b.total) && nat_lt (last_minute a) (last_minute b))))
+beats a b = is_lt (score_cmp a b)
 
 -- the shown teams, in the settings' order
 abbrev pub shown_teams : Setup → (ℕ → Bool) → List ℕ
@@ -53,7 +56,7 @@ rank_of s is_shown cells u = 1 + count_by (λ w. beats (score_of_team s cells w)
 
 -- by rank, then name, then id
 abbrev pub row_cmp : Setup → (ℕ → Bool) → (ℕ → ℕ → Cell) → ℕ → ℕ → Ordering
-row_cmp s is_shown cells u w = ordering_then (nat_cmp (rank_of s is_shown cells u) (rank_of s is_shown cells w)) (ordering_then (slice_cmp nat_cmp (name_at s u) (name_at s w)) (slice_cmp nat_cmp (team_id_at s u) (team_id_at s w)))
+row_cmp s is_shown cells = by_each (by_number (rank_of s is_shown cells) ∷ by_text (name_at s) ∷ by_text (team_id_at s) ∷ [])
 
 abbrev pub row_of : Setup → (ℕ → Bool) → (ℕ → ℕ → Cell) → ℕ → Row
 row_of s is_shown cells u = record { team = u; rank = rank_of s is_shown cells u; score = score_of_team s cells u; cells = cells_of_team s cells u }

@@ -69,9 +69,13 @@ abbrev pub later_of : Option Minute → Minute → Option Minute
 later_of None m = Some m
 later_of (Some n) m = Some (if nat_lt n.0 m.0 then m else n)
 
--- the greatest minute of the solved problems, if any
+-- the minutes of the solved problems
+abbrev pub solved_minutes : List Cell → List Minute
+solved_minutes cs = filter_map (λ c. c.solved) cs
+
+-- the greatest of them, if any
 abbrev pub last_of : List Cell → Option Minute
-last_of cs = fold later_of None (filter_map (λ c. c.solved) cs)
+last_of cs = fold later_of None (solved_minutes cs)
 
 abbrev pub score_of_cells : ℕ → List Cell → Score
 score_of_cells penalty_time cs = record {

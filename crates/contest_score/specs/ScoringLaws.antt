@@ -1,10 +1,10 @@
 -- What a contest director may ask of the scoring, in the subject's words. Each is the contract of a
 -- function of src/scoring_laws.rt.
-use Rattle.std.specs.Prelude.{◌≡◌, ◌≢◌, ◌⊎◌, ◌==◌, ◌&&◌, ℕ, Bool, true, false, List, [], ◌∷◌, ◌++◌, map, filter, None}
+use Rattle.std.specs.Prelude.{◌≡◌, ◌≢◌, ◌⊎◌, ◌==◌, ◌&&◌, ℕ, Bool, true, false, List, [], ◌∷◌, ◌++◌, map, filter, Option, Some, None, ◌≤◌}
 use Rattle.std.specs.List.{list_any}
 use Rattle.contest_types.specs.Clock.{freeze_of, is_thawed}
 use Rattle.contest_types.specs.Order.{Has}
-use Rattle.contest_types.specs.State.{ContestState, add, names, of_release}
+use Rattle.contest_types.specs.State.{ContestState, with_marks, add, names, of_release}
 use Rattle.contest_types.specs.declared.entry.Entry.{Entry}
 use Rattle.contest_types.specs.declared.entry.Entry.TheVariants.{NewSubmission, NewRelease, SetStart, SetThaw, SetFinalized, NewType, NewProblem, NewGroup, NewTeam}
 use Rattle.contest_types.specs.Sight.{SeenSubmission, type_of, sees_team, seen_of_team}
@@ -12,15 +12,17 @@ use Rattle.contest_types.specs.Valid.{is_valid}
 use Rattle.contest_types.specs.declared.audience.Audience.{Audience}
 use Rattle.contest_types.specs.declared.audience.Audience.TheVariants.{Jury}
 use Rattle.contest_types.specs.declared.objects.JudgementType.{JudgementType}
+use Rattle.contest_types.specs.declared.minute.Minute.{Minute}
 use Rattle.contest_types.specs.declared.submission.Submission.{Submission}
 use Rattle.contest_types.specs.declared.submission.Release.{Release}
 use Rattle.contest_score.specs.declared.attempt.Attempt.{Attempt}
 use Rattle.contest_score.specs.declared.cell.Cell.{Cell}
-use Rattle.contest_score.specs.Scoring.{is_solving, cell_of_attempts}
-use Rattle.contest_score.specs.Masks.{verdict_of, start_of}
+use Rattle.contest_score.specs.Scoring.{is_solving, cell_of_attempts, solved_minutes, last_of}
+use Rattle.contest_score.specs.MaskedCells.{verdict_of, start_of}
 use Rattle.contest_score.specs.Ranking.{board_rows, is_public}
 use Rattle.contest_score.specs.Contest.{seen_cell, board_for}
 use Rattle.contest_score.specs.Awards.{shown_awards}
+use Rattle.contest_score.specs.Laws.{with_freeze}
 
 -- a submission that is seen, as scoring takes it: its time, and the verdict that is seen on it
 abbrev pub seen_attempt : List JudgementType → SeenSubmission → Attempt
@@ -58,9 +60,22 @@ AllReadTheJurysCells =
 abbrev pub AllReadTheJurysBoard : Type 0
 AllReadTheJurysBoard = (a : Audience) (now : ℕ) (x : ContestState) → HoldsNothing now x → board_for a now x ≡ board_for Jury now x
 
+-- and the jury's awards
+abbrev pub AllReadTheJurysAwards : Type 0
+AllReadTheJurysAwards = (a : Audience) (now : ℕ) (x : ContestState) → HoldsNothing now x → shown_awards a now x ≡ shown_awards Jury now x
+
 -- the jury's board is the same at every moment
 abbrev pub JurysBoardStays : Type 0
 JurysBoardStays = (now later : ℕ) (x : ContestState) → board_for Jury now x ≡ board_for Jury later x
+
+-- the contest with another thaw, or none
+abbrev pub with_thaw : ContestState → Option ℕ → ContestState
+with_thaw x thaw = with_marks x (record x.fixed.marks { thaw = thaw })
+
+-- and it is the same whatever the freeze and the thaw
+abbrev pub JurysBoardIgnoresTheFreeze : Type 0
+JurysBoardIgnoresTheFreeze =
+    (now : ℕ) (x : ContestState) (freeze thaw : Option ℕ) → board_for Jury now (with_thaw (with_freeze x freeze) thaw) ≡ board_for Jury now x
 
 -- a submission of the team, or a release on one
 abbrev pub is_of_team : ℕ → Entry → Bool
@@ -141,3 +156,10 @@ abbrev pub NothingAfterAccepted : Type 0
 NothingAfterAccepted =
     (start : ℕ) (earlier : List Attempt) (a : Attempt) (later : List Attempt) → is_solving a ≡ true
     → cell_of_attempts start (earlier ++ a ∷ later) ≡ cell_of_attempts start (earlier ++ a ∷ [])
+
+-- the last solved minute is that of a solved problem, and none is later; nothing is solved where there is none
+abbrev pub LastIsTheLatest : Type 0
+LastIsTheLatest =
+    (cells : List Cell)
+    → ((m : Minute) → last_of cells ≡ Some m → Has (solved_minutes cells) m × ((n : Minute) → Has (solved_minutes cells) n → n.0 ≤ m.0))
+    × (last_of cells ≡ None → solved_minutes cells ≡ [])

@@ -1,9 +1,9 @@
 //! The cells of a list of submissions, counted in one pass.
 ghost use Rattle.std.specs.Prelude.{◌≡◌, ◌<◌, ◌^◌, length, IfOk, IfErr, map, All};
 ghost use Rattle.std.specs.List.{range_with_len};
-ghost use Rattle.contest_score.specs.Counting.{HasRoom, cell_with};
-ghost use Rattle.contest_score.specs.Table.{no_attempts, cell_in, cells_table, row_at, with_cell};
-ghost use Rattle.contest_score.specs.Masks.{mask_for, verdict_of, attempt_under, start_of, cell_for, IsAdmitted};
+ghost use Rattle.contest_score.specs.Counting.{HasRoom, cell_with, cells_table, row_at, with_cell};
+ghost use Rattle.contest_score.specs.Table.{no_attempts, cell_in};
+ghost use Rattle.contest_score.specs.MaskedCells.{mask_for, verdict_of, attempt_under, start_of, cell_for, IsAdmitted};
 
 use crate::attempt::{Attempt, Verdict};
 use crate::cell::Cell;

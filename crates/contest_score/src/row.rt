@@ -40,7 +40,7 @@ impl CellRow {
     }
 
     /// Counts one more attempt at the problem at a place.
-    pub fn count(&mut self, problem: usize, start: Moment, attempt: Attempt)
+    pub(crate) fn count(&mut self, problem: usize, start: Moment, attempt: Attempt)
         requires there { problem < length self.old }
         requires room { HasRoom (cell_or_none (slice_get self.old problem)) }
         requires started { start ≤ attempt.time }

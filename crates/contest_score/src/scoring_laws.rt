@@ -1,8 +1,8 @@
 //! Laws of the scoring that a contest director may ask for: functions that do nothing, and whose
 //! contracts say what holds of every contest and every board.
-ghost use Rattle.contest_score.specs.ScoringLaws.{CellsScoreTheSeen, BoardsScoreTheSeen, AllReadTheJurysCells, AllReadTheJurysBoard, JurysBoardStays, HiddenMovesNoBoard, HiddenMovesNoAward, NothingElseScores, NothingElseAwards, SubmissionMovesOneCell, ReleaseMovesItsCell, ReleaseMovesOneCell, NothingAfterAccepted};
+ghost use Rattle.contest_score.specs.ScoringLaws.{CellsScoreTheSeen, BoardsScoreTheSeen, AllReadTheJurysCells, AllReadTheJurysBoard, AllReadTheJurysAwards, JurysBoardStays, JurysBoardIgnoresTheFreeze, HiddenMovesNoBoard, HiddenMovesNoAward, NothingElseScores, NothingElseAwards, SubmissionMovesOneCell, ReleaseMovesItsCell, ReleaseMovesOneCell, NothingAfterAccepted, LastIsTheLatest};
 ghost use Rattle.contest_score.specs.BoardLaws.{ShownTeamsStand, NoTeamStandsTwice, RowsStandInOrder, RowsHaveEachProblem, ProblemsStandOnce, RanksCountTheBetter, RanksFollowTheScores};
-ghost use Rattle.contest_score.specs.AwardLaws.{OneMedalATeam, NoMedalOffTheBoard, FirstAwardIsOfTheFirst, SolvedHasAFirst};
+ghost use Rattle.contest_score.specs.AwardLaws.{OneMedalATeam, NoMedalOffTheBoard, FirstAwardIsOfTheFirst, SolvedHasAFirst, GroupsStandOnce, SolvedHasAGroupWinner};
 
 /// Each cell is pass-fail scoring of the verdicts that its reader may see.
 pub fn cells_score_the_seen()
@@ -24,9 +24,19 @@ pub fn all_read_the_jurys_board()
     ensures { AllReadTheJurysBoard }
 {}
 
+/// And the jury's awards.
+pub fn all_read_the_jurys_awards()
+    ensures { AllReadTheJurysAwards }
+{}
+
 /// The jury's board is the same at every moment.
 pub fn jurys_board_stays()
     ensures { JurysBoardStays }
+{}
+
+/// And whatever the freeze and the thaw.
+pub fn jurys_board_ignores_the_freeze()
+    ensures { JurysBoardIgnoresTheFreeze }
 {}
 
 /// Whatever a hidden team submits and gets moves nothing on any board.
@@ -68,6 +78,11 @@ pub fn release_moves_one_cell()
 /// Attempts after an accepted one change nothing of its cell.
 pub fn nothing_after_accepted()
     ensures { NothingAfterAccepted }
+{}
+
+/// The last solved minute of a score is that of a solved problem, and none is later.
+pub fn last_is_the_latest()
+    ensures { LastIsTheLatest }
 {}
 
 /// Each shown team stands on the board, and no other.
@@ -125,4 +140,14 @@ pub fn first_award_is_of_the_first()
 /// Where a shown team solved a problem, the award for the first to solve it is given.
 pub fn solved_has_a_first()
     ensures { SolvedHasAFirst }
+{}
+
+/// Each group stands once in the order of the awards, by id.
+pub fn groups_stand_once()
+    ensures { GroupsStandOnce }
+{}
+
+/// Where a team of a group solved a problem, the award for the group's winner is given.
+pub fn solved_has_a_group_winner()
+    ensures { SolvedHasAGroupWinner }
 {}

@@ -1,7 +1,7 @@
 //! Submissions as scoring reads them.
 ghost use Rattle.std.specs.Prelude.{◌≡◌, ◌↔◌, ◌<◌, IsTrue, IfSome, All};
 ghost use Rattle.contest_types.specs.Clock.{reached};
-ghost use Rattle.contest_score.specs.Masks.{IsAdmitted};
+ghost use Rattle.contest_score.specs.MaskedCells.{IsAdmitted};
 
 use contest_types::{Marks, Moment, Settings};
 

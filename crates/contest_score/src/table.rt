@@ -1,7 +1,7 @@
 //! Cells in plain lists, one for each team.
 ghost use Rattle.std.specs.Prelude.{◌≡◌, ◌<◌, ◌≤◌, length, slice_get};
-ghost use Rattle.contest_score.specs.Table.{cell_in, cell_or_none, row_at, with_cell};
-ghost use Rattle.contest_score.specs.Counting.{HasRoom, cell_with};
+ghost use Rattle.contest_score.specs.Table.{cell_in, cell_or_none};
+ghost use Rattle.contest_score.specs.Counting.{HasRoom, cell_with, row_at, with_cell};
 
 use crate::attempt::Attempt;
 use crate::cell::Cell;
@@ -34,7 +34,7 @@ impl PlainCells {
     }
 
     /// Counts one more attempt of a team at a problem.
-    pub fn count(&mut self, team: usize, problem: usize, start: Moment, attempt: Attempt)
+    pub(crate) fn count(&mut self, team: usize, problem: usize, start: Moment, attempt: Attempt)
         requires team { team < length self.old }
         requires problem { problem < length (row_at self.old team) }
         requires room { HasRoom (cell_in self.old team problem) }

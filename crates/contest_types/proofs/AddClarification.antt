@@ -8,7 +8,7 @@ use Rattle.std.proofs.lemmas.Bool.{false≢true, eqb-true, eq-eqb}
 use Rattle.std.proofs.lemmas.Slice.Eq.{bytes_eq-Decides}
 use Rattle.contest_types.specs.MomentText.{latest}
 use Rattle.contest_types.specs.Accounts.{account_named}
-use Rattle.contest_types.specs.Clock.{after}
+use Rattle.contest_types.specs.Clock.{moment_after}
 use Rattle.contest_types.specs.Series.{in_each, count_up, is_new_key}
 use Rattle.contest_types.specs.State.{ContestState, same_addressee, clarifications_to, add, NewClarification, SetStart, SetThaw, SetFinalized}
 use Rattle.contest_types.specs.ValidSubmissions.{has_valid_submissions}
@@ -128,7 +128,7 @@ adding_start x start h a =
     let none = length x.submissions == 0 in
     let silent = length x.clarifications == 0 in
     let two : (none && silent) ≡ true = and_left (none && silent) _ a in
-    let ends : option_map_or (λ end. nat_le end latest) (after start x.fixed.settings.head.duration) true ≡ true = and_right (none && silent) _ a in
+    let ends : option_map_or (λ end. nat_le end latest) (moment_after start x.fixed.settings.head.duration) true ≡ true = and_right (none && silent) _ a in
     let either : (b : Bool) → (b || (none && silent)) ≡ true = elim [ true ↦ refl | false ↦ two ] in
     let subs : has_valid_submissions y ≡ true = rw (empty_of x.submissions (and_left none silent two)) refl in
     let result : Parts y = record {

@@ -7,7 +7,7 @@ use Rattle.std.proofs.lemmas.Bool.Decides.{nat_tests}
 use Rattle.contest_types.specs.Places.{is_among, are_different}
 use Rattle.contest_types.specs.Setup.{labels_of, refers}
 use Rattle.contest_types.specs.Rows.{same_type, same_language, same_problem, same_group, same_team}
-use Rattle.contest_types.specs.Additions.{standing_of, addition, keyed_addition}
+use Rattle.contest_types.specs.Additions.{id_match_of, addition, keyed_addition}
 use Rattle.contest_types.specs.Accounts.{with_account, has_valid_role, same_account}
 use Rattle.contest_types.specs.State.{ContestState, add, NewType, NewLanguage, NewProblem, NewGroup, NewTeam, NewAccount}
 use Rattle.contest_types.specs.ValidFixed.{is_valid_account}
@@ -16,8 +16,8 @@ use Rattle.contest_types.specs.Addable.{is_addable, is_added}
 use Rattle.contest_types.specs.declared.limits.TheConstants.{JUDGEMENT_TYPES, LANGUAGES, PROBLEMS, GROUPS, TEAMS, ACCOUNTS}
 use Rattle.contest_types.specs.declared.refusal.Cause.{Cause}
 use Rattle.contest_types.specs.declared.refusal.Cause.TheVariants.{UnknownReference}
-use Rattle.contest_types.specs.declared.id_list.Standing.{Standing}
-use Rattle.contest_types.specs.declared.id_list.Standing.TheVariants.{New, Same, Other}
+use Rattle.contest_types.specs.declared.id_list.IdMatch.{IdMatch}
+use Rattle.contest_types.specs.declared.id_list.IdMatch.TheVariants.{New, Same, Other}
 use Rattle.contest_types.specs.declared.account.Account.{Account}
 use Rattle.contest_types.specs.declared.objects.JudgementType.{JudgementType}
 use Rattle.contest_types.specs.declared.objects.Language.{Language}
@@ -35,7 +35,7 @@ pub adding_type : (x : ContestState) (t : JudgementType) → is_valid x ≡ true
 adding_type x t h a =
     let s = x.fixed.settings in
     let v = tests_of x (parts x h).settings in
-    let k = takes (λ (r : JudgementType). r.id) same_type s.types t JUDGEMENT_TYPES v.types (new_row (standing_of (λ (r : JudgementType). r.id) same_type s.types t) (nat_le JUDGEMENT_TYPES (length s.types)) a) in
+    let k = takes (λ (r : JudgementType). r.id) same_type s.types t JUDGEMENT_TYPES v.types (new_row (id_match_of (λ (r : JudgementType). r.id) same_type s.types t) (nat_le JUDGEMENT_TYPES (length s.types)) a) in
     let y = with_lists x (s.types ++ t ∷ []) s.languages s.problems s.groups s.teams x.fixed.accounts in
     let tests : TestsOf y.fixed.settings = record { head = v.head; types = k.different; few_types = k.few; languages = v.languages; few_languages = v.few_languages; problems = v.problems; labels = v.labels; few_problems = v.few_problems; groups = v.groups; few_groups = v.few_groups; teams = v.teams; few_teams = v.few_teams; references = v.references } in
     let w : Wider x.fixed y.fixed = record { types = longer s.types t; languages = omega arith; problems = omega arith; teams = omega arith; named = λ id a e. e } in
@@ -45,7 +45,7 @@ pub adding_language : (x : ContestState) (l : Language) → is_valid x ≡ true 
 adding_language x l h a =
     let s = x.fixed.settings in
     let v = tests_of x (parts x h).settings in
-    let k = takes (λ (r : Language). r.id) same_language s.languages l LANGUAGES v.languages (new_row (standing_of (λ (r : Language). r.id) same_language s.languages l) (nat_le LANGUAGES (length s.languages)) a) in
+    let k = takes (λ (r : Language). r.id) same_language s.languages l LANGUAGES v.languages (new_row (id_match_of (λ (r : Language). r.id) same_language s.languages l) (nat_le LANGUAGES (length s.languages)) a) in
     let y = with_lists x s.types (s.languages ++ l ∷ []) s.problems s.groups s.teams x.fixed.accounts in
     let tests : TestsOf y.fixed.settings = record { head = v.head; types = v.types; few_types = v.few_types; languages = k.different; few_languages = k.few; problems = v.problems; labels = v.labels; few_problems = v.few_problems; groups = v.groups; few_groups = v.few_groups; teams = v.teams; few_teams = v.few_teams; references = v.references } in
     let w : Wider x.fixed y.fixed = record { types = omega arith; languages = longer s.languages l; problems = omega arith; teams = omega arith; named = λ id a e. e } in
@@ -55,18 +55,18 @@ pub adding_group : (x : ContestState) (g : Group) → is_valid x ≡ true → is
 adding_group x g h a =
     let s = x.fixed.settings in
     let v = tests_of x (parts x h).settings in
-    let k = takes (λ (r : Group). r.id) same_group s.groups g GROUPS v.groups (new_row (standing_of (λ (r : Group). r.id) same_group s.groups g) (nat_le GROUPS (length s.groups)) a) in
+    let k = takes (λ (r : Group). r.id) same_group s.groups g GROUPS v.groups (new_row (id_match_of (λ (r : Group). r.id) same_group s.groups g) (nat_le GROUPS (length s.groups)) a) in
     let y = with_lists x s.types s.languages s.problems (s.groups ++ g ∷ []) s.teams x.fixed.accounts in
     let tests : TestsOf y.fixed.settings = record { head = v.head; types = v.types; few_types = v.few_types; languages = v.languages; few_languages = v.few_languages; problems = v.problems; labels = v.labels; few_problems = v.few_problems; groups = k.different; few_groups = k.few; teams = v.teams; few_teams = v.few_teams; references = refers_wider (length s.groups) (length (s.groups ++ g ∷ [])) (longer s.groups g) s.teams v.references } in
     let w : Wider x.fixed y.fixed = record { types = omega arith; languages = omega arith; problems = omega arith; teams = omega arith; named = λ id a e. e } in
     widened x s.types s.languages s.problems (s.groups ++ g ∷ []) s.teams x.fixed.accounts w h (all_tests y tests) (parts x h).accounts
 
 -- a row with a second key that is added is new, that key too
-record IsNewKeyed (standing : Standing) (held full : Bool) : Type 0 where
-  row : IsNewRow standing full
+record IsNewKeyed (found : IdMatch) (held full : Bool) : Type 0 where
+  row : IsNewRow found full
   key : held ≡ false
 
-new_keyed : (standing : Standing) (held full : Bool) → is_added (keyed_addition standing held full) ≡ true → IsNewKeyed standing held full
+new_keyed : (found : IdMatch) (held full : Bool) → is_added (keyed_addition found held full) ≡ true → IsNewKeyed found held full
 new_keyed New true full h = absurd (false≢true h)
 new_keyed New false full h = record { row = new_row New full h; key = refl }
 new_keyed Same held full h = absurd (false≢true h)
@@ -76,7 +76,7 @@ pub adding_problem : (x : ContestState) (p : Problem) → is_valid x ≡ true �
 adding_problem x p h a =
     let s = x.fixed.settings in
     let v = tests_of x (parts x h).settings in
-    let n = new_keyed (standing_of (λ (r : Problem). r.id) same_problem s.problems p) (is_among (labels_of s.problems) p.label) (nat_le PROBLEMS (length s.problems)) a in
+    let n = new_keyed (id_match_of (λ (r : Problem). r.id) same_problem s.problems p) (is_among (labels_of s.problems) p.label) (nat_le PROBLEMS (length s.problems)) a in
     let k = takes (λ (r : Problem). r.id) same_problem s.problems p PROBLEMS v.problems n.row in
     let y = with_lists x s.types s.languages (s.problems ++ p ∷ []) s.groups s.teams x.fixed.accounts in
     let tests : TestsOf y.fixed.settings = record { head = v.head; types = v.types; few_types = v.few_types; languages = v.languages; few_languages = v.few_languages; problems = k.different; labels = labels_push s.problems p v.labels n.key; few_problems = k.few; groups = v.groups; few_groups = v.few_groups; teams = v.teams; few_teams = v.few_teams; references = v.references } in
@@ -93,7 +93,7 @@ adding_team x t h a =
     let s = x.fixed.settings in
     let v = tests_of x (parts x h).settings in
     let both = row_parts (refers (length s.groups) t) (addition (λ (r : Team). r.id) same_team TEAMS s.teams t) UnknownReference a in
-    let k = takes (λ (r : Team). r.id) same_team s.teams t TEAMS v.teams (new_row (standing_of (λ (r : Team). r.id) same_team s.teams t) (nat_le TEAMS (length s.teams)) both.1) in
+    let k = takes (λ (r : Team). r.id) same_team s.teams t TEAMS v.teams (new_row (id_match_of (λ (r : Team). r.id) same_team s.teams t) (nat_le TEAMS (length s.teams)) both.1) in
     let y = with_lists x s.types s.languages s.problems s.groups (s.teams ++ t ∷ []) x.fixed.accounts in
     let tests : TestsOf y.fixed.settings = record { head = v.head; types = v.types; few_types = v.few_types; languages = v.languages; few_languages = v.few_languages; problems = v.problems; labels = v.labels; few_problems = v.few_problems; groups = v.groups; few_groups = v.few_groups; teams = k.different; few_teams = k.few; references = all_push (refers (length s.groups)) s.teams t v.references both.0 } in
     let w : Wider x.fixed y.fixed = record { types = omega arith; languages = omega arith; problems = omega arith; teams = longer s.teams t; named = λ id a e. e } in
@@ -110,8 +110,8 @@ adding_account x a h may =
     let accounts = x.fixed.accounts in
     let ids = λ (b : Account). b.id in
     let digests = λ (b : Account). b.digest in
-    let both = row_parts (has_valid_role s a.role) (keyed_addition (standing_of ids same_account accounts a) (is_among (map digests accounts) a.digest) (nat_le ACCOUNTS (length accounts))) UnknownReference (and_right (is_valid_account s a) _ may) in
-    let n = new_keyed (standing_of ids same_account accounts a) (is_among (map digests accounts) a.digest) (nat_le ACCOUNTS (length accounts)) both.1 in
+    let both = row_parts (has_valid_role s a.role) (keyed_addition (id_match_of ids same_account accounts a) (is_among (map digests accounts) a.digest) (nat_le ACCOUNTS (length accounts))) UnknownReference (and_right (is_valid_account s a) _ may) in
+    let n = new_keyed (id_match_of ids same_account accounts a) (is_among (map digests accounts) a.digest) (nat_le ACCOUNTS (length accounts)) both.1 in
     let new : is_among (map ids accounts) a.id ≡ false = not_among a.id 0 (map ids accounts) (place_of_new ids same_account accounts a n.row.new) in
     let y = with_lists x s.types s.languages s.problems s.groups s.teams (with_account accounts a) in
     let w : Wider x.fixed y.fixed = record { types = omega arith; languages = omega arith; problems = omega arith; teams = omega arith; named = named_still accounts a new } in

@@ -12,7 +12,7 @@ use Rattle.contest_types.specs.Clock.{reached, end_of}
 use Rattle.contest_types.specs.Masks.{audience_at}
 use Rattle.contest_types.specs.Sight.{hears}
 use Rattle.contest_types.specs.Setup.{Setup, labels_of, is_valid_head, refers}
-use Rattle.contest_types.specs.Additions.{standing_of, addition_by}
+use Rattle.contest_types.specs.Additions.{id_match_of, addition_by}
 use Rattle.contest_types.specs.State.{FixedPart, ContestState}
 use Rattle.contest_types.specs.ValidFixed.{has_valid_settings, has_valid_accounts, is_valid_account}
 use Rattle.contest_types.specs.ValidSubmissions.{is_valid_submission, is_valid_release, is_valid_proposal, is_there, has_submission}
@@ -21,8 +21,8 @@ use Rattle.contest_types.specs.ValidRejudgings.{is_valid_rejudging, is_valid_mem
 use Rattle.contest_types.specs.Valid.{is_valid}
 use Rattle.contest_types.specs.Addable.{is_added}
 use Rattle.contest_types.specs.declared.limits.TheConstants.{JUDGEMENT_TYPES, LANGUAGES, PROBLEMS, GROUPS, TEAMS, POSTED_FILE}
-use Rattle.contest_types.specs.declared.id_list.Standing.{Standing}
-use Rattle.contest_types.specs.declared.id_list.Standing.TheVariants.{New, Same, Other}
+use Rattle.contest_types.specs.declared.id_list.IdMatch.{IdMatch}
+use Rattle.contest_types.specs.declared.id_list.IdMatch.TheVariants.{New, Same, Other}
 use Rattle.contest_types.specs.declared.account.Account.{Account}
 use Rattle.contest_types.specs.declared.audience.Audience.{Audience}
 use Rattle.contest_types.specs.declared.account.Role.{Role}
@@ -259,11 +259,11 @@ all_tests x t =
     (are_different (map (λ (t : Team). t.id) s.teams)) (nat_le (length s.teams) TEAMS) (list_all (refers (length s.groups)) s.teams) t
 
 -- a row that is added is new, and there is room for it
-pub record IsNewRow (standing : Standing) (full : Bool) : Type 0 where
-  pub new : standing ≡ New
+pub record IsNewRow (found : IdMatch) (full : Bool) : Type 0 where
+  pub new : found ≡ New
   pub room : full ≡ false
 
-pub new_row : (standing : Standing) (full : Bool) → is_added (addition_by standing full) ≡ true → IsNewRow standing full
+pub new_row : (found : IdMatch) (full : Bool) → is_added (addition_by found full) ≡ true → IsNewRow found full
 new_row New true h = absurd (false≢true h)
 new_row New false h = record { new = refl; room = refl }
 new_row Same full h = absurd (false≢true h)
@@ -277,7 +277,7 @@ pub record TakesRow {T : Type 0} (id : T → List ℕ) (rows : List T) (row : T)
   pub different : are_different (map id (rows ++ row ∷ [])) ≡ true
   pub few : nat_le (length (rows ++ row ∷ [])) most ≡ true
 
-pub takes : {T : Type 0} (id : T → List ℕ) (same : T → T → Bool) (rows : List T) (row : T) (most : ℕ) → are_different (map id rows) ≡ true → IsNewRow (standing_of id same rows row) (nat_le most (length rows)) → TakesRow id rows row most
+pub takes : {T : Type 0} (id : T → List ℕ) (same : T → T → Bool) (rows : List T) (row : T) (most : ℕ) → are_different (map id rows) ≡ true → IsNewRow (id_match_of id same rows row) (nat_le most (length rows)) → TakesRow id rows row most
 takes id same rows row most d n = record {
   different = rw map-append (different_push (map id rows) (id row) d (not_among (id row) 0 (map id rows) (place_of_new id same rows row n.new)));
   few = next_room rows row most (has_room (length rows) most n.room);

@@ -1,11 +1,14 @@
 -- Worked examples: each kind of change, one that may be made and one that may not.
-use Rattle.std.proofs.Common.{◌≡◌, ◌+◌, ◌-◌, List, [], ◌∷◌, refl, Some, None, true, false}
-use Rattle.std.specs.Prelude.{codes}
-use Rattle.std.specs.List.{list_any, list_all}
-use Rattle.contest_types.specs.State.{Entry, NewSubmission, NewProposal, NewRelease, NewClarification, NewRejudging, SetMember, SetRejudging, SetStart, SetThaw, SetFinalized, NewType, NewLanguage, NewProblem, NewGroup, NewTeam, NewAccount}
+use Rattle.std.proofs.Common.{◌≡◌, ℕ, ◌+◌, ◌-◌, List, [], ◌∷◌, map, refl, Some, None, true, false}
+use Rattle.std.specs.Prelude.{codes, Ok, Err}
+use Rattle.std.specs.List.{list_any, list_all, range_with_len}
+use Rattle.contest_types.specs.State.{ContestState, new_contest, Entry, NewSubmission, NewProposal, NewRelease, NewClarification, NewRejudging, SetMember, SetRejudging, SetStart, SetThaw, SetFinalized, NewType, NewLanguage, NewProblem, NewGroup, NewTeam, NewAccount}
 use Rattle.contest_types.specs.Addable.{is_addable}
-use Rattle.contest_types.specs.Judging.{next_release, last_proposal, new_contest}
+use Rattle.contest_types.specs.Judging.{next_release, last_proposal}
 use Rattle.contest_types.specs.Valid.{is_valid}
+use Rattle.contest_types.specs.VerdictAdditions.{verdict_addition}
+use Rattle.contest_types.specs.declared.refusal.Cause.TheVariants.{UnknownReference, KeyReused, TableFull, AlreadyReleased}
+use Rattle.contest_types.specs.declared.proposal.Proposal.{Proposal}
 use Rattle.contest_types.specs.declared.account.Role.TheVariants as role
 use Rattle.contest_types.specs.declared.proposal.Proposer.TheVariants as proposer
 use Rattle.contest_types.specs.declared.rejudging.RejudgingState.TheVariants as state
@@ -78,3 +81,47 @@ first_round = refl
 -- of several proposals the last stands
 stands_last : last_proposal (record base { proposals = proposed 0 1 wrong 5 ∷ proposed 1 2 wrong 6 ∷ proposed 0 1 accepted 7 ∷ [] }) (record { team = 0; number = 1 }) ≡ Some (proposed 0 1 accepted 7)
 stands_last = refl
+
+-- importing a verdict: a new one is added, also where a judge has proposed one; an equal one adds nothing,
+-- and another one for the same submission is refused
+abbrev imported : (team number verdict : ℕ) → Proposal
+imported team number verdict = record (proposed team number verdict 5) { proposer = proposer.Import }
+
+abbrev with_proposals : List Proposal → ContestState
+with_proposals proposals = record base { proposals = proposals }
+
+first_import : verdict_addition base (imported 1 2 wrong) ≡ Ok true
+first_import = refl
+
+beside_a_judge : verdict_addition (with_proposals (proposed 1 2 accepted 5 ∷ [])) (imported 1 2 wrong) ≡ Ok true
+beside_a_judge = refl
+
+equal_import : verdict_addition (with_proposals (imported 1 2 wrong ∷ [])) (record (imported 1 2 wrong) { time = 9 }) ≡ Ok false
+equal_import = refl
+
+other_import : verdict_addition (with_proposals (imported 1 2 wrong ∷ [])) (imported 1 2 accepted) ≡ Err KeyReused
+other_import = refl
+
+-- a submission or a type that isn't there, a submission that has a release
+no_submission : verdict_addition base (imported 1 3 wrong) ≡ Err UnknownReference
+no_submission = refl
+
+no_type : verdict_addition base (imported 1 2 3) ≡ Err UnknownReference
+no_type = refl
+
+released_already : verdict_addition base (imported 0 1 wrong) ≡ Err AlreadyReleased
+released_already = refl
+
+-- once imported it stands, whatever was released since
+released_since : verdict_addition (with_proposals (imported 0 1 accepted ∷ [])) (imported 0 1 accepted) ≡ Ok false
+released_since = refl
+
+-- no room is told before a release
+abbrev judged_often : ℕ → ContestState
+judged_often n = with_proposals (map (λ k. proposed 0 1 wrong k) (range_with_len 0 n))
+
+no_room : verdict_addition (judged_often 1000) (imported 0 1 wrong) ≡ Err TableFull
+no_room = refl
+
+room_for_one : verdict_addition (judged_often 999) (imported 0 1 wrong) ≡ Err AlreadyReleased
+room_for_one = refl

@@ -12,7 +12,7 @@ use Rattle.contest_types.specs.Valid.{is_valid}
 use Rattle.contest_types.specs.declared.account.Account.{Account}
 use Rattle.contest_types.specs.declared.account.Role.TheVariants as role
 use Rattle.contest_types.specs.declared.contest.ContestHead.{ContestHead}
-use Rattle.contest_types.specs.declared.id_list.Standing.TheVariants.{New, Same}
+use Rattle.contest_types.specs.declared.id_list.IdMatch.TheVariants.{New, Same}
 use Rattle.contest_types.specs.declared.refusal.Cause.TheVariants.{KeyReused, UnknownReference, TableFull}
 use Rattle.contest_types.proofs.ExampleContest.{hours, head, settings, accounts, account_for, team_named, empty}
 

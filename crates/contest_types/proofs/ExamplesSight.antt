@@ -5,6 +5,7 @@ use Rattle.std.specs.Fmt.{digits}
 use Rattle.contest_types.specs.Clock.{end_of, freeze_of, is_frozen, is_freezing, is_finalized, phase_at}
 use Rattle.contest_types.specs.State.{ContestState, Entry, NewProposal, NewRelease, NewRejudging, SetMember, SetRejudging, SetThaw, add, add_all}
 use Rattle.contest_types.specs.Setup.{Setup}
+use Rattle.contest_types.specs.Masks.{is_audience}
 use Rattle.contest_types.specs.VisibleIds.{judgement_id, clarification_id}
 use Rattle.contest_types.specs.Judging.{SeenJudgement, seen_judgements, Proposed, open_proposals}
 use Rattle.contest_types.specs.Sight.{Program, SeenSubmission, SeenClarification, Judgement, seen_submissions, seen_clarifications, full_verdict, held_verdict, seen_verdict, sees_team}
@@ -179,6 +180,23 @@ jury_hears = refl
 -- results that are to be final later aren't yet
 final_to_come : is_finalized (record started { finalized = Some 7 }) 6 ≡ false
 final_to_come = refl
+
+-- each mark stands for itself: results that are final thaw nothing, and a thaw finalizes nothing
+final_not_thawed : is_freezing settings (record started { finalized = Some (hours 5) }) (hours 6) ≡ true
+final_not_thawed = refl
+
+final_shows_nothing : verdicts_seen audience.Public (hours 6) (record around_freeze { fixed = record around_freeze.fixed { marks = record started { finalized = Some (hours 5) } } }) ≡ its_acceptance ∷ None ∷ []
+final_shows_nothing = refl
+
+thawed_not_final : is_finalized (record started { thaw = Some (hours 5) }) (hours 6) ≡ false
+thawed_not_final = refl
+
+-- a team as an audience is one that is there
+audiences : map (is_audience settings) (audience.Public ∷ audience.Jury ∷ audience.Team 1 ∷ audience.Team 4 ∷ []) ≡ true ∷ true ∷ true ∷ true ∷ []
+audiences = refl
+
+no_audiences : map (is_audience settings) (audience.Team 0 ∷ audience.Team 5 ∷ []) ≡ false ∷ false ∷ []
+no_audiences = refl
 
 -- without a freeze duration nothing is ever frozen; a freeze of no length begins at the end
 abbrev with_freeze : Option ℕ → Setup

@@ -28,9 +28,11 @@ pub mod AccountLemmas
 pub mod AddSettings
 pub mod AddRows
 pub mod AddEntry
+pub mod VerdictLemmas
 mod ExamplesValid
 mod ExamplesSettings
 mod ExamplesAdding
+mod ExamplesLimits
 pub mod Different
 pub mod InOrderLemmas
 pub mod Rising

@@ -7,7 +7,7 @@ use Rattle.std.proofs.lemmas.List.{map-append, length-append}
 use Rattle.contest_types.specs.Setup.{refers, labels_of}
 use Rattle.contest_types.specs.Places.{is_among, are_different}
 use Rattle.contest_types.specs.Additions.{addition_by, grown}
-use Rattle.contest_types.specs.declared.id_list.Standing.TheVariants.{New}
+use Rattle.contest_types.specs.declared.id_list.IdMatch.TheVariants.{New}
 use Rattle.contest_types.specs.declared.objects.Problem.{Problem}
 use Rattle.contest_types.specs.declared.objects.Team.{Team}
 use Rattle.contest_types.proofs.PlaceLemmas.{and_left, and_right, both_true, different_push, all_push}

@@ -5,7 +5,7 @@ use Rattle.std.specs.Cmp.Lexicographic.{slice_cmp}
 use Rattle.std.specs.Str.{bytes_eq}
 use Rattle.contest_types.specs.Places.{is_among}
 use Rattle.contest_types.specs.Setup.{Setup}
-use Rattle.contest_types.specs.Additions.{standing_of, keyed_addition}
+use Rattle.contest_types.specs.Additions.{id_match_of, keyed_addition}
 use Rattle.contest_types.specs.declared.limits.TheConstants.{ACCOUNTS}
 use Rattle.contest_types.specs.declared.account.Account.{Account}
 use Rattle.contest_types.specs.declared.account.Role.{Role}
@@ -44,5 +44,5 @@ same_account a b = bytes_eq a.id b.id && same_role a.role b.role && bytes_eq a.d
 abbrev pub account_addition : Setup → List Account → Account → Result Bool Cause
 account_addition s accounts a =
     if has_valid_role s a.role then
-    keyed_addition (standing_of (λ (b : Account). b.id) same_account accounts a) (is_among (map (λ (b : Account). b.digest) accounts) a.digest) (nat_le ACCOUNTS (length accounts))
+    keyed_addition (id_match_of (λ (b : Account). b.id) same_account accounts a) (is_among (map (λ (b : Account). b.digest) accounts) a.digest) (nat_le ACCOUNTS (length accounts))
     else Err UnknownReference

@@ -3,7 +3,7 @@ use Rattle.std.specs.Prelude.{◌+◌, Bool, true, false, not, ◌&&◌, ◌||�
 use Rattle.std.specs.List.{list_all}
 use Rattle.std.specs.Option.{option_map_or}
 use Rattle.contest_types.specs.MomentText.{latest}
-use Rattle.contest_types.specs.Clock.{after}
+use Rattle.contest_types.specs.Clock.{moment_after}
 use Rattle.contest_types.specs.Series.{is_new_key}
 use Rattle.contest_types.specs.Accounts.{account_addition}
 use Rattle.contest_types.specs.SetupAdditions.{type_addition, language_addition, problem_addition, group_addition, team_addition}
@@ -62,7 +62,7 @@ is_addable x (SetMember n place state) = is_valid_state x.fixed state
 is_addable x (SetRejudging n state) = not (is_open_by state)
 is_addable x (SetStart start) =
     (length x.submissions == 0) && (length x.clarifications == 0)
-    && option_map_or (λ end. nat_le end latest) (after start x.fixed.settings.head.duration) true
+    && option_map_or (λ end. nat_le end latest) (moment_after start x.fixed.settings.head.duration) true
 is_addable x (SetThaw thaw) = true
 is_addable x (SetFinalized finalized) = true
 is_addable x (NewType t) = is_added (type_addition x.fixed.settings t)

@@ -11,19 +11,20 @@ abbrev pub reached : Option ℕ → ℕ → Bool
 reached None time = false
 reached (Some moment) time = nat_le moment time
 
--- a length of time after a moment, where both are there
-abbrev pub after : Option ℕ → ℕ → Option ℕ
-after None span = None
-after (Some moment) span = Some (moment + span)
+-- so long after a moment, where that is there
+abbrev pub moment_after : Option ℕ → ℕ → Option ℕ
+moment_after None span = None
+moment_after (Some moment) span = Some (moment + span)
 
-abbrev pub before : Option ℕ → Option ℕ → Option ℕ
-before None span = None
-before (Some moment) None = None
-before (Some moment) (Some span) = Some (moment - span)
+-- so long before a moment, where both are there
+abbrev pub moment_before : Option ℕ → Option ℕ → Option ℕ
+moment_before None span = None
+moment_before (Some moment) None = None
+moment_before (Some moment) (Some span) = Some (moment - span)
 
 -- the end: the start and the duration
 abbrev pub end_of : Setup → Marks → Option ℕ
-end_of s marks = after marks.start s.head.duration
+end_of s marks = moment_after marks.start s.head.duration
 
 -- where the contest stands: running from the start on, up to the end
 abbrev pub phase_at : Setup → Marks → ℕ → Phase
@@ -32,7 +33,7 @@ phase_at s marks now =
 
 -- the freeze moment: so long before the end
 abbrev pub freeze_of : Setup → Marks → Option ℕ
-freeze_of s marks = before (end_of s marks) s.head.freeze
+freeze_of s marks = moment_before (end_of s marks) s.head.freeze
 
 -- a submission of this time is frozen: at the freeze moment or after it
 abbrev pub is_frozen : Setup → Marks → ℕ → Bool

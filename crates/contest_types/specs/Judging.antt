@@ -1,29 +1,13 @@
 -- What judging a submission rests on and adds (DOMjudge manual, "Judging"; Contest API 2023-06, judgements).
-use Rattle.std.specs.Prelude.{ℕ, ◌+◌, List, [], length, Option, Some, None}
+use Rattle.std.specs.Prelude.{ℕ, ◌+◌, List, length, Option, Some, None}
 use Rattle.std.specs.List.{filter_map, last_or}
 use Rattle.std.specs.Option.{option_map}
 use Rattle.contest_types.specs.State.{ContestState, SubmissionRef, releases_on, proposals_for}
 use Rattle.contest_types.specs.Sight.{Judgement, SeenSubmission, seen_submissions}
 use Rattle.contest_types.specs.declared.audience.Audience.{Audience}
 use Rattle.contest_types.specs.declared.audience.Audience.TheVariants.{Jury}
-use Rattle.contest_types.specs.declared.contest.Contest.{Contest}
 use Rattle.contest_types.specs.declared.proposal.Proposal.{Proposal}
 use Rattle.contest_types.specs.declared.submission.Release.{Release}
-
--- the contest that is set up, with nothing in it yet
-abbrev pub new_contest : Contest → ContestState
-new_contest c = record {
-  fixed = record {
-    settings = record { head = c.head; types = []; languages = []; problems = []; groups = []; teams = [] };
-    accounts = [];
-    marks = record { start = c.start; thaw = None; finalized = None };
-  };
-  submissions = [];
-  proposals = [];
-  releases = [];
-  clarifications = [];
-  rejudgings = [];
-}
 
 -- the release that comes next on a submission: its rounds count up from 1
 abbrev pub next_release : ContestState → SubmissionRef → (verdict time : ℕ) → Release

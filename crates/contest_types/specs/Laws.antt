@@ -1,15 +1,17 @@
 -- What holds of every contest, in the subject's words. Each is the contract of a function of src/laws.rt.
-use Rattle.std.specs.Prelude.{◌≡◌, ◌↔◌, ℕ, Bool, true, List}
+use Rattle.std.specs.Prelude.{◌≡◌, ◌↔◌, ℕ, Bool, true, List, Ok}
 use Rattle.std.specs.Ordering.{is_lt}
 use Rattle.contest_types.specs.Order.{Has, IsInOrder, IsStrict}
-use Rattle.contest_types.specs.State.{ContestState, Entry, add_all}
+use Rattle.contest_types.specs.State.{ContestState, Entry, NewProposal, add_all}
 use Rattle.contest_types.specs.Sight.{SeenSubmission, sees_submission, seen_submission, submission_cmp, seen_submissions, SeenClarification, sees_clarification, seen_clarification, clarification_cmp, seen_clarifications}
 use Rattle.contest_types.specs.Alike.{Alike, MayBeHeld}
 use Rattle.contest_types.specs.Setup.{IsValid}
 use Rattle.contest_types.specs.ValidFixed.{has_valid_settings}
 use Rattle.contest_types.specs.Valid.{is_valid}
-use Rattle.contest_types.specs.Addable.{are_addable}
+use Rattle.contest_types.specs.VerdictAdditions.{verdict_addition}
+use Rattle.contest_types.specs.Addable.{is_addable, are_addable}
 use Rattle.contest_types.specs.declared.audience.Audience.{Audience}
+use Rattle.contest_types.specs.declared.proposal.Proposal.{Proposal}
 use Rattle.contest_types.specs.declared.submission.Submission.{Submission}
 use Rattle.contest_types.specs.declared.clarification.Clarification.{Clarification}
 
@@ -89,3 +91,7 @@ SettingsAreTested = (x : ContestState) → (has_valid_settings x ≡ true) ↔ I
 -- changes that may be made keep a valid contest valid
 abbrev pub AddingKeepsValid : Type 0
 AddingKeepsValid = (x : ContestState) (es : List Entry) → is_valid x ≡ true → are_addable x es ≡ true → is_valid (add_all x es) ≡ true
+
+-- an imported verdict that is added may be added
+abbrev pub ImportedIsAddable : Type 0
+ImportedIsAddable = (x : ContestState) (p : Proposal) → verdict_addition x p ≡ Ok true → is_addable x (NewProposal p) ≡ true

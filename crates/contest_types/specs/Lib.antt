@@ -30,6 +30,7 @@ pub mod ValidClarifications
 pub mod ValidRejudgings
 pub mod Valid
 pub mod Loads
+pub mod VerdictAdditions
 pub mod Addable
 pub mod Laws
 pub mod SightLaws

@@ -1,6 +1,6 @@
 -- Whose verdicts a caller sees: all of them, or those on submissions from before the freeze
 -- (DOMjudge manual, "Scoreboard": the freeze goes by submission time).
-use Rattle.std.specs.Prelude.{ℕ, ◌+◌, Bool, true, false, ◌||◌, ◌==◌, Option, None, if◌then◌else◌}
+use Rattle.std.specs.Prelude.{ℕ, ◌+◌, Bool, true, false, ◌&&◌, ◌||◌, ◌==◌, nat_lt, nat_le, length, Option, None, if◌then◌else◌}
 use Rattle.contest_types.specs.Setup.{Setup}
 use Rattle.contest_types.specs.Clock.{is_frozen, is_thawed}
 use Rattle.contest_types.specs.declared.marks.Marks.{Marks}
@@ -23,6 +23,12 @@ owns audience.Jury team = false
 -- the audience that the team at this place is
 abbrev pub audience_at : ℕ → Audience
 audience_at team = audience.Team (team + 1)
+
+-- a team as an audience is one that is there: its number is that of a team
+abbrev pub is_audience : Setup → Audience → Bool
+is_audience s audience.Public = true
+is_audience s (audience.Team number) = nat_lt 0 number && nat_le number (length s.teams)
+is_audience s audience.Jury = true
 
 -- the jury and the team itself
 abbrev pub knows_all_of : Audience → ℕ → Bool

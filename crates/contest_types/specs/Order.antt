@@ -1,8 +1,28 @@
 -- Lists in order.
 use Rattle.std.specs.Prelude.{ℕ, ◌≡◌, ◌⊎◌, ◌==◌, Bool, true, List, [], ◌∷◌, length, count_by, find}
 use Rattle.std.specs.List.{filter_map, range_with_len}
-use Rattle.std.specs.Ordering.{is_lt}
+use Rattle.std.specs.Ordering.{is_lt, nat_cmp, ordering_then}
+use Rattle.std.specs.Cmp.Lexicographic.{slice_cmp}
 use Rattle.std.specs.declared.cmp.Ordering.{Ordering}
+use Rattle.std.specs.declared.cmp.Ordering.TheVariants.{Equal}
+
+-- by a number that each has
+abbrev pub by_number : {X : Type 0} → (X → ℕ) → X → X → Ordering
+by_number number x y = nat_cmp (number x) (number y)
+
+-- by such a number, the greatest first
+abbrev pub by_most : {X : Type 0} → (X → ℕ) → X → X → Ordering
+by_most number x y = nat_cmp (number y) (number x)
+
+-- by the bytes of a text that each has
+abbrev pub by_text : {X : Type 0} → (X → List ℕ) → X → X → Ordering
+by_text text x y = slice_cmp nat_cmp (text x) (text y)
+
+-- by the first of these orders, then the next, and so on
+abbrev pub by_each : {X : Type 0} → List (X → X → Ordering) → X → X → Ordering
+by_each [] x y = Equal
+by_each (R ∷ []) x y = R x y
+by_each (R ∷ (S ∷ Rs)) x y = ordering_then (R x y) (by_each (S ∷ Rs) x y)
 
 -- how many of xs come before x
 abbrev pub place_in : {X : Type 0} → (X → X → Ordering) → List X → X → ℕ

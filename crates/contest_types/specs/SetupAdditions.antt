@@ -3,7 +3,7 @@ use Rattle.std.specs.Prelude.{◌≡◌, Bool, [], length, Result, Err, if◌the
 use Rattle.contest_types.specs.Places.{is_among}
 use Rattle.contest_types.specs.Setup.{Setup, labels_of, refers}
 use Rattle.contest_types.specs.Rows.{same_type, same_language, same_problem, same_group, same_team}
-use Rattle.contest_types.specs.Additions.{standing_of, addition, keyed_addition, grown}
+use Rattle.contest_types.specs.Additions.{id_match_of, addition, keyed_addition, grown}
 use Rattle.contest_types.specs.declared.refusal.Cause.{Cause}
 use Rattle.contest_types.specs.declared.refusal.Cause.TheVariants.{UnknownReference}
 use Rattle.contest_types.specs.declared.contest.ContestHead.{ContestHead}
@@ -34,7 +34,7 @@ team_addition s row = if refers (length s.groups) row then addition (λ t. t.id)
 -- a problem's label is its own
 abbrev pub problem_addition : Setup → Problem → Result Bool Cause
 problem_addition s row =
-    keyed_addition (standing_of (λ p. p.id) same_problem s.problems row) (is_among (labels_of s.problems) row.label) (nat_le PROBLEMS (length s.problems))
+    keyed_addition (id_match_of (λ p. p.id) same_problem s.problems row) (is_among (labels_of s.problems) row.label) (nat_le PROBLEMS (length s.problems))
 
 -- the settings with one more row, where it is added
 abbrev pub with_type : Bool → Setup → JudgementType → Setup

@@ -3,12 +3,10 @@
 use Rattle.std.specs.Prelude.{ℕ, Bool, true, ◌||◌, List, [], ◌∷◌, map, Option, Some, None, if◌then◌else◌}
 use Rattle.std.specs.List.{flat_map, last_or}
 use Rattle.std.specs.Option.{option_map, option_and_then}
-use Rattle.std.specs.Ordering.{nat_cmp, ordering_then}
-use Rattle.std.specs.Cmp.Lexicographic.{slice_cmp}
 use Rattle.std.specs.declared.cmp.Ordering.{Ordering}
 use Rattle.contest_types.specs.Setup.{Setup}
 use Rattle.contest_types.specs.TeamPlaces.{team_places, team_id_at, is_public}
-use Rattle.contest_types.specs.Order.{in_order}
+use Rattle.contest_types.specs.Order.{by_number, by_text, by_each, in_order}
 use Rattle.contest_types.specs.VisibleIds.{clarification_id}
 use Rattle.contest_types.specs.Clock.{is_frozen}
 use Rattle.contest_types.specs.Masks.{knows_all_of, mask_for, verdict_under}
@@ -104,7 +102,7 @@ seen_of_team a now x team =
 
 -- by time, then team id, then number
 abbrev pub submission_cmp : Setup → SeenSubmission → SeenSubmission → Ordering
-submission_cmp s a b = ordering_then (nat_cmp a.time b.time) (ordering_then (slice_cmp nat_cmp (team_id_at s a.team) (team_id_at s b.team)) (nat_cmp a.number b.number))
+submission_cmp s = by_each (by_number (λ v. v.time) ∷ by_text (λ v. team_id_at s v.team) ∷ by_number (λ v. v.number) ∷ [])
 
 -- all that an audience sees of submissions: gathered team by team, so that the order in which
 -- different teams' submissions were accepted never enters
@@ -150,7 +148,7 @@ heard_of a x addressee = if hears a x.fixed.settings addressee then map (seen_cl
 
 -- by time, then by the bytes of the id
 abbrev pub clarification_cmp : SeenClarification → SeenClarification → Ordering
-clarification_cmp c d = ordering_then (nat_cmp c.time d.time) (slice_cmp nat_cmp (clarification_id c.addressee c.number) (clarification_id d.addressee d.number))
+clarification_cmp = by_each (by_number (λ c. c.time) ∷ by_text (λ c. clarification_id c.addressee c.number) ∷ [])
 
 abbrev pub addressees : Setup → List Addressee
 addressees s = ToAll ∷ map ToTeam (team_places s)

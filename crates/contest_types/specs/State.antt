@@ -1,9 +1,10 @@
 -- A contest as whole lists, and what each change makes of it (own; settings, submissions and
 -- clarifications are those of the Contest API 2023-06). Places count from 0, numbers and rounds from 1.
-use Rattle.std.specs.Prelude.{ℕ, Bool, true, false, ◌&&◌, ◌==◌, List, [], ◌∷◌, ◌++◌, filter, map, Some, if◌then◌else◌}
+use Rattle.std.specs.Prelude.{ℕ, Bool, true, false, ◌&&◌, ◌==◌, List, [], ◌∷◌, ◌++◌, filter, map, Some, None, if◌then◌else◌}
 use Rattle.std.specs.List.{enumerate_from}
 use Rattle.contest_types.specs.Setup.{Setup}
 use Rattle.contest_types.specs.Accounts.{with_account}
+use Rattle.contest_types.specs.declared.contest.Contest.{Contest}
 use Rattle.contest_types.specs.declared.fixed.Fixed.{Fixed}
 pub use Rattle.contest_types.specs.declared.entry.Entry.{Entry}
 pub use Rattle.contest_types.specs.declared.entry.Entry.TheVariants.{NewSubmission, NewProposal, NewRelease, NewClarification, NewRejudging, SetMember, SetRejudging, SetStart, SetThaw, SetFinalized, NewType, NewLanguage, NewProblem, NewGroup, NewTeam, NewAccount}
@@ -30,6 +31,21 @@ pub record ContestState : Type 0 where
   pub releases : List Release
   pub clarifications : List Clarification
   pub rejudgings : List Rejudging
+
+-- the contest that is set up, with nothing in it yet
+abbrev pub new_contest : Contest → ContestState
+new_contest c = record {
+  fixed = record {
+    settings = record { head = c.head; types = []; languages = []; problems = []; groups = []; teams = [] };
+    accounts = [];
+    marks = record { start = c.start; thaw = None; finalized = None };
+  };
+  submissions = [];
+  proposals = [];
+  releases = [];
+  clarifications = [];
+  rejudgings = [];
+}
 
 -- the submissions of the team at a place
 abbrev pub submissions_of : ℕ → List Submission → List Submission

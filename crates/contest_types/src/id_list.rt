@@ -2,7 +2,7 @@
 ghost use Rattle.std.specs.Prelude.{◌≡◌, ℕ, ◌<◌, List, [], ◌∷◌, ◌++◌, true, None, Some, IfErr, OnOk, OnErr, IfOk, IfSome, IsSome, length, map, ◌≤◌, nat_le};
 ghost use Rattle.contest_types.specs.IdText.{IsId};
 ghost use Rattle.contest_types.specs.Places.{place_of, are_different};
-ghost use Rattle.contest_types.specs.Additions.{standing_of, addition, addition_by, IsFaultOf, grown};
+ghost use Rattle.contest_types.specs.Additions.{id_match_of, addition, addition_by, IsFaultOf, grown};
 
 use crate::{Cause, Id, RowFault};
 use std::alloc::{AllocError, Global};
@@ -21,9 +21,9 @@ pub trait Identified {
         ensures { result.now ≡ id self.now };
 }
 
-/// What stands of a row's id in a list.
+/// What a list has under a row's id.
 #[derive(Clone, Copy, Debug, PartialEq, Eq)]
-pub enum Standing {
+pub enum IdMatch {
     /// No row has the id.
     New,
     /// An equal row has it.
@@ -100,17 +100,17 @@ impl<T: Identified + Drop> IdList<T> {
 }
 
 impl<T: Identified + PartialEq + Drop> IdList<T> {
-    /// What stands of this row's id.
-    pub fn standing(&self, row: &T) -> Standing
-        ensures { result ≡ standing_of T.id T.eq self.now row.now }
+    /// What the list has under this row's id.
+    pub fn id_match(&self, row: &T) -> IdMatch
+        ensures { result ≡ id_match_of T.id T.eq self.now row.now }
     {
         match self.place(row.id().as_bytes()) {
-            None => Standing::New,
+            None => IdMatch::New,
             Some(place) => {
                 if self.rows[place] == *row {
-                    Standing::Same
+                    IdMatch::Same
                 } else {
-                    Standing::Other
+                    IdMatch::Other
                 }
             }
         }
@@ -124,9 +124,9 @@ impl<T: Identified + PartialEq + Drop> IdList<T> {
     pub fn push_within(&mut self, alloc: Global, row: T, most: usize) -> Result<(), RowFault>
         requires { place_of (T.id row) (map T.id self.old) ≡ None }
         ensures ok { OnOk result (self.new ≡ self.old ++ row ∷ []) }
-        ensures room { OnOk result (addition_by Standing.New (nat_le most (length self.old)) ≡ Ok true) }
+        ensures room { OnOk result (addition_by IdMatch.New (nat_le most (length self.old)) ≡ Ok true) }
         ensures unchanged { OnErr result (self.new ≡ self.old) }
-        ensures err { IfErr result (λ e. IsFaultOf e (addition_by Standing.New (nat_le most (length self.old)))) }
+        ensures err { IfErr result (λ e. IsFaultOf e (addition_by IdMatch.New (nat_le most (length self.old)))) }
         ensures different { OnOk result (are_different (map T.id self.new) ≡ true) }
     {
         if self.rows.len() >= most {
@@ -151,10 +151,10 @@ impl<T: Identified + PartialEq + Drop> IdList<T> {
         ensures grows { length self.old ≤ length self.new }
         ensures different { are_different (map T.id self.old) ≡ true → are_different (map T.id self.new) ≡ true }
     {
-        match self.standing(&row) {
-            Standing::Same => Ok(false),
-            Standing::Other => Err(RowFault::Fault(Cause::KeyReused)),
-            Standing::New => {
+        match self.id_match(&row) {
+            IdMatch::Same => Ok(false),
+            IdMatch::Other => Err(RowFault::Fault(Cause::KeyReused)),
+            IdMatch::New => {
                 self.push_within(alloc, row, most)?;
                 Ok(true)
             }

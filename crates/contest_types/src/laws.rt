@@ -1,5 +1,5 @@
 //! Laws of the model: functions that do nothing, and whose contracts say what holds of every contest.
-ghost use Rattle.contest_types.specs.Laws.{IsAlikeToItself, IsAlikeBothWays, IsAlikeOnward, AlikeShowTheSame, AlikeTellTheSame, SeenIsListed, SeenIsInOrder, OneListIsSeen, HeardIsListed, OneListIsHeard, OneOrder, SettingsAreTested, AddingKeepsValid};
+ghost use Rattle.contest_types.specs.Laws.{IsAlikeToItself, IsAlikeBothWays, IsAlikeOnward, AlikeShowTheSame, AlikeTellTheSame, SeenIsListed, SeenIsInOrder, OneListIsSeen, HeardIsListed, OneListIsHeard, OneOrder, SettingsAreTested, AddingKeepsValid, ImportedIsAddable};
 ghost use Rattle.contest_types.specs.Sight.{SeenSubmission, SeenClarification};
 
 /// A contest is alike to itself.
@@ -74,4 +74,9 @@ pub fn settings_are_tested()
 /// What may be added keeps a valid contest valid, one change after another.
 pub fn adding_keeps_valid()
     ensures { AddingKeepsValid }
+{}
+
+/// An imported verdict that is added may be added.
+pub fn imported_is_addable()
+    ensures { ImportedIsAddable }
 {}

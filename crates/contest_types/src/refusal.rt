@@ -1,6 +1,6 @@
 //! Why something is refused: each refusal's number, name and HTTP status.
 ghost use Rattle.std.specs.Prelude.{◌≡◌};
-ghost use Rattle.contest_types.specs.Refusals.{number_of, name_of, status_of, cause_name};
+ghost use Rattle.contest_types.specs.Refusals.{number_of, refusal_name, status_of, cause_name};
 
 use std::alloc::{AllocError, AllocFailed};
 
@@ -122,7 +122,7 @@ impl Refusal {
 
     /// Its name, one word.
     pub fn name(self) -> &'static str
-        ensures { result.now ≡ name_of self }
+        ensures { result.now ≡ refusal_name self }
     {
         match self {
             Refusal::Malformed => "Malformed",

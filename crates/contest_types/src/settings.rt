@@ -6,7 +6,7 @@ ghost use Rattle.contest_types.specs.Additions.{IsFaultOf};
 ghost use Rattle.contest_types.specs.SetupAdditions.{IsNew, type_addition, language_addition, problem_addition, group_addition, team_addition, with_type, with_language, with_problem, with_group, with_team};
 ghost use Rattle.contest_types.specs.Places.{place_of, is_among};
 
-use crate::id_list::{IdList, Standing};
+use crate::id_list::{IdList, IdMatch};
 use crate::{
     Cause, ContestHead, Group, JudgementType, Language, Medals, Name, Problem, RowFault, Team,
     TimeSpan, limits,
@@ -201,10 +201,10 @@ impl Settings {
         ensures err { IfErr result (λ e. IsFaultOf e (problem_addition self.old problem)) }
         ensures unchanged { OnErr result (self.new ≡ self.old) }
     {
-        match self.problems.standing(&problem) {
-            Standing::Same => Ok(false),
-            Standing::Other => Err(RowFault::Fault(Cause::KeyReused)),
-            Standing::New => {
+        match self.problems.id_match(&problem) {
+            IdMatch::Same => Ok(false),
+            IdMatch::Other => Err(RowFault::Fault(Cause::KeyReused)),
+            IdMatch::New => {
                 if has_label(self.problems.as_slice(), &problem.label) {
                     return Err(RowFault::Fault(Cause::KeyReused));
                 }

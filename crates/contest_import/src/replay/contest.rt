@@ -1,7 +1,7 @@
 //! The contest of a replay file.
 ghost use Rattle.std.specs.Prelude.{◌≡◌, ◌<◌, ◌^◌, Bool, true, All, length, nat_le};
 ghost use Rattle.contest_types.specs.Valid.{is_valid};
-ghost use Rattle.contest_score.specs.Masks.{IsAdmitted};
+ghost use Rattle.contest_score.specs.MaskedCells.{IsAdmitted};
 ghost use Rattle.contest_import.specs.ReplayContest.{contest_of, marks_for, up_to};
 ghost use Rattle.contest_import.specs.ReplayState.{IsReplay};
 

@@ -1,10 +1,10 @@
 use Rattle.std.proofs.Common.{◌≤◌, length, arith, lit≤}
-use Rattle.contest_types.specs.Refusals.{name_of}
+use Rattle.contest_types.specs.Refusals.{refusal_name}
 use Rattle.contest_types.specs.declared.refusal.Refusal.{Refusal}
 use Rattle.contest_types.specs.declared.refusal.Refusal.TheVariants as refusal
 use Rattle.contest_cli.proofs.lines.refusal_line.Goals as goal
 
-name_is_short : (r : Refusal) → length (name_of r) ≤ 19
+name_is_short : (r : Refusal) → length (refusal_name r) ≤ 19
 name_is_short refusal.Malformed = lit≤ tt
 name_is_short refusal.UnknownToken = lit≤ tt
 name_is_short refusal.RoleForbids = lit≤ tt

@@ -1,5 +1,6 @@
 use Rattle.std.proofs.Common.{◌≡◌}
-use Rattle.contest_score.specs.Table.{no_attempts, cells_table}
+use Rattle.contest_score.specs.Table.{no_attempts}
+use Rattle.contest_score.specs.Counting.{cells_table}
 use Rattle.contest_score.proofs.counting.empty_table.Given as goal
 
 abbrev pub invariant-loop : goal.invariant-loop

@@ -1,6 +1,6 @@
 use Rattle.std.proofs.Common.{◌≡◌, map}
 use Rattle.std.specs.List.{range_with_len}
-use Rattle.contest_score.specs.Masks.{mask_for}
+use Rattle.contest_score.specs.MaskedCells.{mask_for}
 use Rattle.contest_score.proofs.counting.masks.Given as goal
 
 -- a mask for each team so far

@@ -1,6 +1,6 @@
 use Rattle.std.proofs.Common.{length, take, arith, ap, ◌∙◌}
 use Rattle.std.proofs.lemmas.List.{take_all}
-use Rattle.contest_score.specs.Masks.{mask_for}
+use Rattle.contest_score.specs.MaskedCells.{mask_for}
 use Rattle.contest_score.proofs.Tables.{table_of, table_teams, table_problems, table_room, next_table, mask_at, admitted_at, many_masks, table_cells}
 use Rattle.contest_score.proofs.counting.plain_cells.Goals as goal
 

@@ -2,7 +2,7 @@ use Rattle.std.proofs.Common.{◌≡◌, sym, arith, map, Some}
 use Rattle.contest_types.specs.Places.{place_of}
 use Rattle.contest_types.proofs.PlaceLemmas.{place_within}
 use Rattle.contest_types.proofs.AdditionLemmas.{stands_new, stands_same, stands_other}
-use Rattle.contest_types.proofs.id_list.IdList.standing.Goals as goal
+use Rattle.contest_types.proofs.id_list.IdList.id_match.Goals as goal
 
 pub index-requires : goal.index-requires
 index-requires g c =

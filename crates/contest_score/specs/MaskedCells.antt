@@ -1,5 +1,5 @@
--- What a caller sees of verdicts: all of them, or those on submissions from before the freeze
--- (DOMjudge manual, "Scoreboard": the freeze goes by submission time).
+-- A team's attempts at a problem and the cell that they come to, by the verdicts that a mask shows
+-- (DOMjudge manual, "Scoreboard").
 use Rattle.std.specs.Prelude.{◌≡◌, ℕ, ◌<◌, Bool, true, ◌&&◌, ◌==◌, List, length, map, filter, Option, Some, None, IfSome, slice_get}
 use Rattle.std.specs.Option.{option_map, option_map_or}
 use Rattle.contest_types.specs.Setup.{Setup}
