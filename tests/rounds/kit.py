@@ -14,8 +14,9 @@ import sys
 
 def load():
     path = shutil.which("rt")
-    path = os.path.realpath(path) if path else "/opt/rattle/bin/rt"
-    loader = importlib.machinery.SourceFileLoader("rt_of_kit", path)
+    if not path:
+        sys.exit("the kit's command rt isn't on the path")
+    loader = importlib.machinery.SourceFileLoader("rt_of_kit", os.path.realpath(path))
     made = importlib.util.module_from_spec(importlib.util.spec_from_loader("rt_of_kit", loader))
     loader.exec_module(made)
     return made

@@ -15,11 +15,12 @@ abbrev pub lists_after_row : Option ReplayLists → Option FiveFields → Judged
 lists_after_row so_far None = Err cause.Malformed
 lists_after_row so_far (Some fields) = lists_after so_far fields
 
--- the contest after records n, n + 1 and so on, or the first of them at fault
+-- what follows a record, or that record's fault with its number
 abbrev pub or_first_fault : (Option ReplayLists → Result (Option ReplayLists) (ℕ × Cause)) → ℕ → Judged → Result (Option ReplayLists) (ℕ × Cause)
 or_first_fault more n (Ok r) = more (Some r)
 or_first_fault more n (Err c) = Err (n, c)
 
+-- the contest after records n, n + 1 and so on, or the first of them at fault
 abbrev pub lists_after_all : Option ReplayLists → ℕ → List (List Text) → Result (Option ReplayLists) (ℕ × Cause)
 lists_after_all so_far n [] = Ok so_far
 lists_after_all so_far n (row ∷ rows) = or_first_fault (λ r. lists_after_all r (n + 1) rows) n (lists_after_row so_far (five_of row))
@@ -67,6 +68,12 @@ contest_of_records (header ∷ rows) = if is_header header then contest_under ro
 abbrev pub contest_in_file : List ℕ → Result ReplayLists Refusal
 contest_in_file bytes = contest_of_records (records default_config (strip_bom bytes))
 
+-- a refusal is the one, or memory was refused
+abbrev pub Refuses : {A : Type 0} → Refusal → Result A Refusal → Type 0
+Refuses {A} e r = (e ≡ Memory) ⊎ (r ≡ Err e)
+
+-- Words of private functions, from here on: nothing public is said with them.
+
 -- what reading comes to, from what was read so far and the records still to come
 abbrev pub result_after : Option ReplayLists → Option (ℕ × Cause) → ℕ → List (List Text) → Result (Option ReplayLists) (ℕ × Cause)
 result_after so_far None n rows = lists_after_all so_far n rows
@@ -79,7 +86,3 @@ result_from so_far fault named n rows = if named || any_names_contest rows then 
 abbrev pub as_some : Judged → Result (Option ReplayLists) Cause
 as_some (Ok r) = Ok (Some r)
 as_some (Err c) = Err c
-
--- a refusal is the one, or memory was refused
-abbrev pub Refuses : {A : Type 0} → Refusal → Result A Refusal → Type 0
-Refuses {A} e r = (e ≡ Memory) ⊎ (r ≡ Err e)

@@ -1,5 +1,5 @@
--- What becomes of a submission that a team hands in (Contest API 2023-06, submissions; CCS
--- Requirements, "Submissions"; keys, numbers and the order of refusals are own).
+-- What becomes of a submission that a team hands in (Contest API 2023-06, submissions; Contest Control
+-- System Requirements, "Submissions"; keys, numbers and the order of refusals are own).
 use Rattle.std.specs.Prelude.{ℕ, ◌+◌, ◌-◌, Bool, true, false, not, ◌&&◌, ◌==◌, nat_lt, nat_le, List, length, map, Option, None, Some, is_none, slice_get, if◌then◌else◌}
 use Rattle.std.specs.List.{position}
 use Rattle.std.specs.Option.{option_map, option_map_or}
@@ -46,7 +46,7 @@ is_running phase.Before = false
 is_running phase.Running = true
 is_running phase.Ended = false
 
--- the contest runs, and its results aren't final
+-- the contest runs, and no moment is set at which its results are final, not even one to come
 abbrev pub takes_submissions : FixedPart → ℕ → Bool
 takes_submissions f now = is_running (phase_at f.settings f.marks now) && is_none f.marks.finalized
 

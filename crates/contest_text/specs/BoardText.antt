@@ -16,10 +16,11 @@ use Rattle.contest_score.specs.declared.row.Row.{Row}
 use Rattle.contest_text.specs.Padding.{columns_of, left, right}
 use Rattle.contest_text.specs.CellText.{cell_text}
 
--- whose board it is: `Public`, `Jury` or `Team <id>`
+-- the id of the team with a number, from 1; nothing where there is none
 abbrev pub numbered_id : Setup → ℕ → List ℕ
 numbered_id s number = if number == 0 then [] else team_id_at s (number - 1)
 
+-- whose board it is: `Public`, `Jury` or `Team <id>`
 abbrev pub who_text : Setup → Audience → List ℕ
 who_text s audience.Public = codes "Public"
 who_text s (audience.Team number) = codes "Team " ++ numbered_id s number

@@ -34,8 +34,8 @@ all_may : list_all (is_addable base) may_be_added ≡ true
 all_may = refl
 
 -- and what they may not: a number or a round left out or held, a time before the team's last, what isn't
--- there, a second imported proposal, a reopened rejudging, a start once something stands, an equal row,
--- another one under an id, a label or a token
+-- there, a reopened rejudging, a start once something stands, an equal row, another one under an id or a
+-- label
 abbrev may_not : List Entry
 may_not =
     NewSubmission (submitted 0 3 (minutes 10) 1) ∷ NewSubmission (submitted 0 2 (minutes 9) 1) ∷ NewSubmission (submitted 0 2 (hours 5) 1)
@@ -53,9 +53,12 @@ may_not =
 none_may : list_any (is_addable base) may_not ≡ false
 none_may = refl
 
--- a second group of the same id, and a second imported proposal
+-- a second group of the same id, a token that is held, and a second imported proposal
 same_group_not : is_addable (record base { fixed = record base.fixed { settings = record base.fixed.settings { groups = record { id = codes "n"; name = codes "North" } ∷ [] } } }) (NewGroup (record { id = codes "n"; name = codes "South" })) ≡ false
 same_group_not = refl
+
+token_held : is_addable base (NewAccount (record (account_for (codes "adm") role.Admin) { digest = codes "j1" })) ≡ false
+token_held = refl
 
 one_import : is_addable (record base { proposals = record (proposed 0 1 wrong 5) { proposer = proposer.Import } ∷ [] }) (NewProposal (record (proposed 0 1 accepted 5) { proposer = proposer.Import })) ≡ false
 one_import = refl

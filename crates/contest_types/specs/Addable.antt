@@ -39,7 +39,7 @@ is_next_clarification cs c =
     (c.number == length cs + 1)
     && (if c.from_jury then nat_lt (count_by (λ (d : Clarification). d.from_jury) cs) JURY_CLARIFICATIONS else nat_lt (count_by is_request cs) TEAM_REQUESTS)
 
--- the rejudging, if it is open, shares no member with another
+-- the rejudging, if it is open, shares no member with another open one
 abbrev pub is_next_rejudging : List Rejudging → Rejudging → Bool
 is_next_rejudging rs r =
     nat_lt (length rs) REJUDGINGS && (not (is_open r) || are_different_members (open_members rs ++ r.members))

@@ -19,7 +19,7 @@ use Rattle.contest_types.specs.declared.clarification.Addressee.{Addressee}
 use Rattle.contest_types.specs.declared.clarification.Addressee.TheVariants.{All as ToAll, Team as ToTeam}
 use Rattle.contest_types.specs.declared.clarification.Reference.{Reference}
 
--- a release, without whose submission it is on
+-- what a release says of the submission that it is on
 pub record Judgement : Type 0 where
   pub round : ℕ
   pub verdict : ℕ

@@ -1,5 +1,6 @@
--- The ids of what teams and judges make, as the Contest API 2023-06 shows them. Teams are numbered from 1,
--- and each number counts its own team's, or its own submission's, alone.
+-- The ids of what teams and judges make, which the Contest API 2023-06 leaves to the server (their forms are
+-- own). Teams are numbered from 1. A number counts what its own team made, or what was released on its own
+-- submission; that of a clarification to all counts those to all.
 use Rattle.std.specs.Prelude.{ℕ, ◌+◌, List, ◌++◌, codes}
 use Rattle.std.specs.Fmt.{decimal}
 use Rattle.contest_types.specs.declared.clarification.Addressee.{Addressee}

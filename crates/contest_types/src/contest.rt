@@ -15,8 +15,8 @@ pub struct ContestHead {
     pub freeze: Option<TimeSpan>,
     /// Minutes for each penalised attempt at a solved problem, at most 1000.
     pub penalty_time: u32,
-    /// Whether a second judge verifies each verdict before it is released (DOMjudge manual,
-    /// "Verification").
+    /// Whether a second judge verifies each verdict before it is released (DOMjudge manual, "Judging":
+    /// verification).
     pub verification: bool,
     /// How many places each kind of medal has.
     pub medals: Medals,

@@ -15,8 +15,8 @@ use std::alloc::Global;
 use std::cmp::Ordering;
 use std::marker::Model;
 
-/// What names an object of a contest in paths, files and replies: 1 to 36 letters, digits, `_`, `.`
-/// or `-`, not beginning with `-` (Contest API 2023-06, ID). Contracts see its bytes.
+/// What names an object of a contest in paths, files and replies (Contest API 2023-06, ID): 1 to 36
+/// letters, digits, `_`, `.` or `-`, not beginning with `-` (own). Contracts see its bytes.
 #[derive(Clone, Debug, Drop)]
 pub struct Id {
     text: String,
