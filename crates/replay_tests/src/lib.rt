@@ -1,19 +1,10 @@
-//! Tests of the command `replay` over memory: a file and words, and the board or the refusal that they
-//! must give. The expected values come from worked examples, from tests/second_opinion.py and from
-//! counting by hand.
+//! Tests of the command `replay` over streams that fail, stop short or are interrupted. What it gives for
+//! files and words is tested on the built program, by scripts under tests/.
 #![tactic(auto)]
 
 #[cfg(test)]
-mod asserted;
+mod answers;
 #[cfg(test)]
-mod examples;
-#[cfg(test)]
-mod limits;
-#[cfg(test)]
-mod reading;
-#[cfg(test)]
-mod refusals;
+mod files;
 #[cfg(test)]
 mod streams;
-#[cfg(test)]
-mod words;

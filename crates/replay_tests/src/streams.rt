@@ -2,15 +2,16 @@
 
 ghost use Rattle.std.specs.Prelude.{◌≤◌, length};
 
+use crate::answers::{Answer, answer_to, replay};
+use crate::files::{FIRST, FIRST_BOARD};
 use contest_fixtures::text_of;
-use replay_fixtures::{Answer, FIRST, FIRST_BOARD, HEAD, LAST, answer_to, replay};
 use std::alloc::Global;
 use std::io;
 use std::io::{Read, Write};
 use std::test::Fail;
 
 /// Moves as many bytes as both sides and the piece allow from the file to the buffer.
-pub fn take_piece(file: &mut &[u8], buf: &mut [u8], piece: usize) -> usize
+fn take_piece(file: &mut &[u8], buf: &mut [u8], piece: usize) -> usize
     ensures { result ≤ length buf.old }
 {
     let count = file.len().min(buf.len()).min(piece);
@@ -21,11 +22,11 @@ pub fn take_piece(file: &mut &[u8], buf: &mut [u8], piece: usize) -> usize
 
 /// Is interrupted so many times, gives its file in pieces, and then ends or fails.
 #[derive(Drop)]
-pub struct Source<'a> {
-    pub interrupts: u32,
-    pub file: &'a [u8],
-    pub piece: usize,
-    pub fails: bool,
+struct Source<'a> {
+    interrupts: u32,
+    file: &'a [u8],
+    piece: usize,
+    fails: bool,
 }
 
 impl Read for Source<'_> {
@@ -80,12 +81,13 @@ fn broken(alloc: Global, file: &[u8], piece: usize) -> Answer {
     answer_to(alloc, &["replay"], &mut reader)
 }
 
+/// A file with a fault at its second line.
+const BAD: &str = "kind,id,f1,f2,f3\ncontest,c,Cup,1:00:00,\nnonsense\n";
+
 /// A failing reader is told even where the file has a fault before it.
 #[test]
 fn refuses_a_reader_that_fails(rt: HostRuntime) -> Result<(), Fail> {
-    let good = format!(in rt.alloc(); "{HEAD}{FIRST}{LAST}")?;
-    let bad = format!(in rt.alloc(); "{HEAD}nonsense\n")?;
-    for (file, piece) in [(good.as_bytes(), 7), (bad.as_bytes(), 1)] {
+    for (file, piece) in [(FIRST.as_bytes(), 7), (BAD.as_bytes(), 1)] {
         for cut in 0..=file.len() {
             let answer = broken(rt.alloc(), &file[..cut], piece);
             assert!(rt;
@@ -117,9 +119,8 @@ static INTERRUPTED: [(u32, u8, &str, &str); 3] = [
 
 #[test]
 fn tries_an_interrupted_read_a_thousand_times(rt: HostRuntime) -> Result<(), Fail> {
-    let file = format!(in rt.alloc(); "{HEAD}{FIRST}{LAST}")?;
     for (times, status, board, line) in &INTERRUPTED {
-        let answer = interrupted(rt.alloc(), file.as_bytes(), *times);
+        let answer = interrupted(rt.alloc(), FIRST.as_bytes(), *times);
         assert!(rt; answer.is(*status, board, line), "{times} times: {answer}");
     }
     Ok(())
@@ -145,7 +146,6 @@ fn written(alloc: Global, file: &[u8], room: usize, piece: usize, fails: bool) -
 
 #[test]
 fn refuses_a_writer_that_fails_at_any_byte(rt: HostRuntime) -> Result<(), Fail> {
-    let file = format!(in rt.alloc(); "{HEAD}{FIRST}{LAST}")?;
     let board = FIRST_BOARD.as_bytes();
     for room in 0..=board.len() {
         let front = text_of(&board[..room]);
@@ -155,7 +155,7 @@ fn refuses_a_writer_that_fails_at_any_byte(rt: HostRuntime) -> Result<(), Fail> 
             (board.len(), true),
             (board.len(), false),
         ] {
-            let answer = written(rt.alloc(), file.as_bytes(), room, piece, fails);
+            let answer = written(rt.alloc(), FIRST.as_bytes(), room, piece, fails);
             let is_done = room == board.len() && !fails;
             let status = u8::from(!is_done);
             let line = if is_done { "" } else { "refused: File\n" };

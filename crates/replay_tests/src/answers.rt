@@ -2,7 +2,7 @@
 
 use contest_cli::Counted;
 use contest_fixtures::text_of;
-use std::alloc::{AllocError, Global};
+use std::alloc::Global;
 use std::fmt;
 use std::io::{Read, Write};
 
@@ -33,17 +33,6 @@ impl fmt::Display for Answer {
     }
 }
 
-/// The words of a command line, from options that are separated by single spaces.
-pub fn words_of(alloc: Global, options: &str) -> Result<Vec<&str>, AllocError> {
-    let mut words = vec![in alloc; "replay"]?;
-    for option in options.split(' ') {
-        if !option.is_empty() {
-            words.push(option)?;
-        }
-    }
-    Ok(words)
-}
-
 /// Runs the command over streams whose failures nobody counts.
 pub fn replay<R: Read, O: Write, E: Write>(
     alloc: Global,
@@ -64,11 +53,4 @@ pub fn answer_to<R: Read>(alloc: Global, words: &[&str], reader: &mut R) -> Answ
     let mut err = Vec::new(alloc);
     let status = replay(alloc, words, reader, &mut out, &mut err);
     Answer { status, out, err }
-}
-
-/// What the command gives for a file.
-pub fn run(alloc: Global, options: &str, file: &[u8]) -> Result<Answer, AllocError> {
-    let words = words_of(alloc, options)?;
-    let mut reader = file;
-    Ok(answer_to(alloc, words.as_slice(), &mut reader))
 }
