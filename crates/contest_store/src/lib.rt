@@ -8,6 +8,7 @@ mod store;
 mod store_error;
 mod valid_fixed;
 
+pub use copies::CopyRow;
 pub use lists::Lists;
 pub use memory::MemoryStore;
 pub use store::ContestStore;
