@@ -170,6 +170,39 @@ impl MemoryStore {
         }
     }
 
+    // Makes a change, and answers whether it did: those of the fixed part aren't made. Where memory is
+    // refused nothing is changed.
+    fn add(&mut self, alloc: Global, entry: Entry) -> Result<bool, AllocError>
+        ensures ok { IfOk result (λ added. IsTrue added → contest_of self.new ≡ add (contest_of self.old) entry) }
+        ensures kept { OnOk result (committed_of self.new ≡ committed_of self.old) }
+        ensures counts { OnOk result ((self.new.faults ≡ self.old.faults) × (self.new.refusals ≡ self.old.refusals) × (self.new.commits ≡ self.old.commits)) }
+        ensures err { OnErr result (self.new ≡ self.old) }
+        ensures none { IfOk result (λ added. added ≡ false → self.new ≡ self.old) }
+    {
+        match entry {
+            Entry::NewSubmission(submission) => {
+                self.add_submission(alloc, submission)?;
+                Ok(true)
+            }
+            entry => self.change_lists(alloc, entry),
+        }
+    }
+
+    fn change_lists(&mut self, alloc: Global, entry: Entry) -> Result<bool, AllocError>
+        ensures ok { IfOk result (λ added. IsTrue added → contest_of self.new ≡ add (contest_of self.old) entry) }
+        ensures kept { OnOk result (committed_of self.new ≡ committed_of self.old) }
+        ensures counts { OnOk result ((self.new.faults ≡ self.old.faults) × (self.new.refusals ≡ self.old.refusals) × (self.new.commits ≡ self.old.commits)) }
+        ensures err { OnErr result (self.new ≡ self.old) }
+        ensures none { IfOk result (λ added. added ≡ false → self.new ≡ self.old) }
+    {
+        let mut next = self.latest().copied(alloc)?;
+        let added = next.add(alloc, entry)?;
+        if added {
+            self.pending = Some(next);
+        }
+        Ok(added)
+    }
+
     // Where memory is refused nothing is added.
     fn add_submission(&mut self, alloc: Global, submission: Submission) -> Result<(), AllocError>
         ensures ok { OnOk result (contest_of self.new ≡ add (contest_of self.old) (NewSubmission submission)) }
@@ -225,13 +258,13 @@ impl ContestStore for MemoryStore {
         if self.fails() {
             return Err(StoreError::Fault);
         }
-        let Entry::NewSubmission(submission) = entry else {
-            self.count();
-            self.roll_back();
-            return Err(StoreError::Fault);
-        };
-        match self.add_submission(alloc, submission) {
-            Ok(()) => Ok(()),
+        match self.add(alloc, entry) {
+            Ok(true) => Ok(()),
+            Ok(false) => {
+                self.count();
+                self.roll_back();
+                Err(StoreError::Fault)
+            }
             Err(AllocError) => Err(self.refuse()),
         }
     }
