@@ -8,7 +8,7 @@ use Rattle.contest_desk.specs.Offers.{allowed_on}
 use Rattle.contest_desk.specs.Outcomes.{Outcome}
 use Rattle.contest_desk.specs.Replies.{refused}
 use Rattle.contest_desk.specs.Routes.{route_of}
-use Rattle.contest_desk.specs.Step.{is_here, offered, asked, or_refused, wished_by, outcome_of, step}
+use Rattle.contest_desk.specs.Step.{is_here, offered, asked, or_refused, wished_by, outcome_of}
 use Rattle.contest_desk.specs.Wishes.{submission_wish}
 use Rattle.contest_desk.specs.Laws.{HeadIsGet}
 use Rattle.contest_desk.specs.declared.offer.AllowedMethods.{AllowedMethods}

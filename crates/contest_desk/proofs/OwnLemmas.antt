@@ -2,13 +2,13 @@
 use Rattle.std.proofs.Common.{◌≡◌, ◌∙◌, ◌+◌, ◌-◌, ◌<◌, ℕ, zero, suc, Bool, true, false, cond, List, [], ◌∷◌, length, map, Option, Some, None, refl, sym, ap, subst, arith}
 use Rattle.std.specs.Prelude.{◌==◌, find, slice_get, slice_set, if◌then◌else◌}
 use Rattle.std.specs.List.{position, position_from, position_or_len}
-use Rattle.std.specs.Option.{option_map, option_and_then}
+use Rattle.std.specs.Option.{option_map}
 use lib.Dec.{ltb}
 use Rattle.std.proofs.lemmas.List.Folds.{find_at}
 use Rattle.std.proofs.lemmas.Iterator.Adapters.{position_from-zero}
 use Rattle.std.proofs.lemmas.List.{length-map}
 use Rattle.std.proofs.lemmas.Option.{slice_get-map}
-use Rattle.contest_types.specs.Loads.{without_file, loaded_submissions, file_of}
+use Rattle.contest_types.specs.Loads.{without_file, file_of}
 use Rattle.contest_types.specs.State.{FixedPart, ContestState, submissions_of}
 use Rattle.contest_types.specs.Valid.{is_valid}
 use Rattle.contest_types.specs.declared.submission.Submission.{Submission}
@@ -21,7 +21,6 @@ use Rattle.contest_rules.specs.declared.decision.Decision.{Decision}
 use Rattle.contest_rules.specs.declared.decision.Decision.TheVariants.{Refused}
 use Rattle.contest_rules.specs.declared.submitting.WantedSubmission.{WantedSubmission}
 use Rattle.contest_desk.specs.OwnSubmissions.{keyed_row, with_file, with_row, with_file_at, loaded_for}
-use Rattle.contest_desk.specs.declared.wish.Wish.TheVariants.{Submit}
 use Rattle.contest_desk.proofs.FileLemmas.{find_both, file_there}
 
 -- a team's submissions without their files are its among those without their files

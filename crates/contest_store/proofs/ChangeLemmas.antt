@@ -1,6 +1,6 @@
 -- A row that is changed where it stands.
-use Rattle.std.proofs.Common.{◌≡◌, ◌∙◌, ◌+◌, ◌-◌, ◌<◌, ◌≤◌, ℕ, zero, suc, Bool, true, false, List, [], ◌∷◌, length, Some, refl, sym, inl, inr, arith}
-use Rattle.std.specs.Prelude.{◌⊎◌, ◌==◌, slice_get, slice_set, if◌then◌else◌}
+use Rattle.std.proofs.Common.{◌≡◌, ◌∙◌, ◌+◌, ◌<◌, ◌≤◌, ℕ, zero, suc, true, false, List, [], ◌∷◌, length, Some, refl, sym, inl, inr, arith}
+use Rattle.std.specs.Prelude.{◌⊎◌, ◌==◌, slice_get, slice_set}
 use Rattle.std.proofs.lemmas.Bool.Decides.{nat_tests}
 use Rattle.contest_types.specs.State.{changed_at}
 

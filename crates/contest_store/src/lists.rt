@@ -169,7 +169,11 @@ fn place_of(n: usize, len: usize) -> Option<usize>
     ensures there { IfSome result (λ place. (n ≡ 1 + place) × (place < len)) }
     ensures nowhere { IfNone result ((n < 1) ⊎ (1 + len ≤ n)) }
 {
-    if n >= 1 && n <= len { Some(n - 1) } else { None }
+    if n >= 1 && n <= len {
+        Some(n - 1)
+    } else {
+        None
+    }
 }
 
 fn put_state(rejudgings: &mut Vec<Rejudging>, place: usize, state: RejudgingState)

@@ -85,10 +85,7 @@ static FULL: [Asked; 4] = [
     },
 ];
 
-fn assert_fills(
-    rt: &(impl Abort + AllocGlobal),
-    desk: &mut Desk<MemoryStore>,
-) -> Result<(), Fail> {
+fn assert_fills(rt: &(impl Abort + AllocGlobal), desk: &mut Desk<MemoryStore>) -> Result<(), Fail> {
     let alloc = rt.alloc();
     for number in 1..501 {
         let item = item(alloc, &POSTS, POSTS.body.as_bytes())?;

@@ -1,6 +1,4 @@
-use Rattle.std.proofs.Common.{sym, subst, rules, ◌+◌, ◌≤◌}
-use Rattle.std.specs.Prelude.{◌<◌, ◌⊎◌, length}
-use Rattle.contest_types.specs.State.{with_member_state}
+use Rattle.std.proofs.Common.{rules}
 use Rattle.contest_types.specs.declared.rejudging.Rejudging.{Rejudging}
 use Rattle.contest_store.proofs.ChangeLemmas.{changed_by, unchanged}
 use Rattle.contest_store.proofs.lists.set_rejudging.Goals as goal
