@@ -140,7 +140,12 @@ fn hand_in_both(
     if walk.kept {
         assert_eq!(rt; store.commit(), Err(StoreError::Fault));
     }
-    assert_eq!(rt; (store.faults(), store.refusals()), (1, 0), "after {} calls", walk.calls);
+    assert_eq!(rt;
+        (store.faults(), store.refusals()),
+        (1, 0),
+        "after {} calls",
+        walk.calls
+    );
     Ok(())
 }
 
@@ -176,7 +181,10 @@ fn assert_tells(rt: &(impl Abort + AllocGlobal), store: &mut MemoryStore) -> Res
     let alloc = rt.alloc();
     let closes = Entry::SetRejudging(1, RejudgingState::Applied);
     assert_eq!(rt; store.append(alloc, closes), Ok(()));
-    assert_eq!(rt; store.append(alloc, Entry::SetThaw(after(0)?)), Err(StoreError::Fault));
+    assert_eq!(rt;
+        store.append(alloc, Entry::SetThaw(after(0)?)),
+        Err(StoreError::Fault)
+    );
     assert_eq!(rt; store.faults(), 2);
     Ok(())
 }
