@@ -1,11 +1,14 @@
 -- A reply of a fault comes where a fault is counted.
-use Rattle.std.proofs.Common.{◌≡◌, ◌∙◌, ℕ, sym, ap, inl, inr}
-use Rattle.std.specs.Prelude.{◌==◌}
+use Rattle.std.proofs.Common.{◌≡◌, ◌∙◌, ℕ, Err, sym, ap, subst, inl, inr}
+use Rattle.std.specs.Prelude.{◌⊎◌, ◌==◌}
 use Rattle.std.proofs.lemmas.Bool.{false≢true}
-use Rattle.contest_types.specs.Streams.{one_more}
-use Rattle.contest_types.specs.declared.refusal.Refusal.{Refusal}
-use Rattle.contest_types.specs.declared.refusal.Refusal.TheVariants as refusal
-use Rattle.contest_store.specs.Keeping.{CountsRefusal}
+use Rattle.contest_types.specs.Streams.{Failed, one_more}
+use Rattle.contest_types.specs.declared.refusal.Refusal.TheVariants.{StoreFault, Memory as OutOfMemory}
+use Rattle.contest_store.specs.Keeping.{CountsFaults, CountsRefusals}
+use Rattle.contest_store.specs.StoreErrors.{refusal_of}
+use Rattle.contest_store.specs.declared.store_error.StoreError.{StoreError}
+use Rattle.contest_store.specs.declared.store_error.StoreError.TheVariants.{Fault, Memory}
+use Rattle.contest_store.proofs.LeaveLemmas.{one_more_failed}
 use Rattle.contest_desk.specs.Replies.{refused}
 use Rattle.contest_desk.specs.Serving.{IsOrdinary, IsStoreReply}
 use Rattle.contest_desk.specs.declared.reply.Reply.{Reply}
@@ -15,29 +18,17 @@ pub ordinary_apart : (reply : Reply) → IsOrdinary reply → IsStoreReply reply
 ordinary_apart reply ordinary (inl e) = false≢true (sym ordinary ∙ ap (λ (r : Reply). r.status == 503) e)
 ordinary_apart reply ordinary (inr e) = false≢true (sym ordinary ∙ ap (λ (r : Reply). r.status == 503) e)
 
-pub fault_counted : (e : Refusal) (old new : ℕ) (reply : Reply) → CountsRefusal e old new → reply ≡ refused e → reply ≡ refused refusal.StoreFault → new ≡ one_more old
-fault_counted refusal.StoreFault old new reply counts is told = counts
-fault_counted refusal.Memory old new reply counts is told = absurd (fault_is_not_memory (sym is ∙ told))
-fault_counted refusal.Malformed old new reply counts is told = absurd counts
-fault_counted refusal.UnknownToken old new reply counts is told = absurd counts
-fault_counted refusal.RoleForbids old new reply counts is told = absurd counts
-fault_counted refusal.NotFound old new reply counts is told = absurd counts
-fault_counted refusal.Method old new reply counts is told = absurd counts
-fault_counted refusal.BodyTooLarge old new reply counts is told = absurd counts
-fault_counted refusal.HeadTooLarge old new reply counts is told = absurd counts
-fault_counted refusal.Encoding old new reply counts is told = absurd counts
-fault_counted refusal.NotOpen old new reply counts is told = absurd counts
-fault_counted refusal.UnknownReference old new reply counts is told = absurd counts
-fault_counted refusal.EntryPointMissing old new reply counts is told = absurd counts
-fault_counted refusal.TeamLimit old new reply counts is told = absurd counts
-fault_counted refusal.KeyReused old new reply counts is told = absurd counts
-fault_counted refusal.AlreadyReleased old new reply counts is told = absurd counts
-fault_counted refusal.NothingToVerify old new reply counts is told = absurd counts
-fault_counted refusal.SameJudge old new reply counts is told = absurd counts
-fault_counted refusal.TypeDiffers old new reply counts is told = absurd counts
-fault_counted refusal.InRejudging old new reply counts is told = absurd counts
-fault_counted refusal.RejudgingIncomplete old new reply counts is told = absurd counts
-fault_counted refusal.RejudgingClosed old new reply counts is told = absurd counts
-fault_counted refusal.ClockRefused old new reply counts is told = absurd counts
-fault_counted (refusal.ImportRow n cause) old new reply counts is told = absurd counts
-fault_counted refusal.SettingsClosed old new reply counts is told = absurd counts
+pub fault_counted : (T : Type 0) (e : StoreError) (old new : ℕ) (reply : Reply) → CountsFaults {T = T} (Err e) old new → reply ≡ refused (refusal_of e) → reply ≡ refused StoreFault → new ≡ one_more old
+fault_counted T Fault old new reply counts is told = counts
+fault_counted T Memory old new reply counts is told = absurd (fault_is_not_memory (sym is ∙ told))
+
+-- want of memory is told where the store was refused some, or where the desk may have been
+pub memory_counted : (own T : Type 0) (e : StoreError) (old new : ℕ) (reply : Reply) → CountsRefusals {T = T} own (Err e) old new → reply ≡ refused (refusal_of e) → reply ≡ refused OutOfMemory → Failed old new ⊎ own
+memory_counted own T Fault old new reply counts is told = absurd (fault_is_not_memory (sym told ∙ is))
+memory_counted own T Memory old new reply (inl more) is told = inl (subst (Failed old) (sym more) (one_more_failed old))
+memory_counted own T Memory old new reply (inr may) is told = inr may.0
+
+-- a failure of the store is told as one
+pub store_reply : (e : StoreError) (reply : Reply) → reply ≡ refused (refusal_of e) → IsStoreReply reply
+store_reply Fault reply is = inl is
+store_reply Memory reply is = inr is

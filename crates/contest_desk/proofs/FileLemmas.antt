@@ -21,7 +21,7 @@ abbrev pub number_of : Submission → ℕ
 number_of s = s.number
 
 -- the first that passes both tests is the first of those that pass the one that passes the other
-find_both : {X : Type 0} (p q : X → Bool) (xs : List X) → find (λ x. p x && q x) xs ≡ find q (filter p xs)
+pub find_both : {X : Type 0} (p q : X → Bool) (xs : List X) → find (λ x. p x && q x) xs ≡ find q (filter p xs)
 find_both p q [] = refl
 find_both p q (x ∷ xs) =
     let go : (b : Bool) → p x ≡ b → find (λ x. p x && q x) (x ∷ xs) ≡ find q (filter p (x ∷ xs)) = elim [

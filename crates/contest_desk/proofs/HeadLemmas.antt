@@ -1,18 +1,19 @@
 -- HEAD asks for what GET asks for.
 use Rattle.std.proofs.Common.{◌≡◌, ℕ, List, Option, Some, None, Bool, true, false, refl, ap, ◌∙◌, if◌then◌else◌}
 use Rattle.std.specs.Prelude.{Result, Ok, Err}
-use Rattle.contest_types.specs.State.{ContestState, add_all}
+use Rattle.contest_types.specs.State.{FixedPart, ContestState, add_all}
 use Rattle.contest_types.specs.declared.refusal.Refusal.TheVariants.{NotFound}
 use Rattle.contest_desk.specs.Callers.{Caller, caller_of, team_of}
 use Rattle.contest_desk.specs.Offers.{allowed_on}
 use Rattle.contest_desk.specs.Outcomes.{Outcome}
 use Rattle.contest_desk.specs.Replies.{refused}
 use Rattle.contest_desk.specs.Routes.{route_of}
-use Rattle.contest_desk.specs.Step.{is_here, offered, asked, posted, outcome_of, step}
+use Rattle.contest_desk.specs.Step.{is_here, offered, asked, or_refused, wished_by, outcome_of}
+use Rattle.contest_desk.specs.Wishes.{submission_wish}
 use Rattle.contest_desk.specs.Laws.{HeadIsGet}
 use Rattle.contest_desk.specs.declared.offer.AllowedMethods.{AllowedMethods}
 use Rattle.contest_desk.specs.declared.offer.Operation.{Operation}
-use Rattle.contest_desk.specs.declared.offer.Operation.TheVariants.{ListSubmissions, PostSubmission, GetSubmission}
+use Rattle.contest_desk.specs.declared.offer.Operation.TheVariants.{Read, PostSubmission}
 use Rattle.contest_desk.specs.declared.reply.Reply.{Reply}
 use Rattle.contest_desk.specs.declared.request.Method.TheVariants.{Get, Head}
 use Rattle.contest_desk.specs.declared.request.Request.{Request}
@@ -32,17 +33,16 @@ on_route : (contest path : List ℕ) (o : Option Route)
 on_route contest path None = refl
 on_route contest path (Some route) = here_alike route (is_here contest path route)
 
-posted_alike : (x : ContestState) (now : ℕ) (team : Option ℕ) (request : Request) → posted x now team (record request { method = Head }) ≡ posted x now team (record request { method = Get })
-posted_alike x now None request = refl
-posted_alike x now (Some team) request = refl
+wish_alike : (f : FixedPart) (team : Option ℕ) (request : Request) → submission_wish f team (record request { method = Head }) ≡ submission_wish f team (record request { method = Get })
+wish_alike f None request = refl
+wish_alike f (Some team) request = refl
 
--- what is done doesn't go by the method
-done_alike : (x : ContestState) (now : ℕ) (who : Option Caller) (request : Request) (asks : Result Operation Reply) → outcome_of x now who (record request { method = Head }) asks ≡ outcome_of x now who (record request { method = Get }) asks
-done_alike x now who request (Err reply) = refl
-done_alike x now None request (Ok operation) = refl
-done_alike x now (Some who) request (Ok ListSubmissions) = refl
-done_alike x now (Some who) request (Ok GetSubmission) = refl
-done_alike x now (Some who) request (Ok PostSubmission) = posted_alike x now (team_of who) request
+-- what is wished doesn't go by the method
+wished_alike : (f : FixedPart) (who : Option Caller) (request : Request) (asks : Result Operation Reply) → wished_by f who (record request { method = Head }) asks ≡ wished_by f who (record request { method = Get }) asks
+wished_alike f who request (Err reply) = refl
+wished_alike f None request (Ok operation) = refl
+wished_alike f (Some who) request (Ok (Read reading)) = refl
+wished_alike f (Some who) request (Ok PostSubmission) = ap or_refused (wish_alike f (team_of who) request)
 
 abbrev stepped : ContestState → Outcome → Reply × ContestState
 stepped x o = (o.reply, add_all x o.entries)
@@ -51,4 +51,5 @@ pub head_is_get : HeadIsGet
 head_is_get x now credential request =
     let contest = x.fixed.settings.head.id in
     let who = caller_of x.fixed credential in
-    ap (stepped x) (ap (λ asks. outcome_of x now who (record request { method = Head }) asks) (on_route contest request.path (route_of request.path)) ∙ done_alike x now who request (asked contest request.path Get))
+    ap (λ wish. stepped x (outcome_of x now wish))
+    (ap (wished_by x.fixed who (record request { method = Head })) (on_route contest request.path (route_of request.path)) ∙ wished_alike x.fixed who request (asked contest request.path Get))

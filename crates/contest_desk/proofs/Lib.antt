@@ -5,12 +5,13 @@ pub mod OwnLemmas
 pub mod FileLemmas
 pub mod PostLemmas
 pub mod ServingLemmas
+pub mod KeepLemmas
 pub mod CallerLemmas
+pub mod WishLemmas
 pub mod UnseenLemmas
 pub mod QuietSteps
 pub mod HeadLemmas
 mod ExamplesUnseen
-pub mod StepLemmas
 pub mod AddedAlike
 pub mod PostAdds
 pub mod LawLemmas

@@ -1,8 +1,10 @@
 -- What is loaded of a team's own submissions, and that it decides as all of them would.
 use Rattle.std.proofs.Common.{◌≡◌, ◌∙◌, ◌+◌, ◌-◌, ◌<◌, ℕ, zero, suc, Bool, true, false, cond, List, [], ◌∷◌, length, map, Option, Some, None, refl, sym, ap, subst, arith}
-use Rattle.std.specs.Prelude.{◌==◌, slice_get, slice_set, if◌then◌else◌}
-use Rattle.std.specs.List.{position_from}
+use Rattle.std.specs.Prelude.{◌==◌, find, slice_get, slice_set, if◌then◌else◌}
+use Rattle.std.specs.List.{position, position_from, position_or_len}
 use Rattle.std.specs.Option.{option_map}
+use lib.Dec.{ltb}
+use Rattle.std.proofs.lemmas.List.Folds.{find_at}
 use Rattle.std.proofs.lemmas.Iterator.Adapters.{position_from-zero}
 use Rattle.std.proofs.lemmas.List.{length-map}
 use Rattle.std.proofs.lemmas.Option.{slice_get-map}
@@ -18,8 +20,8 @@ use Rattle.contest_rules.specs.Submitting.{lacks_entry_point, has_key, place_of_
 use Rattle.contest_rules.specs.declared.decision.Decision.{Decision}
 use Rattle.contest_rules.specs.declared.decision.Decision.TheVariants.{Refused}
 use Rattle.contest_rules.specs.declared.submitting.WantedSubmission.{WantedSubmission}
-use Rattle.contest_desk.specs.OwnSubmissions.{with_file, with_row, with_file_at, loaded_for}
-use Rattle.contest_desk.proofs.FileLemmas.{file_there}
+use Rattle.contest_desk.specs.OwnSubmissions.{keyed_row, with_file, with_row, with_file_at, loaded_for}
+use Rattle.contest_desk.proofs.FileLemmas.{find_both, file_there}
 
 -- a team's submissions without their files are its among those without their files
 pub own_loaded : (team : ℕ) (ss : List Submission) → submissions_of team (map without_file ss) ≡ map without_file (submissions_of team ss)
@@ -166,3 +168,16 @@ keyed x key team place items rows valid are is within puts =
     let put : rows ≡ slice_set items place row.0 = puts row.0.file (without_file row.0) at_place (file_there x team place row.0 valid row.1) in
     let same : place_of_key key own ≡ Some place = sym (key_place key own) ∙ (ap (place_of_key key) (sym are) ∙ is) in
     put ∙ (ap (λ ss. slice_set ss place row.0) are ∙ sym (ap (with_file_at own) same ∙ ap (with_row own place) row.1))
+
+-- where it is, it is the key of the row that is looked for among all
+position_is : {X : Type 0} (p : X → Bool) (xs : List X) (i : ℕ) → position p xs ≡ Some i → position_or_len p xs ≡ i
+position_is p xs i is =
+    let go : (b : Bool) → cond b (Some (position_or_len p xs)) None ≡ Some i → position_or_len p xs ≡ i = elim [ true ↦ λ e. cc e | false ↦ λ e. absurd (cc e) ] in
+    go (ltb (position_or_len p xs) (length xs)) is
+
+pub keyed_found : (key : Option (List ℕ)) (team place : ℕ) (rows items : List Submission) (s : Submission) → items ≡ submissions_of team rows → place_of_key key items ≡ Some place → slice_get items place ≡ Some s
+    → keyed_row team key rows ≡ Some (team, s.number)
+keyed_found None team place rows items s are is at = absurd (cc is)
+keyed_found (Some key) team place rows items s are is at =
+    let found : find (has_key key) items ≡ Some s = find_at (has_key key) items ∙ (ap (slice_get items) (position_is (has_key key) items place is) ∙ at) in
+    ap (option_map (λ (t : Submission). (team, t.number))) (find_both (λ (t : Submission). t.team == team) (has_key key) rows ∙ (ap (find (has_key key)) (sym are) ∙ found))

@@ -1,5 +1,5 @@
 -- What a post comes to once its body is read, and once it is decided.
-use Rattle.std.proofs.Common.{◌≡◌, ◌∙◌, ◌+◌, ◌<◌, ◌≤◌, ◌^◌, ℕ, Bool, true, false, List, [], Option, Some, None, Result, Ok, Err, length, map, refl, sym, ap, subst, arith}
+use Rattle.std.proofs.Common.{◌≡◌, ◌∙◌, ◌+◌, ◌<◌, ◌≤◌, ◌^◌, ℕ, Bool, true, false, List, [], Option, Some, None, length, map, refl, sym, ap, subst, arith}
 use Rattle.std.specs.Prelude.{slice_get, if◌then◌else◌}
 use Rattle.std.specs.Option.{option_map}
 use Rattle.std.proofs.lemmas.Option.{slice_get-map}
@@ -9,33 +9,18 @@ use Rattle.contest_types.specs.declared.audience.Audience.TheVariants as audienc
 use Rattle.contest_view.specs.Objects.{submission_data}
 use Rattle.contest_types.specs.Setup.{IsValid}
 use Rattle.contest_types.specs.State.{ContestState, FixedPart, submissions_of}
-use Rattle.contest_types.specs.TeamPlaces.{team_id_at}
 use Rattle.contest_types.specs.Valid.{is_valid}
-use Rattle.contest_types.specs.Addable.{is_addable}
-use Rattle.contest_types.specs.declared.entry.Entry.TheVariants.{NewSubmission}
-use Rattle.contest_types.specs.declared.limits.TheConstants.{POSTED_FILE, TEAMS}
-use Rattle.contest_types.specs.declared.refusal.Refusal.{Refusal}
+use Rattle.contest_types.specs.declared.limits.TheConstants.{TEAMS}
 use Rattle.contest_types.specs.declared.submission.Submission.{Submission}
 use Rattle.contest_rules.specs.Submitting.{submit}
 use Rattle.contest_rules.specs.declared.decision.Decision.{Decision}
-use Rattle.contest_rules.specs.declared.decision.Decision.TheVariants.{Add}
 use Rattle.contest_rules.specs.declared.submitting.WantedSubmission.{WantedSubmission}
 use Rattle.contest_types.proofs.ValidParts.{parts}
 use Rattle.contest_types.proofs.SettingsTest.{is_settings}
-use Rattle.contest_rules.proofs.TakenLemmas.{submitted_is_addable}
-use Rattle.contest_desk.specs.Outcomes.{replying, refusing, telling}
+use Rattle.contest_desk.specs.Outcomes.{telling}
 use Rattle.contest_desk.specs.OwnSubmissions.{loaded_for}
-use Rattle.contest_desk.specs.PostSubmission.{own_submission, repeating, decided, deciding, post_submission}
-use Rattle.contest_desk.specs.SubmissionBodies.{wanted_in}
-use Rattle.contest_desk.specs.declared.reply.Reply.{Reply}
-use Rattle.contest_desk.specs.declared.request.KeyField.{KeyField}
+use Rattle.contest_desk.specs.PostSubmission.{own_submission, repeating, decided, deciding}
 use Rattle.contest_desk.proofs.OwnLemmas.{loaded_same, loaded_decides}
-
-pub posted_is : (x : ContestState) (f : FixedPart) (now team : ℕ) (key : KeyField) (body : List ℕ) (w : WantedSubmission) → x.fixed ≡ f → wanted_in (team_id_at f.settings team) key body ≡ Ok w
-    → post_submission x.fixed now team (submissions_of team x.submissions) key body ≡ deciding now team w x
-posted_is x f now team key body w same is =
-    let read : wanted_in (team_id_at x.fixed.settings team) key body ≡ Ok w = ap (λ (g : FixedPart). wanted_in (team_id_at g.settings team) key body) same ∙ is in
-    ap (λ (r : Result WantedSubmission Refusal). (elim r [ (Err refusal) ↦ refusing refusal | (Ok wanted) ↦ deciding now team wanted x ])) read
 
 -- the decision over what is loaded is that over all of the team's submissions
 pub decision_is : (x : ContestState) (f : FixedPart) (now team : ℕ) (w : WantedSubmission) (items : List Submission) (d : Decision Submission) → x.fixed ≡ f
@@ -43,11 +28,6 @@ pub decision_is : (x : ContestState) (f : FixedPart) (now team : ℕ) (w : Wante
 decision_is x f now team w items d same are is =
     let own = submissions_of team x.submissions in
     sym (loaded_decides x.fixed now team own w) ∙ (ap (λ ss. submit x.fixed now team ss w) (sym are) ∙ (ap (λ g. submit g now team items w) same ∙ sym is))
-
-pub addable_is : (x : ContestState) (f : FixedPart) (now team : ℕ) (w : WantedSubmission) (s : Submission) → is_valid x ≡ true → x.fixed ≡ f → team < length f.settings.teams → length w.file ≤ POSTED_FILE
-    → submit x.fixed now team (submissions_of team x.submissions) w ≡ Add s → is_addable x (NewSubmission s) ≡ true
-addable_is x f now team w s valid same there limit is =
-    submitted_is_addable x now team w s valid (subst (λ (g : FixedPart). team < length g.settings.teams) (sym same) there) limit is
 
 small_enough : (team n most : ℕ) → team < n → n ≤ most → most ≤ 500 → team + 1 < 2 ^ 64
 small_enough team n most l m k = omega (arith, l, m, k)
@@ -77,19 +57,13 @@ repeating_unfiled : (f : FixedPart) (team : ℕ) (o : Option Submission) → rep
 repeating_unfiled f team None = refl
 repeating_unfiled f team (Some s) = ap telling (own_unfiled f team s)
 
-repeating_replies : (f : FixedPart) (team : ℕ) (o : Option Submission) → repeating f team o ≡ replying (repeating f team o).reply
-repeating_replies f team None = refl
-repeating_replies f team (Some s) = refl
-
 -- the row that stands at a place is answered from what is loaded
-pub repeating_is : (x : ContestState) (f : FixedPart) (team place : ℕ) (key : Option (List ℕ)) (items slice : List Submission) (o : Option Submission) (reply : Reply) → x.fixed ≡ f
-    → items ≡ loaded_for key (submissions_of team x.submissions) → slice ≡ items → o ≡ slice_get slice place → reply ≡ (repeating f team o).reply
-    → repeating x.fixed team (slice_get (submissions_of team x.submissions) place) ≡ replying reply
-repeating_is x f team place key items slice o reply same are seen at is =
+pub repeating_is : (x : ContestState) (f : FixedPart) (team place : ℕ) (key : Option (List ℕ)) (items slice : List Submission) (o : Option Submission) → x.fixed ≡ f
+    → items ≡ loaded_for key (submissions_of team x.submissions) → slice ≡ items → o ≡ slice_get slice place
+    → repeating x.fixed team (slice_get (submissions_of team x.submissions) place) ≡ repeating f team o
+repeating_is x f team place key items slice o same are seen at =
     let own = submissions_of team x.submissions in
     let rows : map without_file slice ≡ map without_file own = ap (map without_file) (seen ∙ are) ∙ loaded_same key own in
     let get : option_map without_file (slice_get own place) ≡ option_map without_file o =
     sym (slice_get-map without_file own place) ∙ (ap (λ ss. slice_get ss place) (sym rows) ∙ (slice_get-map without_file slice place ∙ ap (option_map without_file) (sym at))) in
-    let e : repeating x.fixed team (slice_get own place) ≡ repeating f team o =
-    sym (repeating_unfiled x.fixed team (slice_get own place)) ∙ (ap (repeating x.fixed team) get ∙ (repeating_unfiled x.fixed team o ∙ ap (λ g. repeating g team o) same)) in
-    e ∙ (repeating_replies f team o ∙ ap replying (sym is))
+    sym (repeating_unfiled x.fixed team (slice_get own place)) ∙ (ap (repeating x.fixed team) get ∙ (repeating_unfiled x.fixed team o ∙ ap (λ g. repeating g team o) same))

@@ -4,29 +4,26 @@ use Rattle.std.specs.Prelude.{◌≢◌, ◌⊎◌, Bool, true, false, slice_get
 use Rattle.std.proofs.lemmas.Bool.{false≢true}
 use Rattle.contest_types.specs.Alike.{Alike}
 use Rattle.contest_types.specs.State.{ContestState, FixedPart, submissions_of, add_all}
-use Rattle.contest_types.specs.TeamPlaces.{team_id_at}
 use Rattle.contest_types.specs.declared.audience.Audience.{Audience}
-use Rattle.contest_types.specs.declared.refusal.Refusal.{Refusal}
 use Rattle.contest_types.specs.declared.refusal.Refusal.TheVariants.{NotFound}
 use Rattle.contest_types.specs.declared.submission.Submission.{Submission}
 use Rattle.contest_rules.specs.Submitting.{submit}
 use Rattle.contest_rules.specs.declared.decision.Decision.{Decision}
 use Rattle.contest_rules.specs.declared.decision.Decision.TheVariants.{Add, Stands, Refused}
-use Rattle.contest_rules.specs.declared.submitting.WantedSubmission.{WantedSubmission}
-use Rattle.contest_view.specs.Reads.{submission_found}
-use Rattle.contest_desk.specs.Callers.{Caller, caller_of, audience_of, team_of}
+use Rattle.contest_desk.specs.Callers.{Caller, caller_of}
 use Rattle.contest_desk.specs.Offers.{allowed_on, read_on, is_read, operation_of}
-use Rattle.contest_desk.specs.Outcomes.{Outcome, refusing}
-use Rattle.contest_desk.specs.Paths.{object_piece}
+use Rattle.contest_desk.specs.Outcomes.{Outcome}
 use Rattle.contest_desk.specs.PostSubmission.{repeating, decided}
 use Rattle.contest_desk.specs.Replies.{refused, refused_method}
 use Rattle.contest_desk.specs.Routes.{route_of}
-use Rattle.contest_desk.specs.Step.{is_here, offered, asked, posted, perform, outcome_of, outcome, step}
-use Rattle.contest_desk.specs.SubmissionBodies.{wanted_in}
+use Rattle.contest_desk.specs.Step.{is_here, offered, asked, wished_by, wished, outcome_of, outcome, step}
+use Rattle.contest_desk.specs.Wishes.{come}
+use Rattle.contest_desk.specs.declared.wish.Wish.{Wish}
+use Rattle.contest_desk.specs.declared.wish.Wish.TheVariants.{Read, Submit}
 use Rattle.contest_desk.specs.UnseenLaws.{IsUnnoticed}
 use Rattle.contest_desk.specs.declared.offer.AllowedMethods.{AllowedMethods}
 use Rattle.contest_desk.specs.declared.offer.Operation.{Operation}
-use Rattle.contest_desk.specs.declared.offer.Operation.TheVariants.{ListSubmissions, PostSubmission, GetSubmission}
+use Rattle.contest_desk.specs.declared.offer.Operation.TheVariants.{Read as ToRead, PostSubmission}
 use Rattle.contest_desk.specs.declared.reply.Reply.{Reply}
 use Rattle.contest_desk.specs.declared.request.Credential.{Credential}
 use Rattle.contest_desk.specs.declared.request.Method.{Method}
@@ -34,7 +31,6 @@ use Rattle.contest_desk.specs.declared.request.Method.TheVariants.{Get, Head, Po
 use Rattle.contest_desk.specs.declared.request.Request.{Request}
 use Rattle.contest_desk.specs.declared.route.Route.{Route}
 use Rattle.contest_desk.specs.declared.route.Route.TheVariants.{Submissions, Submission as OneSubmission}
-use Rattle.contest_desk.proofs.StepLemmas.{telling_only}
 use Rattle.contest_desk.proofs.UnseenLemmas.{unseen_entries}
 
 -- it adds nothing, or it is answered as done
@@ -50,36 +46,24 @@ decided_quiet f team own (Add s) = inr refl
 decided_quiet f team own (Stands place) = repeating_quiet f team (slice_get own place)
 decided_quiet f team own (Refused r) = inl refl
 
-wanted_quiet : (f : FixedPart) (now team : ℕ) (own : List Submission) (r : Result WantedSubmission Refusal)
-    → IsQuiet (elim r as (λ _. Outcome) [ (Err refusal) ↦ refusing refusal | (Ok wanted) ↦ decided f team own (submit f now team own wanted) ])
-wanted_quiet f now team own (Ok wanted) = decided_quiet f team own (submit f now team own wanted)
-wanted_quiet f now team own (Err refusal) = inl refl
+come_quiet : (x : ContestState) (now : ℕ) (wish : Wish) → IsQuiet (come now wish x)
+come_quiet x now (Read reading a path) = inl refl
+come_quiet x now (Submit team w) = decided_quiet x.fixed team (submissions_of team x.submissions) (submit x.fixed now team (submissions_of team x.submissions) w)
 
-posted_quiet : (x : ContestState) (now : ℕ) (team : Option ℕ) (request : Request) → IsQuiet (posted x now team request)
-posted_quiet x now None request = inl refl
-posted_quiet x now (Some team) request = wanted_quiet x.fixed now team (submissions_of team x.submissions) (wanted_in (team_id_at x.fixed.settings team) request.key request.body)
-
-perform_quiet : (x : ContestState) (now : ℕ) (who : Caller) (operation : Operation) (request : Request) → IsQuiet (perform x now who operation request)
-perform_quiet x now who ListSubmissions request = inl refl
-perform_quiet x now who GetSubmission request = inl (telling_only (submission_found (audience_of who) now x (object_piece request.path)))
-perform_quiet x now who PostSubmission request = posted_quiet x now (team_of who) request
-
-asked_quiet : (x : ContestState) (now : ℕ) (who : Option Caller) (request : Request) (asks : Result Operation Reply) → IsQuiet (outcome_of x now who request asks)
-asked_quiet x now who request (Err reply) = inl refl
-asked_quiet x now None request (Ok operation) = inl refl
-asked_quiet x now (Some who) request (Ok operation) = perform_quiet x now who operation request
+wished_quiet : (x : ContestState) (now : ℕ) (r : Result Wish Reply) → IsQuiet (outcome_of x now r)
+wished_quiet x now (Err reply) = inl refl
+wished_quiet x now (Ok wish) = come_quiet x now wish
 
 pub refused_adds_nothing : (x : ContestState) (now : ℕ) (credential : Credential) (request : Request) → (step x now credential request).0.status ≢ 200 → (step x now credential request).1 ≡ x
 refused_adds_nothing x now credential request fails =
-    elim (asked_quiet x now (caller_of x.fixed credential) request (asked x.fixed.settings.head.id request.path request.method)) [
+    elim (wished_quiet x now (wished x.fixed credential request)) [
       | inl none ↦ ap (add_all x) none
       | inr done ↦ absurd (fails done)
     ]
 
 -- it asks to read, or for nothing that is there
 abbrev Reads : Operation → Type 0
-Reads ListSubmissions = Unit {0}
-Reads GetSubmission = Unit {0}
+Reads (ToRead reading) = Unit {0}
 Reads PostSubmission = ⊥
 
 abbrev MayRead : Option Operation → Type 0
@@ -122,17 +106,26 @@ route_reads contest path method (Some route) h = here_reads method route (is_her
 asked_reads : (contest path : List ℕ) (method : Method) → is_read method ≡ true → AsksToRead (asked contest path method)
 asked_reads contest path method h = route_reads contest path method (route_of path) h
 
-reads_add_nothing : (x : ContestState) (now : ℕ) (who : Option Caller) (request : Request) (asks : Result Operation Reply) → AsksToRead asks → (outcome_of x now who request asks).entries ≡ []
-reads_add_nothing x now who request (Err reply) h = refl
-reads_add_nothing x now None request (Ok operation) h = refl
-reads_add_nothing x now (Some who) request (Ok ListSubmissions) h = refl
-reads_add_nothing x now (Some who) request (Ok GetSubmission) h = telling_only (submission_found (audience_of who) now x (object_piece request.path))
-reads_add_nothing x now (Some who) request (Ok PostSubmission) h = absurd h
+abbrev WishesToRead : Result Wish Reply → Type 0
+WishesToRead (Err reply) = Unit {0}
+WishesToRead (Ok (Read reading a path)) = Unit {0}
+WishesToRead (Ok (Submit team w)) = ⊥
+
+wished_reads : (f : FixedPart) (who : Option Caller) (request : Request) (r : Result Operation Reply) → AsksToRead r → WishesToRead (wished_by f who request r)
+wished_reads f who request (Err reply) h = tt
+wished_reads f None request (Ok operation) h = tt
+wished_reads f (Some who) request (Ok (ToRead reading)) h = tt
+wished_reads f (Some who) request (Ok PostSubmission) h = absurd h
+
+reads_add_nothing : (x : ContestState) (now : ℕ) (r : Result Wish Reply) → WishesToRead r → (outcome_of x now r).entries ≡ []
+reads_add_nothing x now (Err reply) h = refl
+reads_add_nothing x now (Ok (Read reading a path)) h = refl
+reads_add_nothing x now (Ok (Submit team w)) h = absurd h
 
 pub read_adds_nothing : (x : ContestState) (now : ℕ) (credential : Credential) (request : Request) → is_read request.method ≡ true → (step x now credential request).1 ≡ x
 read_adds_nothing x now credential request e =
     let contest = x.fixed.settings.head.id in
-    ap (add_all x) (reads_add_nothing x now (caller_of x.fixed credential) request (asked contest request.path request.method) (asked_reads contest request.path request.method e))
+    ap (add_all x) (reads_add_nothing x now (wished x.fixed credential request) (wished_reads x.fixed (caller_of x.fixed credential) request (asked contest request.path request.method) (asked_reads contest request.path request.method e)))
 
 alike_as_it_was : (a : Audience) (x y : ContestState) → y ≡ x → Alike a y x
 alike_as_it_was a x y e = subst (λ z. Alike a z x) (sym e) (record { fixed = refl; teams = λ team. refl; told = λ to. refl })

@@ -7,11 +7,12 @@ pub mod JsonBodies
 pub mod SubmissionBodies
 pub mod Outcomes
 pub mod PostSubmission
-pub mod ReadSubmissions
+pub mod Readings
+pub mod Wishes
+pub mod OwnSubmissions
 pub mod Step
 pub mod Serving
 pub mod Unseen
 pub mod UnseenLaws
-pub mod OwnSubmissions
 pub mod Laws
 pub mod Runs

@@ -6,7 +6,8 @@ use Rattle.contest_desk.specs.declared.route.Route.TheVariants as route
 use Rattle.contest_desk.specs.declared.request.Method.{Method}
 use Rattle.contest_desk.specs.declared.request.Method.TheVariants as method
 use Rattle.contest_desk.specs.declared.offer.Operation.{Operation}
-use Rattle.contest_desk.specs.declared.offer.Operation.TheVariants.{ListSubmissions, PostSubmission, GetSubmission}
+use Rattle.contest_desk.specs.declared.offer.Operation.TheVariants.{Read, PostSubmission}
+use Rattle.contest_desk.specs.declared.offer.Reading.TheVariants as reading
 use Rattle.contest_desk.specs.declared.offer.AllowedMethods.{AllowedMethods}
 use Rattle.contest_desk.specs.declared.offer.AllowedMethods.TheVariants as allowed
 
@@ -35,8 +36,8 @@ allowed_on _ = None
 
 -- what is read on a route
 abbrev pub read_on : Route → Option Operation
-read_on route.Submissions = Some ListSubmissions
-read_on route.Submission = Some GetSubmission
+read_on route.Submissions = Some (Read reading.Submissions)
+read_on route.Submission = Some (Read reading.Submission)
 read_on _ = None
 
 -- what is posted there

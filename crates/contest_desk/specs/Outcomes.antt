@@ -1,14 +1,11 @@
 -- What a request comes to: a reply, and what is added to the contest.
-use Rattle.std.specs.Prelude.{List, [], ◌∷◌}
+use Rattle.std.specs.Prelude.{[], ◌∷◌}
 use Rattle.serde_json.specs.Data.{Data}
 use Rattle.contest_types.specs.declared.entry.Entry.{Entry}
 use Rattle.contest_types.specs.declared.refusal.Refusal.{Refusal}
+pub use Rattle.contest_desk.specs.declared.outcome.Outcome.{Outcome}
 use Rattle.contest_desk.specs.Replies.{refused, answer}
 use Rattle.contest_desk.specs.declared.reply.Reply.{Reply}
-
-pub record Outcome : Type 0 where
-  pub reply : Reply
-  pub entries : List Entry
 
 -- a reply that changes nothing
 abbrev pub replying : Reply → Outcome

@@ -1,10 +1,16 @@
 -- A team's own submissions as they are loaded to decide on its next one: without their files, but for
 -- the one that has the key that is asked with (own).
 -- Words of private functions: nothing public is said with them.
-use Rattle.std.specs.Prelude.{ℕ, List, Option, Some, None, map, slice_get, slice_set}
+use Rattle.std.specs.Prelude.{ℕ, ◌==◌, ◌&&◌, List, Option, Some, None, map, find, slice_get, slice_set}
+use Rattle.std.specs.Option.{option_map}
 use Rattle.contest_types.specs.Loads.{without_file}
 use Rattle.contest_types.specs.declared.submission.Submission.{Submission}
-use Rattle.contest_rules.specs.Submitting.{place_of_key}
+use Rattle.contest_rules.specs.Submitting.{has_key, place_of_key}
+
+-- which of all rows has the key that a team asks with, by its team and its number
+abbrev pub keyed_row : (team : ℕ) → Option (List ℕ) → List Submission → Option (ℕ × ℕ)
+keyed_row team None rows = None
+keyed_row team (Some key) rows = option_map (λ (s : Submission). (team, s.number)) (find (λ (s : Submission). (s.team == team) && has_key key s) rows)
 
 abbrev pub with_file : List ℕ → Submission → Submission
 with_file file s = record s { file = file }

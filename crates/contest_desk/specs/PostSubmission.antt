@@ -1,11 +1,10 @@
 -- A team submits (Contest API 2023-06, submissions). It is a function of the fixed part and of the team's
 -- own submissions, and of nothing else.
-use Rattle.std.specs.Prelude.{ℕ, ◌+◌, List, Option, Some, None, Ok, Err, slice_get}
+use Rattle.std.specs.Prelude.{ℕ, ◌+◌, List, Option, Some, None, slice_get}
 use Rattle.serde_json.specs.Data.{Data}
 use Rattle.contest_types.specs.State.{FixedPart, ContestState, submissions_of}
 use Rattle.contest_types.specs.declared.entry.Entry.TheVariants.{NewSubmission}
 use Rattle.contest_types.specs.Sight.{program_for}
-use Rattle.contest_types.specs.TeamPlaces.{team_id_at}
 use Rattle.contest_types.specs.declared.audience.Audience.TheVariants as audience
 use Rattle.contest_types.specs.declared.refusal.Refusal.TheVariants.{NotFound}
 use Rattle.contest_types.specs.declared.submission.Submission.{Submission}
@@ -15,8 +14,6 @@ use Rattle.contest_rules.specs.declared.decision.Decision.TheVariants.{Add, Stan
 use Rattle.contest_rules.specs.declared.submitting.WantedSubmission.{WantedSubmission}
 use Rattle.contest_rules.specs.Submitting.{submit}
 use Rattle.contest_desk.specs.Outcomes.{Outcome, refusing, telling, adding}
-use Rattle.contest_desk.specs.SubmissionBodies.{wanted_in}
-use Rattle.contest_desk.specs.declared.request.KeyField.{KeyField}
 
 -- a submission as its own team sees it
 abbrev pub own_submission : FixedPart → (team : ℕ) → Submission → Data
@@ -35,10 +32,3 @@ decided f team own (Refused refusal) = refusing refusal
 -- what becomes of what the team at a place asks for
 abbrev pub deciding : (now team : ℕ) → WantedSubmission → ContestState → Outcome
 deciding now team wanted x = let own = submissions_of team x.submissions in decided x.fixed team own (submit x.fixed now team own wanted)
-
--- what becomes of a post by the team at a place: its key and its body are read, then it is decided
-abbrev pub post_submission : FixedPart → (now team : ℕ) → List Submission → KeyField → (body : List ℕ) → Outcome
-post_submission f now team own key body = elim (wanted_in (team_id_at f.settings team) key body) [
-  | (Err refusal) ↦ refusing refusal
-  | (Ok wanted) ↦ decided f team own (submit f now team own wanted)
-]

@@ -1,8 +1,9 @@
 -- Requests handled one after another (own).
-use Rattle.std.specs.Prelude.{◌≡◌, ◌⊎◌, ℕ, Bool, IsTrue, List, [], ◌∷◌, Option, Some}
+use Rattle.std.specs.Prelude.{◌≡◌, ◌⊎◌, ℕ, IsTrue, List, [], ◌∷◌, Option, Some}
 use Rattle.contest_types.specs.State.{ContestState}
 use Rattle.contest_types.specs.Streams.{one_more}
 use Rattle.contest_types.specs.declared.refusal.Refusal.TheVariants.{StoreFault}
+use Rattle.contest_store.specs.Keeping.{Kept}
 use Rattle.contest_desk.specs.Replies.{refused}
 use Rattle.contest_desk.specs.Serving.{IsStoreReply}
 use Rattle.contest_desk.specs.Step.{step}
@@ -22,8 +23,8 @@ IsRun x [] (reply ∷ replies) y = ⊥
 IsRun x (item ∷ items) [] y = ⊥
 
 -- the requests are a run from the contest before, to the contest after if the store is still open
-abbrev pub RunsTo : {L : Type 0} → (L → ContestState) → (L → Bool) → (old new : L) → List Item → List Reply → Type 0
-RunsTo contest is_open old new items replies = (y : ContestState) × IsRun (contest old) items replies y × (IsTrue (is_open new) → contest new ≡ y)
+abbrev pub RunsTo : (old new : Kept) → List Item → List Reply → Type 0
+RunsTo old new items replies = (y : ContestState) × IsRun old.contest items replies y × (IsTrue new.is_open → new.contest ≡ y)
 
 -- what a crash may leave after these requests with these replies, where before them it might leave `before`:
 -- a request that is answered leaves its contest and no other, and one that fails what might be left

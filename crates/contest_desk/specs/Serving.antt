@@ -1,35 +1,43 @@
 -- What serving a request asks of a kept contest, and what it leaves of it, whoever keeps it (own).
-use Rattle.std.specs.Prelude.{◌≡◌, ◌⊎◌, ◌==◌, Bool, true, false, Option, IsTrue}
-use Rattle.contest_types.specs.State.{FixedPart, ContestState, add_all}
+use Rattle.std.specs.Prelude.{◌≡◌, ◌⊎◌, ◌==◌, ℕ, true, false, List, [], ◌∷◌, Some, IsTrue, Result}
+use Rattle.contest_types.specs.State.{ContestState, add_all}
+use Rattle.contest_types.specs.Streams.{one_more}
 use Rattle.contest_types.specs.Valid.{is_valid}
-use Rattle.contest_store.specs.Keeping.{LeavesOnly, Shows}
+use Rattle.contest_types.specs.declared.entry.Entry.{Entry}
 use Rattle.contest_types.specs.declared.refusal.Refusal.TheVariants.{StoreFault, Memory}
+use Rattle.contest_store.specs.Keeping.{Kept, Leaves}
+use Rattle.contest_store.specs.declared.store_error.StoreError.{StoreError}
 use Rattle.contest_desk.specs.Outcomes.{Outcome}
 use Rattle.contest_desk.specs.Replies.{refused}
 use Rattle.contest_desk.specs.declared.reply.Reply.{Reply}
 
--- while the store is open and read right, no append stands and the contest is valid
-abbrev pub IsSettled : {L : Type 0} → (L → ContestState) → (L → ContestState) → (L → Bool) → (L → Type 0) → L → Type 0
-IsSettled contest committed is_open is_clean store =
-    is_clean store → IsTrue (is_open store) → (contest store ≡ committed store) × (is_valid (contest store) ≡ true)
+-- while the store is open and read right, no change stands that isn't committed, and the contest is valid
+abbrev pub IsSettled : Kept → Type 0
+IsSettled store = store.is_clean → IsTrue store.is_open → (store.contest ≡ store.committed) × (is_valid store.contest ≡ true)
 
--- it is open, no append stands, a crash leaves the last commit and no other, and the contest is valid and
--- has this fixed part
-pub record IsReady {L : Type 0} (contest committed : L → ContestState) (is_open : L → Bool) (may_leave : L → Option ContestState → Type 0) (store : L) (fixed : FixedPart) : Type 0 where
-  pub up : IsTrue (is_open store)
-  pub settled : contest store ≡ committed store
-  pub left : LeavesOnly may_leave store (committed store)
-  pub valid : is_valid (contest store) ≡ true
-  pub has_fixed : (contest store).fixed ≡ fixed
+-- it is open, no such change stands, and the contest is valid
+pub record IsReady (store : Kept) : Type 0 where
+  pub up : IsTrue store.is_open
+  pub settled : store.contest ≡ store.committed
+  pub valid : is_valid store.contest ≡ true
 
 -- the contest after what a request comes to
 abbrev pub after : (ContestState → Outcome) → ContestState → ContestState
 after outcome x = add_all x (outcome x).entries
 
--- the reply is what the request comes to, and what it adds is committed
-pub record Serves {L : Type 0} (contest committed : L → ContestState) (is_open : L → Bool) (old new : L) (outcome : ContestState → Outcome) (reply : Reply) : Type 0 where
-  pub replied : reply ≡ (outcome (contest old)).reply
-  pub left : Shows contest committed is_open new (after outcome (contest old)) (after outcome (contest old))
+-- one commit where something is added, and none where nothing is
+abbrev pub commits_for : List Entry → ℕ → ℕ
+commits_for [] n = n
+commits_for (e ∷ es) n = one_more n
+
+-- what is added is committed, all of it at once
+abbrev pub Keeps : {T : Type 0} → Result T StoreError → Kept → Kept → List Entry → (own : Type 0) → Type 0
+Keeps result old new entries own =
+    Leaves result old new (add_all old.contest entries) (add_all old.contest entries) (λ c. c ≡ Some (add_all old.contest entries)) (commits_for entries) own
+
+-- what a request comes to is committed; `own` is where it may be refused memory while the store isn't
+abbrev pub Serves : {T : Type 0} → Result T StoreError → Kept → Kept → (ContestState → Outcome) → (own : Type 0) → Type 0
+Serves result old new outcome own = Keeps result old new (outcome old.contest).entries own
 
 -- a refusal that the store or want of memory is the cause of
 abbrev pub IsStoreReply : Reply → Type 0

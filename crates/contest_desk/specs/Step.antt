@@ -1,25 +1,25 @@
 -- One step of the desk: what a request is answered and what it adds. Refusals come in the order route,
 -- method, token, role, body, references, domain (own).
-use Rattle.std.specs.Prelude.{ℕ, Bool, not, ◌||◌, List, Option, Some, None, Result, Ok, Err, if◌then◌else◌}
+use Rattle.std.specs.Prelude.{ℕ, Bool, false, not, ◌||◌, List, Option, Some, None, Result, Ok, Err, if◌then◌else◌}
 use Rattle.std.specs.Str.{bytes_eq}
-use Rattle.contest_types.specs.State.{ContestState, submissions_of, add_all}
-use Rattle.contest_types.specs.declared.refusal.Refusal.TheVariants.{NotFound, RoleForbids, UnknownToken}
+use Rattle.contest_types.specs.State.{FixedPart, ContestState, add_all}
+use Rattle.contest_types.specs.declared.refusal.Refusal.{Refusal}
+use Rattle.contest_types.specs.declared.refusal.Refusal.TheVariants.{NotFound, UnknownToken}
 use Rattle.contest_desk.specs.Replies.{refused, refused_method}
 use Rattle.contest_desk.specs.Routes.{route_of}
-use Rattle.contest_desk.specs.Paths.{contest_piece, object_piece}
+use Rattle.contest_desk.specs.Paths.{contest_piece}
 use Rattle.contest_desk.specs.Offers.{is_of_contest, allowed_on, operation_of}
-use Rattle.contest_desk.specs.Callers.{Caller, caller_of, audience_of, team_of}
-use Rattle.contest_desk.specs.Outcomes.{Outcome, replying, refusing}
-use Rattle.contest_desk.specs.PostSubmission.{post_submission}
-use Rattle.contest_desk.specs.ReadSubmissions.{list_submissions, get_submission}
+use Rattle.contest_desk.specs.Callers.{Caller, caller_of}
+use Rattle.contest_desk.specs.Outcomes.{Outcome, replying}
+use Rattle.contest_desk.specs.Wishes.{wish_of, come, takes_memory}
 use Rattle.contest_desk.specs.declared.offer.AllowedMethods.{AllowedMethods}
 use Rattle.contest_desk.specs.declared.offer.Operation.{Operation}
-use Rattle.contest_desk.specs.declared.offer.Operation.TheVariants.{ListSubmissions, PostSubmission, GetSubmission}
 use Rattle.contest_desk.specs.declared.reply.Reply.{Reply}
 use Rattle.contest_desk.specs.declared.request.Credential.{Credential}
 use Rattle.contest_desk.specs.declared.request.Method.{Method}
 use Rattle.contest_desk.specs.declared.request.Request.{Request}
 use Rattle.contest_desk.specs.declared.route.Route.{Route}
+use Rattle.contest_desk.specs.declared.wish.Wish.{Wish}
 
 -- a path of a contest names this one
 abbrev pub is_here : (contest : List ℕ) → (path : List ℕ) → Route → Bool
@@ -37,29 +37,35 @@ asked contest path method = elim (route_of path) [
   | (Some route) ↦ if is_here contest path route then offered method route (allowed_on route) else Err (refused NotFound)
 ]
 
--- only a team submits
-abbrev pub posted : ContestState → (now : ℕ) → Option ℕ → Request → Outcome
-posted x now None request = refusing RoleForbids
-posted x now (Some team) request = post_submission x.fixed now team (submissions_of team x.submissions) request.key request.body
+abbrev pub or_refused : Result Wish Refusal → Result Wish Reply
+or_refused (Err refusal) = Err (refused refusal)
+or_refused (Ok wish) = Ok wish
 
-abbrev pub perform : ContestState → (now : ℕ) → Caller → Operation → Request → Outcome
-perform x now who ListSubmissions request = list_submissions (audience_of who) now x
-perform x now who GetSubmission request = get_submission (audience_of who) now x (object_piece request.path)
-perform x now who PostSubmission request = posted x now (team_of who) request
+abbrev pub wished_by : FixedPart → Option Caller → Request → Result Operation Reply → Result Wish Reply
+wished_by f who request (Err reply) = Err reply
+wished_by f None request (Ok operation) = Err (refused UnknownToken)
+wished_by f (Some who) request (Ok operation) = or_refused (wish_of f who operation request)
 
--- what is asked for is done for a caller who is known
-abbrev pub perform_for : ContestState → (now : ℕ) → Option Caller → Operation → Request → Outcome
-perform_for x now None operation request = refusing UnknownToken
-perform_for x now (Some who) operation request = perform x now who operation request
+-- what a request wishes, or the reply that refuses it, of the fixed part alone
+abbrev pub wished : FixedPart → Credential → Request → Result Wish Reply
+wished f credential request = wished_by f (caller_of f credential) request (asked f.settings.head.id request.path request.method)
 
-abbrev pub outcome_of : ContestState → (now : ℕ) → Option Caller → Request → Result Operation Reply → Outcome
-outcome_of x now who request (Err reply) = replying reply
-outcome_of x now who request (Ok operation) = perform_for x now who operation request
+abbrev pub takes_memory_by : Option Caller → Result Operation Reply → Bool
+takes_memory_by who (Err reply) = false
+takes_memory_by None (Ok operation) = false
+takes_memory_by (Some who) (Ok operation) = takes_memory who operation
+
+-- answering a request may take memory: not where its route, its method, its token or its caller's role refuses it
+abbrev pub may_take_memory : FixedPart → Credential → Request → Bool
+may_take_memory f credential request = takes_memory_by (caller_of f credential) (asked f.settings.head.id request.path request.method)
+
+abbrev pub outcome_of : ContestState → (now : ℕ) → Result Wish Reply → Outcome
+outcome_of x now (Err reply) = replying reply
+outcome_of x now (Ok wish) = come now wish x
 
 -- what a request comes to at a moment
 abbrev pub outcome : ContestState → (now : ℕ) → Credential → Request → Outcome
-outcome x now credential request =
-    outcome_of x now (caller_of x.fixed credential) request (asked x.fixed.settings.head.id request.path request.method)
+outcome x now credential request = outcome_of x now (wished x.fixed credential request)
 
 -- the reply, and the contest afterwards: as it was, unless something is added
 abbrev pub step : ContestState → (now : ℕ) → Credential → Request → Reply × ContestState

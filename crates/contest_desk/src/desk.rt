@@ -1,20 +1,20 @@
 //! The desk of a contest.
-ghost use Rattle.std.specs.Prelude.{◌≡◌, ◌⊎◌, true, IfErr, IfOk, IsFalse, IsTrue};
+ghost use Rattle.std.specs.Prelude.{◌≡◌, ◌⊎◌, ◌≤◌, true, IfErr, IfOk, IsFalse, IsTrue};
 ghost use Rattle.contest_types.specs.Alike.{Alike, MayBeHeld};
 ghost use Rattle.contest_types.specs.State.{ContestState};
 ghost use Rattle.contest_types.specs.Valid.{is_valid};
-ghost use Rattle.contest_types.specs.Streams.{one_more};
+ghost use Rattle.contest_types.specs.Streams.{Failed, one_more};
 ghost use Rattle.contest_types.specs.declared.audience.Audience.{Audience as TheAudience};
 ghost use Rattle.contest_store.specs.Keeping.{LeavesNoMore, LeavesOnly, LeavesOr};
 ghost use Rattle.contest_desk.specs.Replies.{refused};
 ghost use Rattle.contest_desk.specs.Laws.{HasSight};
-ghost use Rattle.contest_desk.specs.Serving.{IsSettled, IsStoreReply};
-ghost use Rattle.contest_desk.specs.Step.{step};
+ghost use Rattle.contest_desk.specs.Serving.{IsSettled, IsStoreReply, commits_for};
+ghost use Rattle.contest_desk.specs.Step.{may_take_memory, outcome, step};
 
-use crate::perform::serve;
 use crate::routes::routes;
+use crate::serve::serve;
 use crate::{Credential, Reply, Request, Route};
-use contest_store::Records;
+use contest_store::ContestStore;
 use contest_types::{Moment, Refusal};
 use matchit::Router;
 use std::alloc::{AllocError, Global};
@@ -22,56 +22,57 @@ use std::marker::Model;
 
 /// The desk of a contest, whoever keeps the contest. Contracts see what keeps it.
 #[derive(Drop)]
-pub struct Desk<L: Records> {
-    records: L,
+pub struct Desk<S: ContestStore> {
+    store: S,
     table: Router<Route>,
 }
 
-impl<L: Records> Model for Desk<L> {
+impl<S: ContestStore> Model for Desk<S> {
     ghost use Rattle.std.specs.Prelude.{◌≡◌};
     ghost use Rattle.contest_desk.specs.Routes.{routes};
     ghost use Rattle.contest_desk.specs.Serving.{IsSettled};
 
-    ghost Value = { L };
+    ghost Value = { S };
 
-    ghost view = { λ d. d.records };
+    ghost view = { λ d. d.store };
 
-    ghost invariant = { λ d. IsSettled L.contest L.committed L.is_open L.is_clean d.records × (d.table ≡ routes) };
+    ghost invariant = { λ d. IsSettled (S.kept d.store) × (d.table ≡ routes) };
 }
 
-impl<L: Records> Desk<L> {
-    /// The desk of a contest that is kept. While the store is open and read right, no append may
-    /// stand and the contest must be valid.
+impl<S: ContestStore> Desk<S> {
+    /// The desk of a contest that is kept. While the store is open and read right, no change may
+    /// stand that isn't committed, and the contest must be valid.
     ///
     /// # Errors
     ///
     /// Want of memory alone. What keeps the contest is given back.
-    pub fn new(alloc: Global, records: L) -> Result<Desk<L>, (Refusal, L)>
-        requires { IsSettled L.contest L.committed L.is_open L.is_clean records }
-        ensures ok { IfOk result (λ desk. desk ≡ records) }
-        ensures err { IfErr result (λ e. (e.0 ≡ Refusal.Memory) × (e.1 ≡ records)) }
+    pub fn new(alloc: Global, store: S) -> Result<Desk<S>, (Refusal, S)>
+        requires { IsSettled (S.kept store) }
+        ensures ok { IfOk result (λ desk. desk ≡ store) }
+        ensures err { IfErr result (λ e. (e.0 ≡ Refusal.Memory) × (e.1 ≡ store)) }
     {
         match routes(alloc) {
-            Ok(table) => Ok(Desk { records, table }),
-            Err(AllocError) => Err((Refusal::Memory, records)),
+            Ok(table) => Ok(Desk { store, table }),
+            Err(AllocError) => Err((Refusal::Memory, store)),
         }
     }
 
     /// What keeps the contest.
-    pub fn into_records(self) -> L
-        ensures records { result ≡ self }
-        ensures settled { IsSettled L.contest L.committed L.is_open L.is_clean result }
+    pub fn into_store(self) -> S
+        ensures store { result ≡ self }
+        ensures settled { IsSettled (S.kept result) }
     {
-        self.records
+        self.store
     }
 
-    /// Answers a request at a moment, and keeps what it adds. Refusals come in the order route,
-    /// method, token, role, body, references, domain.
+    /// Answers a request at a moment, and keeps what it adds by one commit. Refusals come in the order
+    /// route, method, token, role, body, references, domain.
     ///
     /// The reply and the contest afterwards are what one step of the machine gives; where the store
     /// fails or a growth is refused the reply says so and, while the store is open, the contest is as
     /// before. Until the thaw
-    /// the reply is the same over every contest that is alike for the caller.
+    /// the reply is the same over every contest that is alike for the caller. Want of memory never
+    /// shuts the store.
     pub fn handle(
         &mut self,
         alloc: Global,
@@ -79,32 +80,38 @@ impl<L: Records> Desk<L> {
         credential: Credential,
         request: Request,
     ) -> Reply
-        ensures reply { L.is_clean self.new → ¬ IsStoreReply result → result ≡ (step (L.contest self.old) now credential request).0 }
-        ensures contest { L.is_clean self.new → ¬ IsStoreReply result → L.contest self.new ≡ (step (L.contest self.old) now credential request).1 }
-        ensures unchanged { L.is_clean self.new → IsTrue (L.is_open self.new) → IsStoreReply result → L.contest self.new ≡ L.contest self.old }
-        ensures isolated { L.is_clean self.new → ¬ IsStoreReply result → (a : TheAudience) (y : ContestState) → HasSight (L.contest self.old).fixed credential a
-            → MayBeHeld a now (L.contest self.old) → is_valid y ≡ true → Alike a (L.contest self.old) y
-            → (result ≡ (step y now credential request).0) × Alike a (L.contest self.new) (step y now credential request).1 }
-        ensures kept { L.is_clean self.new → ¬ IsStoreReply result → LeavesOnly L.may_leave self.new (step (L.contest self.old) now credential request).1 }
-        ensures settled { L.is_clean self.new → IsTrue (L.is_open self.new) → LeavesOnly L.may_leave self.new (L.contest self.new) }
-        ensures crash { L.is_clean self.new → LeavesOr L.may_leave self.old self.new (step (L.contest self.old) now credential request).1 }
-        ensures shut { L.is_clean self.new → IsFalse (L.is_open self.old) → LeavesNoMore L.may_leave self.old self.new }
-        ensures clean { L.is_clean self.new → L.is_clean self.old }
-        ensures up { L.is_clean self.new → IsTrue (L.is_open self.new) → IsTrue (L.is_open self.old) }
-        ensures open { L.is_clean self.new → IsStoreReply result ⊎ (IsTrue (L.is_open self.new) × ¬ IsStoreReply result) }
-        ensures fault { result ≡ refused Refusal.StoreFault → L.faults self.new ≡ one_more (L.faults self.old) }
-        ensures no_fault { ¬ (result ≡ refused Refusal.StoreFault) → L.faults self.new ≡ L.faults self.old }
+        ensures reply { (S.kept self.new).is_clean → ¬ IsStoreReply result → result ≡ (step (S.kept self.old).contest now credential request).0 }
+        ensures contest { (S.kept self.new).is_clean → ¬ IsStoreReply result → (S.kept self.new).contest ≡ (step (S.kept self.old).contest now credential request).1 }
+        ensures unchanged { (S.kept self.new).is_clean → IsTrue (S.kept self.new).is_open → IsStoreReply result → (S.kept self.new).contest ≡ (S.kept self.old).contest }
+        ensures isolated { (S.kept self.new).is_clean → ¬ IsStoreReply result → (a : TheAudience) (y : ContestState) → HasSight (S.kept self.old).contest.fixed credential a
+            → MayBeHeld a now (S.kept self.old).contest → is_valid y ≡ true → Alike a (S.kept self.old).contest y
+            → (result ≡ (step y now credential request).0) × Alike a (S.kept self.new).contest (step y now credential request).1 }
+        ensures kept { (S.kept self.new).is_clean → ¬ IsStoreReply result → LeavesOnly (S.kept self.new).may_leave (step (S.kept self.old).contest now credential request).1 }
+        ensures settled { (S.kept self.new).is_clean → IsTrue (S.kept self.new).is_open → LeavesOnly (S.kept self.new).may_leave (S.kept self.new).contest }
+        ensures crash { (S.kept self.new).is_clean → LeavesOr (S.kept self.old).may_leave (S.kept self.new).may_leave (step (S.kept self.old).contest now credential request).1 }
+        ensures shut { (S.kept self.new).is_clean → IsFalse (S.kept self.old).is_open → LeavesNoMore (S.kept self.old).may_leave (S.kept self.new).may_leave }
+        ensures clean { (S.kept self.new).is_clean → (S.kept self.old).is_clean }
+        ensures up { (S.kept self.new).is_clean → IsTrue (S.kept self.new).is_open → IsTrue (S.kept self.old).is_open }
+        ensures shuts { (S.kept self.new).is_clean → IsTrue (S.kept self.old).is_open → IsTrue (S.kept self.new).is_open ⊎ Failed (S.kept self.old).troubles (S.kept self.new).troubles }
+        ensures troubles { (S.kept self.old).troubles ≤ (S.kept self.new).troubles }
+        ensures open { (S.kept self.new).is_clean → IsStoreReply result ⊎ (IsTrue (S.kept self.new).is_open × ¬ IsStoreReply result) }
+        ensures fault { result ≡ refused Refusal.StoreFault → (S.kept self.new).faults ≡ one_more (S.kept self.old).faults }
+        ensures no_fault { ¬ (result ≡ refused Refusal.StoreFault) → (S.kept self.new).faults ≡ (S.kept self.old).faults }
+        ensures commits { (S.kept self.new).is_clean → ¬ IsStoreReply result → (S.kept self.new).commits ≡ commits_for (outcome (S.kept self.old).contest now credential request).entries (S.kept self.old).commits }
+        ensures no_commit { (S.kept self.new).is_clean → IsStoreReply result → (S.kept self.new).commits ≡ (S.kept self.old).commits }
+        ensures memory { (S.kept self.new).is_clean → result ≡ refused Refusal.Memory
+            → Failed (S.kept self.old).refusals (S.kept self.new).refusals ⊎ (may_take_memory (S.kept self.old).contest.fixed credential request ≡ true) }
     {
         match serve(
             alloc,
-            &mut self.records,
+            &mut self.store,
             &self.table,
             now,
             &credential,
             request,
         ) {
             Ok(reply) => reply,
-            Err(refusal) => Reply::refused(refusal),
+            Err(error) => Reply::refused(error.refusal()),
         }
     }
 }

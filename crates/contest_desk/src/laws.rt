@@ -1,6 +1,6 @@
 //! Laws of the desk's steps: functions that do nothing, and whose contracts say what holds of every
 //! contest.
-ghost use Rattle.contest_desk.specs.Laws.{GetsAlike, HeadIsGet, ListsAlike, PostsAlike, StepsAlike, StepsKeepValid, StepsNeverFail};
+ghost use Rattle.contest_desk.specs.Laws.{HeadIsGet, PostsAlike, ReadsAlike, StepsAlike, StepsKeepValid, StepsNeverFail};
 
 /// Until the thaw, valid contests with equal settings, accounts and marks that agree on all that a
 /// caller may learn answer each of its requests byte for byte alike, and agree on it afterwards.
@@ -8,15 +8,10 @@ pub fn steps_alike()
     ensures { StepsAlike }
 {}
 
-/// The submissions that an audience reads tell nothing that it may not learn.
-pub fn lists_alike()
-    ensures { ListsAlike }
-{}
-
-/// Nor does the submission that it asks for by any id: one that it doesn't see is as one that isn't
+/// What an audience reads tells nothing that it may not learn: what it doesn't see is as what isn't
 /// there.
-pub fn gets_alike()
-    ensures { GetsAlike }
+pub fn reads_alike()
+    ensures { ReadsAlike }
 {}
 
 /// Nor does what becomes of a team's own post: its number, its time, its repeats and its refusals

@@ -7,12 +7,19 @@ use crate::{Method, Route};
 /// What a request asks for.
 #[derive(Clone, Copy, Debug, PartialEq, Eq)]
 pub enum Operation {
-    /// The submissions that the caller sees.
-    ListSubmissions,
+    /// To read.
+    Read(Reading),
     /// To submit.
     PostSubmission,
-    /// One submission.
-    GetSubmission,
+}
+
+/// What is read.
+#[derive(Clone, Copy, Debug, PartialEq, Eq)]
+pub enum Reading {
+    /// The submissions that the caller sees.
+    Submissions,
+    /// One of them.
+    Submission,
 }
 
 /// The methods of a route, as an `Allow` field lists them.
@@ -70,8 +77,8 @@ fn read_on(route: Route) -> Option<Operation>
     ensures { result ≡ read_on route }
 {
     match route {
-        Route::Submissions => Some(Operation::ListSubmissions),
-        Route::Submission => Some(Operation::GetSubmission),
+        Route::Submissions => Some(Operation::Read(Reading::Submissions)),
+        Route::Submission => Some(Operation::Read(Reading::Submission)),
         _ => None,
     }
 }

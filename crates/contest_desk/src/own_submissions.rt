@@ -1,92 +1,110 @@
 //! A team's own submissions, as far as its next one is decided by them.
-ghost use Rattle.std.specs.Prelude.{◌≡◌, ◌<◌, ℕ, List, true, IfOk, IsTrue, OnErr, OnOk, Some, length, map, slice_get, slice_set};
-ghost use Rattle.contest_types.specs.Loads.{without_file};
-ghost use Rattle.contest_types.specs.State.{submissions_of};
-ghost use Rattle.contest_types.specs.Loads.{file_of};
+ghost use Rattle.std.specs.Prelude.{◌≡◌, ◌&&◌, ◌==◌, ◌<◌, ◌++◌, ◌∷◌, [], ℕ, List, true, Some, IfOk, OnOk, find, length, option_map, slice_get, slice_set};
+ghost use Rattle.contest_types.specs.Loads.{loaded_submissions};
+ghost use Rattle.contest_types.specs.State.{ContestState, submissions_of};
 ghost use Rattle.contest_types.specs.Valid.{is_valid};
 ghost use Rattle.contest_types.specs.declared.submission.Submission.{Submission};
-ghost use Rattle.contest_store.specs.Keeping.{CountsFaults, LeavesNoMore, LeavesOnly, RollsBack, Shows};
-ghost use Rattle.contest_desk.specs.OwnSubmissions.{loaded_for, with_file};
+ghost use Rattle.contest_rules.specs.Submitting.{has_key};
+ghost use Rattle.contest_desk.specs.OwnSubmissions.{keyed_row, loaded_for, with_file};
+ghost use Rattle.contest_desk.specs.Wishes.{file_at};
 
 use contest_rules::place_of_key;
-use contest_store::Records;
-use contest_types::{Id, Refusal, Rows, Submission};
-use std::alloc::Global;
+use contest_store::CopyRow;
+use contest_types::{Id, Rows, Submission};
+use std::alloc::{AllocError, Global};
 
-/// The submissions of the team at a place, from 0, in the order in which they were accepted. Files
-/// are large: only that of the one which has the key is there.
-pub fn own_submissions<L: Records>(
-    alloc: Global,
-    records: &mut L,
+/// Which row has the key that a team asks with: by the place of its team, from 0, and its number.
+pub fn keyed_row(
     team: usize,
     key: &Option<Id>,
-) -> Result<Vec<Submission>, Refusal>
-    requires ready { L.is_clean records.old → is_valid (L.contest records.old) ≡ true }
-    ensures value { L.is_clean records.new → IfOk result (λ own. own.items ≡ loaded_for key.now (submissions_of team (L.contest records.old).submissions)) }
-    ensures ok { L.is_clean records.new → OnOk result (Shows L.contest L.committed L.is_open records.new (L.contest records.old) (L.committed records.old)) }
-    ensures err { L.is_clean records.new → IsTrue (L.is_open records.new) → OnErr result (RollsBack L.contest L.committed L.is_open records.old records.new) }
-    ensures settled { L.is_clean records.new → IsTrue (L.is_open records.new) → LeavesOnly L.may_leave records.new (L.committed records.new) }
-    ensures crash { L.is_clean records.new → LeavesNoMore L.may_leave records.old records.new }
-    ensures clean { L.is_clean records.new → L.is_clean records.old }
-    ensures up { L.is_clean records.new → IsTrue (L.is_open records.new) → IsTrue (L.is_open records.old) }
-    ensures count { CountsFaults result (L.faults records.old) (L.faults records.new) }
+    submissions: &[Submission],
+) -> Option<(usize, usize)>
+    ensures { result ≡ keyed_row team key.now submissions.now }
 {
-    let own = rows_of_team(alloc, records, team)?;
+    match key {
+        Some(key) => {
+            let submission = row_with(team, key, submissions)?;
+            Some((team, submission.number))
+        }
+        None => None,
+    }
+}
+
+fn row_with<'a>(team: usize, key: &Id, submissions: &'a [Submission]) -> Option<&'a Submission>
+    ensures { option_map (λ s. s.now) result ≡ find (λ s. (s.team == team) && has_key key.now s) submissions.now }
+{
+    submissions.iter().find(|submission| submission.team == team && has_key(submission, key))
+}
+
+// Whether a submission was posted with this key.
+fn has_key(submission: &Submission, key: &Id) -> bool
+    ensures { result ≡ has_key key.now submission.now }
+{
+    match &submission.key {
+        Some(own) => own == key,
+        None => false,
+    }
+}
+
+/// The submissions of the team at a place, from 0, in the order in which they were accepted. Files are
+/// large: only that of the one which has the key is there.
+///
+/// # Errors
+///
+/// Want of memory alone.
+pub fn own_submissions(
+    alloc: Global,
+    team: usize,
+    key: &Option<Id>,
+    submissions: &[Submission],
+    file: Option<Rows<u8>>,
+) -> Result<Vec<Submission>, AllocError>
+    ensures { (x : ContestState) → is_valid x ≡ true → submissions.now ≡ loaded_submissions x → file ≡ file_at x (keyed_row team key.now submissions.now)
+        → IfOk result (λ own. own.items ≡ loaded_for key.now (submissions_of team x.submissions)) }
+{
+    let own = rows_of_team(alloc, submissions, team)?;
     match place_of_key(&own, key) {
-        Some(place) => with_file_at(alloc, records, team, own, place),
+        Some(place) => Ok(with_file_at(own, place, file)),
         None => Ok(own),
     }
 }
 
-// The team's submissions without their files.
-fn rows_of_team<L: Records>(
+fn rows_of_team(
     alloc: Global,
-    records: &mut L,
+    submissions: &[Submission],
     team: usize,
-) -> Result<Vec<Submission>, Refusal>
-    ensures value { L.is_clean records.new → IfOk result (λ own. own.items ≡ map without_file (submissions_of team (L.contest records.old).submissions)) }
-    ensures ok { L.is_clean records.new → OnOk result (Shows L.contest L.committed L.is_open records.new (L.contest records.old) (L.committed records.old)) }
-    ensures err { L.is_clean records.new → IsTrue (L.is_open records.new) → OnErr result (RollsBack L.contest L.committed L.is_open records.old records.new) }
-    ensures settled { L.is_clean records.new → IsTrue (L.is_open records.new) → LeavesOnly L.may_leave records.new (L.committed records.new) }
-    ensures crash { L.is_clean records.new → LeavesNoMore L.may_leave records.old records.new }
-    ensures clean { L.is_clean records.new → L.is_clean records.old }
-    ensures up { L.is_clean records.new → IsTrue (L.is_open records.new) → IsTrue (L.is_open records.old) }
-    ensures count { CountsFaults result (L.faults records.old) (L.faults records.new) }
+) -> Result<Vec<Submission>, AllocError>
+    ensures { IfOk result (λ own. own.items ≡ submissions_of team submissions.now) }
 {
-    let rows = records.submissions(alloc)?;
-    Ok(of_team(rows, team))
+    let mut own = Vec::new(alloc);
+    for submission in submissions {
+        push_own(alloc, &mut own, submission, team)?;
+    }
+    Ok(own)
 }
 
-fn of_team(rows: Rows<Submission>, team: usize) -> Vec<Submission>
-    ensures { result.items ≡ submissions_of team rows }
+fn push_own(
+    alloc: Global,
+    own: &mut Vec<Submission>,
+    submission: &Submission,
+    team: usize,
+) -> Result<(), AllocError>
+    ensures { OnOk result (own.new.items ≡ own.old.items ++ submissions_of team (submission.now ∷ [])) }
 {
-    let mut own = rows.into_vec();
-    own.retain(|submission| submission.team == team);
-    own
+    if submission.team == team {
+        own.push(submission.copied(alloc)?)?;
+    }
+    Ok(())
 }
 
 // The rows with the file of the one at a place.
-fn with_file_at<L: Records>(
-    alloc: Global,
-    records: &mut L,
-    team: usize,
-    own: Vec<Submission>,
-    place: usize,
-) -> Result<Vec<Submission>, Refusal>
-    requires place { place < length own.items }
-    ensures value { L.is_clean records.new → IfOk result (λ rows. (file : List ℕ) (s : Submission) → slice_get own.items place ≡ Some s
-        → file_of (L.contest records.old) team s.number ≡ Some file → rows.items ≡ slice_set own.items place (with_file file s)) }
-    ensures ok { L.is_clean records.new → OnOk result (Shows L.contest L.committed L.is_open records.new (L.contest records.old) (L.committed records.old)) }
-    ensures err { L.is_clean records.new → IsTrue (L.is_open records.new) → OnErr result (RollsBack L.contest L.committed L.is_open records.old records.new) }
-    ensures settled { L.is_clean records.new → IsTrue (L.is_open records.new) → LeavesOnly L.may_leave records.new (L.committed records.new) }
-    ensures crash { L.is_clean records.new → LeavesNoMore L.may_leave records.old records.new }
-    ensures clean { L.is_clean records.new → L.is_clean records.old }
-    ensures up { L.is_clean records.new → IsTrue (L.is_open records.new) → IsTrue (L.is_open records.old) }
-    ensures count { CountsFaults result (L.faults records.old) (L.faults records.new) }
+fn with_file_at(own: Vec<Submission>, place: usize, file: Option<Rows<u8>>) -> Vec<Submission>
+    requires { place < length own.items }
+    ensures { (bytes : List ℕ) (s : Submission) → slice_get own.items place ≡ Some s → file ≡ Some bytes → result.items ≡ slice_set own.items place (with_file bytes s) }
 {
-    match records.file(alloc, team, own[place].number)? {
-        Some(file) => Ok(put_file(own, place, file)),
-        None => Ok(own),
+    match file {
+        Some(file) => put_file(own, place, file),
+        None => own,
     }
 }
 

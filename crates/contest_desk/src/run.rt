@@ -5,7 +5,7 @@ ghost use Rattle.contest_desk.specs.Runs.{CountsReplies, LeavesAfter, RunsTo};
 ghost use Rattle.contest_desk.specs.Serving.{IsStoreReply};
 
 use crate::{Credential, Desk, Reply, Request};
-use contest_store::Records;
+use contest_store::ContestStore;
 use contest_types::Moment;
 use std::alloc::{AllocError, Global};
 
@@ -20,7 +20,7 @@ pub struct Item {
     pub request: Request,
 }
 
-impl<L: Records> Desk<L> {
+impl<S: ContestStore> Desk<S> {
     /// Handles requests one after another, and gives their replies in order. What was answered before
     /// a failure is not lost by it: a crash leaves the contest of the last request that was answered
     /// (where none was, what it could leave before), or that of one which failed since.
@@ -29,13 +29,13 @@ impl<L: Records> Desk<L> {
     ///
     /// Want of memory alone, before the first request: nothing is handled then.
     pub fn run(&mut self, alloc: Global, items: Vec<Item>) -> Result<Vec<Reply>, AllocError>
-        ensures run { L.is_clean self.new → IfOk result (λ replies. RunsTo L.contest L.is_open self.old self.new items.items replies.items) }
-        ensures crash { L.is_clean self.new → IfOk result (λ replies. (c : Option ContestState) → L.may_leave self.new c
-            → LeavesAfter (L.may_leave self.old) (L.contest self.old) items.items replies.items c) }
-        ensures open { L.is_clean self.new → IfOk result (λ replies. All (λ reply. ¬ IsStoreReply reply) replies.items → IsTrue (L.is_open self.old) → IsTrue (L.is_open self.new)) }
-        ensures faults { IfOk result (λ replies. CountsReplies replies.items (L.faults self.old) (L.faults self.new)) }
-        ensures clean { L.is_clean self.new → L.is_clean self.old }
-        ensures up { L.is_clean self.new → IsTrue (L.is_open self.new) → IsTrue (L.is_open self.old) }
+        ensures run { (S.kept self.new).is_clean → IfOk result (λ replies. RunsTo (S.kept self.old) (S.kept self.new) items.items replies.items) }
+        ensures crash { (S.kept self.new).is_clean → IfOk result (λ replies. (c : Option ContestState) → (S.kept self.new).may_leave c
+            → LeavesAfter (S.kept self.old).may_leave (S.kept self.old).contest items.items replies.items c) }
+        ensures open { (S.kept self.new).is_clean → IfOk result (λ replies. All (λ reply. ¬ IsStoreReply reply) replies.items → IsTrue (S.kept self.old).is_open → IsTrue (S.kept self.new).is_open) }
+        ensures faults { IfOk result (λ replies. CountsReplies replies.items (S.kept self.old).faults (S.kept self.new).faults) }
+        ensures clean { (S.kept self.new).is_clean → (S.kept self.old).is_clean }
+        ensures up { (S.kept self.new).is_clean → IsTrue (S.kept self.new).is_open → IsTrue (S.kept self.old).is_open }
         ensures early { OnErr result (self.new ≡ self.old) }
     {
         let mut replies = Vec::with_capacity(alloc, items.len())?;

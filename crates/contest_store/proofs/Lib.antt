@@ -1,2 +1,4 @@
 pub mod AccountLemmas
 pub mod FixedLemmas
+pub mod ChangeLemmas
+pub mod LeaveLemmas

@@ -1,19 +1,13 @@
 -- A contest in memory.
-use Rattle.std.specs.Prelude.{ℕ, ◌-◌, ◌==◌, Bool, false, List, [], Option, None, Some, take}
+use Rattle.std.specs.Prelude.{◌≡◌, ◌≤◌, ℕ, ◌-◌, ◌==◌, Bool, true, false, List, [], length, map, Option, None, Some, take}
 use Rattle.std.specs.Option.{option_map}
 use Rattle.contest_types.specs.Streams.{one_more}
+use Rattle.contest_types.specs.Loads.{without_file}
 use Rattle.contest_types.specs.State.{FixedPart, ContestState}
 use Rattle.contest_types.specs.declared.submission.Submission.{Submission}
+use Rattle.contest_store.specs.Keeping.{Kept}
 
--- the fixed part, the submissions, how many of these are committed, how many calls failed, and how many
--- more go on until one is made to fail, if one is
-pub record Kept : Type 0 where
-  pub fixed : FixedPart
-  pub submissions : List Submission
-  pub committed : ℕ
-  pub faults : ℕ
-  pub calls_left : Option ℕ
-
+-- a contest in which nothing but submissions stands
 abbrev pub with_submissions : FixedPart → List Submission → ContestState
 with_submissions fixed submissions = record {
   fixed = fixed;
@@ -24,29 +18,78 @@ with_submissions fixed submissions = record {
   rejudgings = [];
 }
 
-abbrev pub contest_of : Kept → ContestState
-contest_of k = with_submissions k.fixed k.submissions
+-- the submissions with their files, and how many of them are committed; the lists as the last commit left
+-- them, and with what was added since, if anything was; how many calls failed, were refused memory and
+-- committed, and how many more go on until one is made to fail, if one is
+pub record Stored : Type 0 where
+  pub submissions : List Submission
+  pub kept : ℕ
+  pub committed : ContestState
+  pub pending : Option ContestState
+  pub faults : ℕ
+  pub refusals : ℕ
+  pub commits : ℕ
+  pub calls_left : Option ℕ
 
-abbrev pub committed_of : Kept → ContestState
-committed_of k = with_submissions k.fixed (take k.committed k.submissions)
+-- the lists with what was added since the last commit
+abbrev pub latest : ContestState → Option ContestState → ContestState
+latest committed None = committed
+latest committed (Some pending) = pending
 
--- no append stands
-abbrev pub rolled_back : Kept → Kept
-rolled_back k = record k { submissions = take k.committed k.submissions }
+abbrev pub lists_of : Stored → ContestState
+lists_of s = latest s.committed s.pending
+
+-- the contest with these submissions
+abbrev pub filed : List Submission → ContestState → ContestState
+filed submissions x = record x { submissions = submissions }
+
+abbrev pub contest_of : Stored → ContestState
+contest_of s = filed s.submissions (lists_of s)
+
+abbrev pub committed_of : Stored → ContestState
+committed_of s = filed (take s.kept s.submissions) s.committed
+
+-- the lists have the submissions without their files
+pub record AreFiled (submissions : List Submission) (kept : ℕ) (committed lists : ContestState) : Type 0 where
+  pub within : kept ≤ length submissions
+  pub now : lists.submissions ≡ map without_file submissions
+  pub before : committed.submissions ≡ map without_file (take kept submissions)
+
+abbrev pub kept_of : Stored → Kept
+kept_of s = record {
+  contest = contest_of s;
+  committed = committed_of s;
+  is_open = true;
+  is_loaded = true;
+  is_clean = Unit {0};
+  may_leave = λ c. c ≡ Some (committed_of s);
+  faults = s.faults;
+  refusals = s.refusals;
+  troubles = s.faults;
+  commits = s.commits;
+}
+
+-- no change stands that wasn't committed
+abbrev pub rolled_back : Stored → Stored
+rolled_back s = record s { submissions = take s.kept s.submissions; pending = None }
 
 -- a call failed
-abbrev pub counted : Kept → Kept
-counted k = record k { faults = one_more k.faults }
+abbrev pub counted : Stored → Stored
+counted s = record s { faults = one_more s.faults }
+
+-- a call was refused memory
+abbrev pub refused : Stored → Stored
+refused s = record (rolled_back s) { refusals = one_more s.refusals }
 
 -- the next call is made to fail
 abbrev pub is_due : Option ℕ → Bool
 is_due None = false
 is_due (Some calls) = calls == 0
 
--- a call that was made to fail: it is counted, no append stands, and those after it go on
-abbrev pub failed : Kept → Kept
-failed k = record (rolled_back (counted k)) { calls_left = None }
+-- a call that was made to fail: it is counted, no change stands, and those after it go on
+abbrev pub failed : Stored → Stored
+failed s = record (rolled_back (counted s)) { calls_left = None }
 
 -- a call that goes on
-abbrev pub gone_on : Kept → Kept
-gone_on k = record k { calls_left = option_map (λ calls. calls - 1) k.calls_left }
+abbrev pub gone_on : Stored → Stored
+gone_on s = record s { calls_left = option_map (λ calls. calls - 1) s.calls_left }

@@ -1,2 +1,4 @@
+pub mod StoreErrors
 pub mod Keeping
+pub mod Lists
 pub mod InMemory

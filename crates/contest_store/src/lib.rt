@@ -1,10 +1,16 @@
 //! Where a contest is kept: what any store of one promises, and a store in memory.
 #![tactic(auto)]
 
+mod copies;
+mod lists;
 mod memory;
-mod records;
+mod store;
+mod store_error;
 mod valid_fixed;
 
-pub use memory::MemoryRecords;
-pub use records::Records;
+pub use copies::CopyRow;
+pub use lists::Lists;
+pub use memory::MemoryStore;
+pub use store::ContestStore;
+pub use store_error::StoreError;
 pub use valid_fixed::is_valid_fixed;

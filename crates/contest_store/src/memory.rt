@@ -1,57 +1,70 @@
 //! A contest in memory: for tests of what stands above a store.
-ghost use Rattle.std.specs.Prelude.{◌≡◌, ◌≤◌, ◌==◌, ◌&&◌, IfOk, IfErr, IsTrue, OnOk, [], None, Some, false, length, map, find, option_map};
-ghost use Rattle.contest_store.specs.InMemory.{contest_of, committed_of, counted, failed, gone_on, is_due, rolled_back, with_submissions};
+ghost use Rattle.std.specs.Prelude.{◌≡◌, ◌==◌, ◌&&◌, IfOk, IsTrue, OnOk, OnErr, [], None, Some, false, find, map, option_map};
+ghost use Rattle.contest_store.specs.InMemory.{committed_of, contest_of, counted, failed, gone_on, is_due, lists_of, refused, rolled_back, with_submissions};
 ghost use Rattle.contest_types.specs.Loads.{file_of, without_file};
 ghost use Rattle.contest_types.specs.State.{add};
+ghost use Rattle.contest_types.specs.Streams.{one_more};
 ghost use Rattle.contest_types.specs.declared.entry.Entry.TheVariants.{NewSubmission};
 
-use crate::Records;
-use contest_types::{Entry, Fixed, Refusal, Rows, Submission};
+use crate::copies::{copied_bytes, without_file};
+use crate::{ContestStore, Lists, StoreError};
+use contest_types::{Entry, Fixed, Rows, Submission};
 use std::alloc::{AllocError, Global};
 use std::marker::Model;
 use std::rc::Rc;
 
-/// A contest in memory, which keeps submissions alone. A call can be made to fail, to see what its
-/// callers do then.
+/// A contest in memory. A call can be made to fail, to see what its callers do then.
 #[derive(Drop)]
-pub struct MemoryRecords {
-    fixed: Rc<Fixed>,
+pub struct MemoryStore {
+    // with their files
     submissions: Vec<Submission>,
-    committed: usize,
+    // how many of them are committed
+    kept: usize,
+    committed: Lists,
+    // with what was added since the last commit, if anything was
+    pending: Option<Lists>,
     faults: u64,
+    refusals: u64,
+    commits: u64,
     calls_left: Option<u32>,
 }
 
-impl Model for MemoryRecords {
-    ghost use Rattle.std.specs.Prelude.{◌≤◌, length};
-    ghost use Rattle.contest_store.specs.InMemory.{Kept};
+impl Model for MemoryStore {
+    ghost use Rattle.std.specs.Prelude.{option_map};
+    ghost use Rattle.contest_store.specs.InMemory.{AreFiled, Stored, latest};
 
-    ghost Value = { Kept };
+    ghost Value = { Stored };
 
     ghost view = { λ m. record {
-      fixed = m.fixed.value;
       submissions = m.submissions.items;
+      kept = m.kept;
       committed = m.committed;
+      pending = m.pending;
       faults = m.faults;
+      refusals = m.refusals;
+      commits = m.commits;
       calls_left = m.calls_left;
     } };
 
-    ghost invariant = { λ m. m.committed ≤ length m.submissions.items };
+    ghost invariant = { λ m. AreFiled m.submissions.items m.kept m.committed (latest m.committed m.pending) };
 }
 
-impl MemoryRecords {
-    /// A contest with no submission.
-    pub fn new(alloc: Global, fixed: Rc<Fixed>) -> MemoryRecords
+impl MemoryStore {
+    /// A contest with no rows.
+    pub fn new(alloc: Global, fixed: Rc<Fixed>) -> MemoryStore
         ensures contest { contest_of result ≡ with_submissions fixed.value [] }
         ensures committed { committed_of result ≡ with_submissions fixed.value [] }
         ensures faults { result.faults ≡ 0 }
         ensures going_on { result.calls_left ≡ None }
     {
-        MemoryRecords {
-            fixed,
+        MemoryStore {
             submissions: Vec::new(alloc),
-            committed: 0,
+            kept: 0,
+            committed: Lists::new(alloc, fixed),
+            pending: None,
             faults: 0,
+            refusals: 0,
+            commits: 0,
             calls_left: None,
         }
     }
@@ -70,10 +83,24 @@ impl MemoryRecords {
     {
         self.faults
     }
+
+    /// How many calls were refused memory.
+    pub fn refusals(&self) -> u64
+        ensures { result ≡ self.now.refusals }
+    {
+        self.refusals
+    }
+
+    /// How many commits were answered.
+    pub fn commits(&self) -> u64
+        ensures { result ≡ self.now.commits }
+    {
+        self.commits
+    }
 }
 
-impl MemoryRecords {
-    // Whether this call fails: it is counted then, and no append stands.
+impl MemoryStore {
+    // Whether this call fails: it is counted then, and no change stands.
     fn fails(&mut self) -> bool
         ensures due { result ≡ is_due self.old.calls_left }
         ensures fails { IsTrue result → self.new ≡ failed self.old }
@@ -97,19 +124,39 @@ impl MemoryRecords {
     fn count(&mut self)
         ensures { self.new ≡ counted self.old }
     {
-        if self.faults < u64::MAX {
-            self.faults += 1;
-        }
+        self.faults = one_more(self.faults);
     }
 
     fn roll_back(&mut self)
         ensures { self.new ≡ rolled_back self.old }
     {
-        self.submissions.truncate(self.committed);
+        self.pending = None;
+        self.submissions.truncate(self.kept);
+    }
+
+    // Want of memory: it is counted, and no change stands.
+    fn refuse(&mut self) -> StoreError
+        ensures error { result ≡ StoreError.Memory }
+        ensures refused { self.new ≡ refused self.old }
+    {
+        self.refusals = one_more(self.refusals);
+        self.roll_back();
+        StoreError::Memory
+    }
+
+    // The lists with what was added since the last commit.
+    fn latest(&self) -> &Lists
+        ensures lists { result.now ≡ lists_of self.now }
+        ensures filed { (lists_of self.now).submissions ≡ map without_file self.now.submissions }
+    {
+        match &self.pending {
+            Some(pending) => pending,
+            None => &self.committed,
+        }
     }
 
     // The file of a team's submission with this number.
-    fn copy_of_file(
+    fn copied_file(
         &self,
         alloc: Global,
         team: usize,
@@ -118,67 +165,78 @@ impl MemoryRecords {
         ensures { IfOk result (λ found. found ≡ file_of (contest_of self.now) team number) }
     {
         match with_number(&self.submissions, team, number) {
-            Some(submission) => Ok(Some(copy(alloc, submission.file.as_slice())?)),
+            Some(submission) => Ok(Some(copied_bytes(alloc, submission.file.as_slice())?)),
             None => Ok(None),
         }
     }
 
-    fn push(&mut self, submission: Submission) -> Result<(), Refusal>
+    // Makes a change, and answers whether it did: those of the fixed part aren't made. Where memory is
+    // refused nothing is changed.
+    fn add(&mut self, alloc: Global, entry: Entry) -> Result<bool, AllocError>
+        ensures ok { IfOk result (λ added. IsTrue added → contest_of self.new ≡ add (contest_of self.old) entry) }
+        ensures kept { OnOk result (committed_of self.new ≡ committed_of self.old) }
+        ensures counts { OnOk result ((self.new.faults ≡ self.old.faults) × (self.new.refusals ≡ self.old.refusals) × (self.new.commits ≡ self.old.commits)) }
+        ensures err { OnErr result (self.new ≡ self.old) }
+        ensures none { IfOk result (λ added. added ≡ false → self.new ≡ self.old) }
+    {
+        match entry {
+            Entry::NewSubmission(submission) => {
+                self.add_submission(alloc, submission)?;
+                Ok(true)
+            }
+            entry => self.change_lists(alloc, entry),
+        }
+    }
+
+    fn change_lists(&mut self, alloc: Global, entry: Entry) -> Result<bool, AllocError>
+        ensures ok { IfOk result (λ added. IsTrue added → contest_of self.new ≡ add (contest_of self.old) entry) }
+        ensures kept { OnOk result (committed_of self.new ≡ committed_of self.old) }
+        ensures counts { OnOk result ((self.new.faults ≡ self.old.faults) × (self.new.refusals ≡ self.old.refusals) × (self.new.commits ≡ self.old.commits)) }
+        ensures err { OnErr result (self.new ≡ self.old) }
+        ensures none { IfOk result (λ added. added ≡ false → self.new ≡ self.old) }
+    {
+        let mut next = self.latest().copied(alloc)?;
+        let added = next.add(alloc, entry)?;
+        if added {
+            self.pending = Some(next);
+        }
+        Ok(added)
+    }
+
+    // Where memory is refused nothing is added.
+    fn add_submission(&mut self, alloc: Global, submission: Submission) -> Result<(), AllocError>
         ensures ok { OnOk result (contest_of self.new ≡ add (contest_of self.old) (NewSubmission submission)) }
         ensures kept { OnOk result (committed_of self.new ≡ committed_of self.old) }
-        ensures faults { OnOk result (self.new.faults ≡ self.old.faults) }
-        ensures err { IfErr result (λ e. (e ≡ Refusal.Memory) × (self.new ≡ rolled_back self.old)) }
+        ensures counts { OnOk result ((self.new.faults ≡ self.old.faults) × (self.new.refusals ≡ self.old.refusals) × (self.new.commits ≡ self.old.commits)) }
+        ensures err { OnErr result (self.new ≡ self.old) }
     {
-        match self.submissions.push(submission) {
-            Ok(()) => Ok(()),
-            Err(_) => {
-                self.roll_back();
-                Err(Refusal::Memory)
-            }
-        }
+        let mut next = self.latest().copied(alloc)?;
+        next.submissions.push(without_file(alloc, &submission)?)?;
+        self.submissions.push(submission)?;
+        self.pending = Some(next);
+        Ok(())
     }
 }
 
-impl Records for MemoryRecords {
-    ghost use Rattle.std.specs.Prelude.{◌≡◌, true, Some};
-    ghost use Rattle.contest_store.specs.InMemory.{contest_of, committed_of};
+impl ContestStore for MemoryStore {
+    ghost use Rattle.std.specs.Prelude.{refl};
+    ghost use Rattle.contest_store.specs.InMemory.{kept_of};
 
-    ghost contest = { contest_of };
+    ghost kept = { kept_of };
 
-    ghost committed = { committed_of };
+    ghost settled = { λ s clean up. (refl, λ c left. left) };
 
-    ghost is_clean = { λ _. Unit {0} };
+    ghost survives = { λ s clean. ∣ (_, refl) ∣₁ };
 
-    ghost is_open = { λ _. true };
-
-    ghost may_leave = { λ m found. found ≡ Some (committed_of m) };
-
-    ghost faults = { λ m. m.faults };
-
-    fn fixed(&mut self, _alloc: Global) -> Result<Rc<Fixed>, Refusal> {
+    fn load(&mut self, _alloc: Global) -> Result<(), StoreError> {
         if self.fails() {
-            return Err(Refusal::StoreFault);
+            return Err(StoreError::Fault);
         }
-        match self.fixed.clone() {
-            Ok(fixed) => Ok(fixed),
-            Err(AllocError) => {
-                self.roll_back();
-                Err(Refusal::Memory)
-            }
-        }
+        Ok(())
     }
 
-    fn submissions(&mut self, alloc: Global) -> Result<Rows<Submission>, Refusal> {
-        if self.fails() {
-            return Err(Refusal::StoreFault);
-        }
-        match without_files(alloc, &self.submissions) {
-            Ok(rows) => Ok(rows),
-            Err(AllocError) => {
-                self.roll_back();
-                Err(Refusal::Memory)
-            }
-        }
+    fn lists(&self) -> &Lists {
+        self.latest()
     }
 
     fn file(
@@ -186,78 +244,52 @@ impl Records for MemoryRecords {
         alloc: Global,
         team: usize,
         number: usize,
-    ) -> Result<Option<Rows<u8>>, Refusal> {
+    ) -> Result<Option<Rows<u8>>, StoreError> {
         if self.fails() {
-            return Err(Refusal::StoreFault);
+            return Err(StoreError::Fault);
         }
-        match self.copy_of_file(alloc, team, number) {
+        match self.copied_file(alloc, team, number) {
             Ok(file) => Ok(file),
-            Err(AllocError) => {
-                self.roll_back();
-                Err(Refusal::Memory)
-            }
+            Err(AllocError) => Err(self.refuse()),
         }
     }
 
-    fn append(&mut self, entry: Entry) -> Result<(), Refusal> {
+    fn append(&mut self, alloc: Global, entry: Entry) -> Result<(), StoreError> {
         if self.fails() {
-            return Err(Refusal::StoreFault);
+            return Err(StoreError::Fault);
         }
-        match entry {
-            Entry::NewSubmission(submission) => self.push(submission),
-            _ => {
+        match self.add(alloc, entry) {
+            Ok(true) => Ok(()),
+            Ok(false) => {
                 self.count();
                 self.roll_back();
-                Err(Refusal::StoreFault)
+                Err(StoreError::Fault)
             }
+            Err(AllocError) => Err(self.refuse()),
         }
     }
 
-    fn commit(&mut self) -> Result<(), Refusal> {
+    fn commit(&mut self) -> Result<(), StoreError> {
         if self.fails() {
-            return Err(Refusal::StoreFault);
+            return Err(StoreError::Fault);
         }
-        self.committed = self.submissions.len();
+        if let Some(pending) = self.pending.take() {
+            self.committed = pending;
+        }
+        self.kept = self.submissions.len();
+        self.commits = one_more(self.commits);
         Ok(())
     }
 }
 
-// The submissions, each without its file.
-fn without_files(alloc: Global, submissions: &[Submission]) -> Result<Rows<Submission>, AllocError>
-    ensures { IfOk result (λ rows. rows ≡ map without_file submissions.now) }
+fn one_more(count: u64) -> u64
+    ensures { result ≡ one_more count }
 {
-    let mut rows = Rows::new(alloc);
-    for submission in submissions {
-        rows.push(without_file(alloc, submission)?)?;
-    }
-    Ok(rows)
-}
-
-fn without_file(alloc: Global, submission: &Submission) -> Result<Submission, AllocError>
-    ensures { IfOk result (λ copy. copy ≡ without_file submission.now) }
-{
-    Ok(Submission {
-        team: submission.team,
-        number: submission.number,
-        time: submission.time,
-        problem: submission.problem,
-        language: submission.language,
-        entry_point: submission.entry_point.clone()?,
-        file: Rows::new(alloc),
-        key: submission.key.clone()?,
-    })
+    if count < u64::MAX { count + 1 } else { count }
 }
 
 fn with_number(submissions: &[Submission], team: usize, number: usize) -> Option<&Submission>
     ensures { option_map (λ s. s.now) result ≡ find (λ s. (s.team == team) && (s.number == number)) submissions.now }
 {
     submissions.iter().find(|submission| submission.team == team && submission.number == number)
-}
-
-fn copy(alloc: Global, bytes: &[u8]) -> Result<Rows<u8>, AllocError>
-    ensures { IfOk result (λ rows. rows ≡ bytes.now) }
-{
-    let mut items = Vec::new(alloc);
-    items.extend_from_slice(bytes)?;
-    Ok(Rows::from_vec(items))
 }

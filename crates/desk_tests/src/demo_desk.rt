@@ -5,7 +5,7 @@ use contest_desk::{
     ContentType, Credential, Desk, ExtraField, Item, KeyField, Method, Reply, Request,
 };
 use contest_fixtures::{SettingRow, demo, id, text_of};
-use contest_store::{MemoryRecords, is_valid_fixed};
+use contest_store::{MemoryStore, is_valid_fixed};
 use contest_types::{Account, Digest, Fixed, Moment, Role, Rows};
 use sha2::{Digest as _, Sha256};
 use std::alloc::Global;
@@ -123,27 +123,27 @@ fn desk_of(
     alloc: Global,
     fixed: Fixed,
     fail_after: Option<u32>,
-) -> Result<Desk<MemoryRecords>, Fail> {
+) -> Result<Desk<MemoryStore>, Fail> {
     if !is_valid_fixed(&fixed) {
         return Err(Fail::from("the demo contest isn't valid"));
     }
-    let mut records = MemoryRecords::new(alloc, Rc::new(alloc, fixed)?);
+    let mut store = MemoryStore::new(alloc, Rc::new(alloc, fixed)?);
     if let Some(calls) = fail_after {
-        records.fail_after(calls);
+        store.fail_after(calls);
     }
-    match Desk::new(alloc, records) {
+    match Desk::new(alloc, store) {
         Ok(desk) => Ok(desk),
         Err(_) => Err(Fail::from("no desk")),
     }
 }
 
 /// A desk with no submission yet, whose store never fails.
-pub fn desk(alloc: Global) -> Result<Desk<MemoryRecords>, Fail> {
+pub fn desk(alloc: Global) -> Result<Desk<MemoryStore>, Fail> {
     desk_of(alloc, contest(alloc)?, None)
 }
 
 /// The same, but the call of its store after so many fails.
-pub fn failing_desk(alloc: Global, calls: u32) -> Result<Desk<MemoryRecords>, Fail> {
+pub fn failing_desk(alloc: Global, calls: u32) -> Result<Desk<MemoryStore>, Fail> {
     desk_of(alloc, contest(alloc)?, Some(calls))
 }
 
@@ -190,7 +190,7 @@ pub fn item(alloc: Global, asked: &Asked, body: &[u8]) -> Result<Item, Fail> {
 }
 
 /// What the desk answers to a request.
-pub fn reply_to(alloc: Global, desk: &mut Desk<MemoryRecords>, item: Item) -> Reply {
+pub fn reply_to(alloc: Global, desk: &mut Desk<MemoryStore>, item: Item) -> Reply {
     desk.handle(alloc, item.now, item.credential, item.request)
 }
 
@@ -217,7 +217,7 @@ pub fn assert_is(rt: &impl Abort, reply: &Reply, asked: &Asked) {
 /// Asserts that the desk gives this reply.
 pub fn assert_answers(
     rt: &(impl Abort + AllocGlobal),
-    desk: &mut Desk<MemoryRecords>,
+    desk: &mut Desk<MemoryStore>,
     asked: &Asked,
 ) -> Result<(), Fail> {
     let item = item(rt.alloc(), asked, asked.body.as_bytes())?;

@@ -2,7 +2,7 @@
 
 use crate::demo_desk::{Asked, Key, LISTS, POSTS, Who, assert_answers, failing_desk};
 use contest_desk::Desk;
-use contest_store::MemoryRecords;
+use contest_store::MemoryStore;
 use std::process::Abort;
 use std::test::Fail;
 
@@ -16,40 +16,40 @@ struct Broken {
     list: &'static str,
 }
 
-/// A post asks for the contest and its submissions, appends and commits; one that stands asks for its
-/// file in place of that; a list only asks.
+/// A post loads the lists, appends and commits; one that stands asks for its file in place of that; a
+/// list only loads.
 static BROKEN: [Broken; 5] = [
     Broken {
         first: 0,
-        last: 4,
+        last: 3,
         refused: 0,
         faults: 1,
         list: BOTH,
     },
     Broken {
-        first: 4,
-        last: 7,
+        first: 3,
+        last: 5,
         refused: 1,
         faults: 1,
         list: BOTH,
     },
     Broken {
-        first: 7,
-        last: 11,
+        first: 5,
+        last: 8,
         refused: 2,
         faults: 1,
         list: ALPHA,
     },
     Broken {
-        first: 11,
-        last: 13,
+        first: 8,
+        last: 9,
         refused: 3,
         faults: 1,
         list: BOTH,
     },
     Broken {
-        first: 15,
-        last: 16,
+        first: 10,
+        last: 11,
         refused: 5,
         faults: 0,
         list: BOTH,
@@ -84,7 +84,7 @@ const BOTH: &str =
 /// Asserts that the desk gives this reply, or that it refuses the request for the store's fault.
 fn assert_goes(
     rt: &(impl Abort + AllocGlobal),
-    desk: &mut Desk<MemoryRecords>,
+    desk: &mut Desk<MemoryStore>,
     asked: &Asked,
     is_refused: bool,
 ) -> Result<(), Fail> {
@@ -116,7 +116,7 @@ fn assert_refuses_one(
     assert_goes(rt, &mut desk, &list, broken.refused == 3)?;
     assert_goes(rt, &mut desk, &list, false)?;
     assert_eq!(rt;
-        desk.into_records().faults(),
+        desk.into_store().faults(),
         broken.faults,
         "after {calls} calls"
     );

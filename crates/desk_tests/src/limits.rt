@@ -3,7 +3,7 @@
 use crate::demo_desk::{Asked, LISTS, POSTS, Who, assert_is, desk, item, reply_to};
 use crate::walks::assert_walks;
 use contest_desk::Desk;
-use contest_store::MemoryRecords;
+use contest_store::MemoryStore;
 use std::alloc::Global;
 use std::process::Abort;
 use std::test::Fail;
@@ -85,10 +85,7 @@ static FULL: [Asked; 4] = [
     },
 ];
 
-fn assert_fills(
-    rt: &(impl Abort + AllocGlobal),
-    desk: &mut Desk<MemoryRecords>,
-) -> Result<(), Fail> {
+fn assert_fills(rt: &(impl Abort + AllocGlobal), desk: &mut Desk<MemoryStore>) -> Result<(), Fail> {
     let alloc = rt.alloc();
     for number in 1..501 {
         let item = item(alloc, &POSTS, POSTS.body.as_bytes())?;

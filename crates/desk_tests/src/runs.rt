@@ -2,7 +2,7 @@
 
 use crate::demo_desk::{Asked, Key, LISTS, POSTS, Who, assert_answers, assert_is, desk, item};
 use contest_desk::{Desk, Item, Reply};
-use contest_store::MemoryRecords;
+use contest_store::MemoryStore;
 use std::alloc::Global;
 use std::process::Abort;
 use std::test::Fail;
@@ -43,7 +43,7 @@ fn replies(alloc: Global) -> Result<Vec<Reply>, Fail> {
 
 fn assert_one_by_one(
     rt: &(impl Abort + AllocGlobal),
-    desk: &mut Desk<MemoryRecords>,
+    desk: &mut Desk<MemoryStore>,
     replies: &[Reply],
 ) -> Result<(), Fail> {
     assert_eq!(rt; replies.len(), RUN.len());

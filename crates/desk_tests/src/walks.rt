@@ -3,14 +3,14 @@
 use crate::demo_desk::{Asked, assert_answers, desk};
 use crate::{posts, reads, routes};
 use contest_desk::Desk;
-use contest_store::MemoryRecords;
+use contest_store::MemoryStore;
 use std::process::Abort;
 use std::test::Fail;
 
 /// Asserts that the desk gives these replies, one after another.
 pub fn assert_walks(
     rt: &(impl Abort + AllocGlobal),
-    desk: &mut Desk<MemoryRecords>,
+    desk: &mut Desk<MemoryStore>,
     walk: &[Asked],
 ) -> Result<(), Fail> {
     for asked in walk {

@@ -10,7 +10,8 @@ use Rattle.contest_types.specs.ValidSubmissions.{is_valid_submission}
 use Rattle.contest_types.specs.declared.entry.Entry.TheVariants.{NewSubmission}
 use Rattle.contest_types.specs.declared.submission.Submission.{Submission}
 use Rattle.contest_types.proofs.PlaceLemmas.{and_left, and_right, both_true}
-use Rattle.contest_types.specs.Loads.{without_file, loaded_submissions}
+use Rattle.contest_types.specs.Loads.{without_file}
+use Rattle.contest_store.specs.Lists.{loaded}
 
 -- no row is the team's
 abbrev pub has_none : ℕ → List Submission → Bool
@@ -33,14 +34,13 @@ keyless keys (Some key) h = absurd (false≢true h)
 next : (own : List Submission) (s : Submission) → own ≡ [] → s.number == 1 ≡ true → is_none s.key ≡ true → is_next_submission own s ≡ true
 next own s e number key = rw (e, number, keyless [] s.key key) refl
 
--- the rows and the fixed part were loaded one after the other, and nothing has changed since
-pub first_addable : (x y z : ContestState) (f : FixedPart) (rows : List Submission) (s : Submission)
-    → y ≡ x → z ≡ y → f ≡ x.fixed → rows ≡ loaded_submissions y → is_valid_submission f s ≡ true
-    → (s.number == 1 && is_none s.key && has_none s.team rows) ≡ true → is_addable z (NewSubmission s) ≡ true
-first_addable x y z f rows s yx zy fx loaded valid first =
-    let zx : z ≡ x = zy ∙ yx in
+-- the lists are the contest's, each submission without its file
+pub first_addable : (x lists : ContestState) (f : FixedPart) (rows : List Submission) (s : Submission)
+    → lists ≡ loaded x → f ≡ lists.fixed → rows ≡ lists.submissions → is_valid_submission f s ≡ true
+    → (s.number == 1 && is_none s.key && has_none s.team rows) ≡ true → is_addable x (NewSubmission s) ≡ true
+first_addable x lists f rows s are fixed listed valid first =
     let plain = and_left (s.number == 1 && is_none s.key) _ first in
     let others = and_right (s.number == 1 && is_none s.key) _ first in
-    let none = none_of s.team z.submissions (subst (λ c. has_none s.team c ≡ true) (loaded ∙ ap loaded_submissions (sym zy)) others) in
-    both_true _ _ (subst (λ c. is_valid_submission c s ≡ true) (fx ∙ ap (λ c. c.fixed) (sym zx)) valid)
-    (next (submissions_of s.team z.submissions) s none (and_left (s.number == 1) _ plain) (and_right (s.number == 1) _ plain))
+    let none = none_of s.team x.submissions (subst (λ c. has_none s.team c ≡ true) (listed ∙ ap (λ (c : ContestState). c.submissions) are) others) in
+    both_true _ _ (subst (λ c. is_valid_submission c s ≡ true) (fixed ∙ ap (λ (c : ContestState). c.fixed) are) valid)
+    (next (submissions_of s.team x.submissions) s none (and_left (s.number == 1) _ plain) (and_right (s.number == 1) _ plain))

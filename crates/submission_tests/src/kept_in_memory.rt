@@ -1,4 +1,4 @@
-//! A store in memory as a command uses it: two loads, an append and a commit, of which any may fail.
+//! A store in memory as a command uses it: a load, an append and a commit, of which any may fail.
 
 ghost use Rattle.std.specs.Prelude.{◌≡◌, ◌==◌, ◌&&◌, not, is_none};
 ghost use Rattle.std.specs.List.{list_all};
@@ -8,9 +8,9 @@ ghost use Rattle.contest_types.specs.ValidSubmissions.{is_valid_submission};
 
 use crate::teams::TWO_TEAMS;
 use contest_fixtures::{after, demo};
-use contest_store::{MemoryRecords, Records};
+use contest_store::{ContestStore, MemoryStore, StoreError};
 use contest_types::limits::POSTED_FILE;
-use contest_types::{Entry, Fixed, Refusal, Rows, Submission, end_of};
+use contest_types::{Entry, Fixed, RejudgingState, Rows, Submission, end_of};
 use std::alloc::Global;
 use std::process::Abort;
 use std::rc::Rc;
@@ -72,20 +72,20 @@ fn first_of(alloc: Global, team: usize, data: &[u8]) -> Result<Submission, Fail>
     })
 }
 
-/// Four calls of the store: what is there is loaded, and a submission that may be added is appended
-/// and committed. Answers whether it was.
+/// Three calls of the store: the lists are loaded, and a submission that may be added is appended and
+/// committed. Answers whether it was.
 fn hand_in(
-    records: &mut MemoryRecords,
+    store: &mut MemoryStore,
     alloc: Global,
     submission: Submission,
-) -> Result<bool, Refusal> {
-    let fixed = records.fixed(alloc)?;
-    let rows = records.submissions(alloc)?;
-    if !is_first(rows.as_slice(), &submission) || !is_valid(&fixed, &submission) {
+) -> Result<bool, StoreError> {
+    store.load(alloc)?;
+    let lists = store.lists();
+    if !is_first(lists.submissions(), &submission) || !is_valid(lists.fixed(), &submission) {
         return Ok(false);
     }
-    records.append(Entry::NewSubmission(submission))?;
-    records.commit()?;
+    store.append(alloc, Entry::NewSubmission(submission))?;
+    store.commit()?;
     Ok(true)
 }
 
@@ -97,7 +97,7 @@ struct Walk {
     teams: &'static [usize],
 }
 
-static WALKS: [Walk; 5] = [
+static WALKS: [Walk; 4] = [
     Walk {
         calls: 0,
         kept: false,
@@ -115,11 +115,6 @@ static WALKS: [Walk; 5] = [
     },
     Walk {
         calls: 3,
-        kept: false,
-        teams: &[0],
-    },
-    Walk {
-        calls: 4,
         kept: true,
         teams: &[0, 1],
     },
@@ -128,51 +123,51 @@ static WALKS: [Walk; 5] = [
 /// Hands in both submissions, and lets a call fail.
 fn hand_in_both(
     rt: &(impl Abort + AllocGlobal),
-    records: &mut MemoryRecords,
+    store: &mut MemoryStore,
     walk: &Walk,
 ) -> Result<(), Fail> {
     let alloc = rt.alloc();
-    let first = hand_in(records, alloc, first_of(alloc, 0, b"abc")?);
+    let first = hand_in(store, alloc, first_of(alloc, 0, b"abc")?);
     assert_eq!(rt; first, Ok(true));
-    records.fail_after(walk.calls);
-    let second = hand_in(records, alloc, first_of(alloc, 1, b"xyz")?);
+    store.fail_after(walk.calls);
+    let second = hand_in(store, alloc, first_of(alloc, 1, b"xyz")?);
     let wanted = if walk.kept {
         Ok(true)
     } else {
-        Err(Refusal::StoreFault)
+        Err(StoreError::Fault)
     };
     assert_eq!(rt; second, wanted, "after {} calls", walk.calls);
     if walk.kept {
-        assert_eq!(rt; records.commit(), Err(Refusal::StoreFault));
+        assert_eq!(rt; store.commit(), Err(StoreError::Fault));
     }
-    assert_eq!(rt; records.faults(), 1, "after {} calls", walk.calls);
+    assert_eq!(rt;
+        (store.faults(), store.refusals()),
+        (1, 0),
+        "after {} calls",
+        walk.calls
+    );
     Ok(())
 }
 
 /// Asserts that the first submissions of these teams stand, without their files, and no other.
-fn assert_rows(
-    rt: &(impl Abort + AllocGlobal),
-    records: &mut MemoryRecords,
-    teams: &[usize],
-) -> Result<(), Fail> {
-    let rows = records.submissions(rt.alloc())?;
-    assert_eq!(rt; rows.as_slice().len(), teams.len());
-    for (row, team) in rows.as_slice().iter().zip(teams) {
+fn assert_rows(rt: &impl Abort, store: &MemoryStore, teams: &[usize]) {
+    let rows = store.lists().submissions();
+    assert_eq!(rt; rows.len(), teams.len());
+    for (row, team) in rows.iter().zip(teams) {
         assert_eq!(rt; (row.team, row.number), (*team, 1));
         assert!(rt; row.file.as_slice().is_empty());
     }
-    Ok(())
 }
 
 /// Asserts which bytes the file of a team's submission with a number has, if there is one.
 fn assert_file(
     rt: &(impl Abort + AllocGlobal),
-    records: &mut MemoryRecords,
+    store: &mut MemoryStore,
     team: usize,
     number: usize,
     wanted: Option<&[u8]>,
 ) -> Result<(), Fail> {
-    let file = records.file(rt.alloc(), team, number)?;
+    let file = store.file(rt.alloc(), team, number)?;
     let found = match &file {
         Some(rows) => Some(rows.as_slice()),
         None => None,
@@ -181,32 +176,40 @@ fn assert_file(
     Ok(())
 }
 
+/// Changes of the fixed part aren't kept in memory, and are told so.
+fn assert_tells(rt: &(impl Abort + AllocGlobal), store: &mut MemoryStore) -> Result<(), Fail> {
+    let alloc = rt.alloc();
+    let closes = Entry::SetRejudging(1, RejudgingState::Applied);
+    assert_eq!(rt; store.append(alloc, closes), Ok(()));
+    assert_eq!(rt;
+        store.append(alloc, Entry::SetThaw(after(0)?)),
+        Err(StoreError::Fault)
+    );
+    assert_eq!(rt; store.faults(), 2);
+    Ok(())
+}
+
 fn assert_keeps(
     rt: &(impl Abort + AllocGlobal),
-    records: &mut MemoryRecords,
-    way: &Walk,
+    store: &mut MemoryStore,
+    walk: &Walk,
 ) -> Result<(), Fail> {
-    hand_in_both(rt, records, way)?;
-    records.commit()?;
-    assert_rows(rt, records, way.teams)?;
-    assert_file(rt, records, 0, 1, Some(b"abc"))?;
-    assert_file(rt, records, 0, 2, None)?;
-    let second: Option<&[u8]> = if way.kept { Some(b"xyz") } else { None };
-    assert_file(rt, records, 1, 1, second)?;
-    assert_eq!(rt;
-        records.append(Entry::SetThaw(after(0)?)),
-        Err(Refusal::StoreFault)
-    );
-    assert_eq!(rt; records.faults(), 2);
-    Ok(())
+    hand_in_both(rt, store, walk)?;
+    store.commit()?;
+    assert_rows(rt, store, walk.teams);
+    assert_file(rt, store, 0, 1, Some(b"abc"))?;
+    assert_file(rt, store, 0, 2, None)?;
+    let second: Option<&[u8]> = if walk.kept { Some(b"xyz") } else { None };
+    assert_file(rt, store, 1, 1, second)?;
+    assert_tells(rt, store)
 }
 
 #[test]
 fn keeps_what_was_committed(rt: HostRuntime) -> Result<(), Fail> {
     let fixed = Rc::new(rt.alloc(), demo(rt.alloc(), &TWO_TEAMS)?)?;
     for walk in &WALKS {
-        let mut records = MemoryRecords::new(rt.alloc(), fixed.clone()?);
-        assert_keeps(&rt, &mut records, walk)?;
+        let mut store = MemoryStore::new(rt.alloc(), fixed.clone()?);
+        assert_keeps(&rt, &mut store, walk)?;
     }
     Ok(())
 }

@@ -5,9 +5,9 @@ use Rattle.contest_desk.proofs.desk.Desk.run.Goals as goal
 
 pub loop-item-init : goal.loop-item-init
 loop-item-init g c = record {
-  run = λ clean. begins g.L.Records.contest g.L.Records.is_open g.L.Records.may_leave c.args.self.now c.args.items.items _ _ (search rules) (search rules);
+  run = λ clean. begins (g.S.ContestStore.kept c.args.self.now) c.args.items.items _ _ (search rules) (search rules);
   opens = λ clean all opened. opened;
-  faults = subst (λ rs. CountsReplies rs (g.L.Records.faults c.args.self.now) (g.L.Records.faults c.args.self.now)) (let e : c.in_ok-replies.replies.items ≡ [] = search rules in sym e) refl;
+  faults = subst (λ rs. CountsReplies rs (g.S.ContestStore.kept c.args.self.now).faults (g.S.ContestStore.kept c.args.self.now).faults) (let e : c.in_ok-replies.replies.items ≡ [] = search rules in sym e) refl;
   clean = λ clean. clean;
   up = λ clean opened. opened;
   room = search rules;
@@ -15,7 +15,7 @@ loop-item-init g c = record {
 
 pub loop-item-preserved : goal.loop-item-preserved
 loop-item-preserved g c =
-    let handles : g.L.Records.is_clean c.handle-reply.new.self → Handles g.L.Records.contest g.L.Records.is_open g.L.Records.may_leave c.loop-item.self c.handle-reply.new.self c.in-Some.item c.handle-reply.result = λ clean. record {
+    let handles : (g.S.ContestStore.kept c.handle-reply.new.self).is_clean → Handles (g.S.ContestStore.kept c.loop-item.self) (g.S.ContestStore.kept c.handle-reply.new.self) c.in-Some.item c.handle-reply.result = λ clean. record {
       opens = c.handle-reply.ensures.open clean;
       replies = c.handle-reply.ensures.reply clean;
       becomes = c.handle-reply.ensures.contest clean;
@@ -27,10 +27,10 @@ loop-item-preserved g c =
     } in
     let more : c.push.new.self.items ≡ c.loop-item.replies.items ++ c.handle-reply.result ∷ [] = search rules in
     record {
-      run = λ clean. handled g.L.Records.contest g.L.Records.is_open g.L.Records.may_leave c.args.self.now c.loop-item.self c.handle-reply.new.self c.args.items.items c.loop-item.item-iterator.rest.items c.next.new.self.rest.items
+      run = λ clean. handled (g.S.ContestStore.kept c.args.self.now) (g.S.ContestStore.kept c.loop-item.self) (g.S.ContestStore.kept c.handle-reply.new.self) c.args.items.items c.loop-item.item-iterator.rest.items c.next.new.self.rest.items
           c.loop-item.replies.items c.push.new.self.items c.in-Some.item c.handle-reply.result c.in-Some.ensures.steps.0 more (handles clean) (c.loop-item.invariant.run (c.handle-reply.ensures.clean clean));
-      opens = λ clean all opened. open_after g.L.Records.contest g.L.Records.is_open g.L.Records.may_leave c.loop-item.self c.handle-reply.new.self c.in-Some.item c.loop-item.replies.items c.push.new.self.items c.handle-reply.result more (handles clean) all;
-      faults = subst (λ rs. CountsReplies rs (g.L.Records.faults c.args.self.now) (g.L.Records.faults c.handle-reply.new.self)) (sym more)
+      opens = λ clean all opened. open_after (g.S.ContestStore.kept c.loop-item.self) (g.S.ContestStore.kept c.handle-reply.new.self) c.in-Some.item c.loop-item.replies.items c.push.new.self.items c.handle-reply.result more (handles clean) all;
+      faults = subst (λ rs. CountsReplies rs (g.S.ContestStore.kept c.args.self.now).faults (g.S.ContestStore.kept c.handle-reply.new.self).faults) (sym more)
           (counts_more c.loop-item.replies.items c.handle-reply.result _ _ _ c.loop-item.invariant.faults (c.handle-reply.ensures.fault, c.handle-reply.ensures.no_fault));
       clean = λ clean. c.loop-item.invariant.clean (c.handle-reply.ensures.clean clean);
       up = λ clean opened. c.loop-item.invariant.up (c.handle-reply.ensures.clean clean) (c.handle-reply.ensures.up clean opened);
@@ -38,7 +38,7 @@ loop-item-preserved g c =
     }
 
 pub returns-clause-run : goal.returns-clause-run
-returns-clause-run g c = λ clean. ends g.L.Records.contest g.L.Records.is_open g.L.Records.may_leave c.args.self.now c.loop-item.self c.args.items.items c.loop-item.item-iterator.rest.items c.loop-item.replies.items (search rules) (c.loop-item.invariant.run clean)
+returns-clause-run g c = λ clean. ends (g.S.ContestStore.kept c.args.self.now) (g.S.ContestStore.kept c.loop-item.self) c.args.items.items c.loop-item.item-iterator.rest.items c.loop-item.replies.items (search rules) (c.loop-item.invariant.run clean)
 
 pub returns-clause-crash : goal.returns-clause-crash
-returns-clause-crash g c = λ clean. leaves_at_end g.L.Records.contest g.L.Records.is_open g.L.Records.may_leave c.args.self.now c.loop-item.self c.args.items.items c.loop-item.item-iterator.rest.items c.loop-item.replies.items (search rules) (c.loop-item.invariant.run clean)
+returns-clause-crash g c = λ clean. leaves_at_end (g.S.ContestStore.kept c.args.self.now) (g.S.ContestStore.kept c.loop-item.self) c.args.items.items c.loop-item.item-iterator.rest.items c.loop-item.replies.items (search rules) (c.loop-item.invariant.run clean)

@@ -7,10 +7,10 @@ use Rattle.contest_desk.proofs.desk.Desk.run.Given as goal
 
 abbrev pub invariant-loop-item : goal.invariant-loop-item
 invariant-loop-item g l = record {
-  run : g.L.Records.is_clean l.self → GoesOn g.L.Records.contest g.L.Records.is_open g.L.Records.may_leave l.fn.self l.self l.fn.items.items l.item-iterator.rest.items l.replies.items;
-  opens : g.L.Records.is_clean l.self → All (λ reply. IsStoreReply reply → ⊥) l.replies.items → IsTrue (g.L.Records.is_open l.fn.self) → IsTrue (g.L.Records.is_open l.self);
-  faults : CountsReplies l.replies.items (g.L.Records.faults l.fn.self) (g.L.Records.faults l.self);
-  clean : g.L.Records.is_clean l.self → g.L.Records.is_clean l.fn.self;
-  up : g.L.Records.is_clean l.self → IsTrue (g.L.Records.is_open l.self) → IsTrue (g.L.Records.is_open l.fn.self);
+  run : (g.S.ContestStore.kept l.self).is_clean → GoesOn (g.S.ContestStore.kept l.fn.self) (g.S.ContestStore.kept l.self) l.fn.items.items l.item-iterator.rest.items l.replies.items;
+  opens : (g.S.ContestStore.kept l.self).is_clean → All (λ reply. IsStoreReply reply → ⊥) l.replies.items → IsTrue (g.S.ContestStore.kept l.fn.self).is_open → IsTrue (g.S.ContestStore.kept l.self).is_open;
+  faults : CountsReplies l.replies.items (g.S.ContestStore.kept l.fn.self).faults (g.S.ContestStore.kept l.self).faults;
+  clean : (g.S.ContestStore.kept l.self).is_clean → (g.S.ContestStore.kept l.fn.self).is_clean;
+  up : (g.S.ContestStore.kept l.self).is_clean → IsTrue (g.S.ContestStore.kept l.self).is_open → IsTrue (g.S.ContestStore.kept l.fn.self).is_open;
   room : vec_len l.replies + length l.item-iterator.rest.items ≤ vec_capacity l.replies;
 }

@@ -1,5 +1,0 @@
-use Rattle.contest_desk.proofs.LawLemmas as lemmas
-use Rattle.contest_desk.proofs.laws.lists_alike.Goals as goal
-
-pub returns : goal.returns
-returns c = lemmas.lists_alike

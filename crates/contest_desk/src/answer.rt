@@ -1,0 +1,96 @@
+//! What a wish is answered, and what it adds.
+ghost use Rattle.std.specs.Prelude.{◌≡◌, ℕ, false, true, IfOk, IfSome, option_map};
+ghost use Rattle.serde_json.specs.View.{view};
+ghost use Rattle.serde_json.specs.Written.{has_float};
+ghost use Rattle.contest_types.specs.State.{ContestState};
+ghost use Rattle.contest_types.specs.Valid.{is_valid};
+ghost use Rattle.contest_store.specs.Lists.{loaded};
+ghost use Rattle.contest_desk.specs.Readings.{read, told};
+ghost use Rattle.contest_desk.specs.Serving.{IsOrdinary};
+ghost use Rattle.contest_desk.specs.Wishes.{IsSound, come, file_for, file_needed};
+
+use crate::Reply;
+use crate::offer::Reading;
+use crate::outcome::Outcome;
+use crate::own_submissions::keyed_row;
+use crate::path::object_piece;
+use crate::submit::submit;
+use crate::wish::Wish;
+use contest_store::Lists;
+use contest_types::{Audience, Moment, Refusal, Rows};
+use contest_view::{submission_by_id, submissions_value};
+use serde_json::Value;
+use std::alloc::{AllocError, Global};
+
+/// Whose file a wish needs: by the place of its team, from 0, and its number, from 1. Files are
+/// large, and no more than one is read.
+pub fn file_needed(wish: &Wish, lists: &Lists) -> Option<(usize, usize)>
+    ensures { result ≡ file_needed wish.now lists.now }
+{
+    match wish {
+        Wish::Submit(team, wanted) => keyed_row(*team, &wanted.key, lists.submissions()),
+        Wish::Read(_, _, _) => None,
+    }
+}
+
+/// What a wish comes to over a contest's lists and the file that it needs: the same over whichever
+/// valid contest they are of.
+///
+/// # Errors
+///
+/// Want of memory alone.
+pub fn answer(
+    alloc: Global,
+    lists: &Lists,
+    now: Moment,
+    wish: Wish,
+    file: Option<Rows<u8>>,
+) -> Result<Outcome, AllocError>
+    ensures come { (x : ContestState) → is_valid x ≡ true → lists.now ≡ loaded x → IsSound x.fixed wish → file ≡ file_for wish x → IfOk result (λ o. o ≡ come now wish x) }
+    ensures ordinary { IfOk result (λ o. IsOrdinary o.reply) }
+{
+    match wish {
+        Wish::Read(reading, audience, path) => {
+            let reply = read(alloc, lists, audience, reading, path.as_slice())?;
+            Ok(Outcome::replying(alloc, reply))
+        }
+        Wish::Submit(team, wanted) => submit(alloc, lists, now, team, wanted, file),
+    }
+}
+
+// What an audience that reads a path is answered.
+fn read(
+    alloc: Global,
+    lists: &Lists,
+    audience: Audience,
+    reading: Reading,
+    path: &[u8],
+) -> Result<Reply, AllocError>
+    ensures read { (now : ℕ) (x : ContestState) → is_valid x ≡ true → lists.now ≡ loaded x → IfOk result (λ reply. reply ≡ read audience now x reading path.now) }
+    ensures ordinary { IfOk result IsOrdinary }
+{
+    let (fixed, submissions) = (lists.fixed(), lists.submissions());
+    match reading {
+        Reading::Submissions => {
+            let value = submissions_value(alloc, fixed, audience, submissions)?;
+            tell(alloc, Some(value))
+        }
+        Reading::Submission => {
+            let id = object_piece(path);
+            let found = submission_by_id(alloc, fixed, audience, submissions, id)?;
+            tell(alloc, found)
+        }
+    }
+}
+
+// What is found is told; what isn't seen is as what isn't there.
+fn tell(alloc: Global, found: Option<Value>) -> Result<Reply, AllocError>
+    requires { IfSome found (λ v. has_float (view v) ≡ false) }
+    ensures told { IfOk result (λ reply. reply ≡ told (option_map view found)) }
+    ensures ordinary { IfOk result IsOrdinary }
+{
+    match found {
+        Some(value) => Ok(Reply::answer(value.to_vec(alloc)?)),
+        None => Ok(Reply::refused(Refusal::NotFound)),
+    }
+}

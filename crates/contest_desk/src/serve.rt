@@ -1,0 +1,83 @@
+//! One request served, whoever keeps the contest: what is read, what that is answered, and what is
+//! kept.
+ghost use Rattle.std.specs.Prelude.{◌≡◌, IfOk, IsTrue, true};
+ghost use Rattle.contest_store.specs.Keeping.{Reads};
+ghost use Rattle.contest_desk.specs.Routes.{routes};
+ghost use Rattle.contest_desk.specs.Serving.{IsOrdinary, IsReady, IsSettled, Serves};
+ghost use Rattle.contest_desk.specs.Step.{may_take_memory, outcome};
+ghost use Rattle.contest_desk.specs.Wishes.{IsSound, come, file_at};
+
+use crate::answer::{answer, file_needed};
+use crate::ask::ask;
+use crate::keep::keep;
+use crate::wish::Wish;
+use crate::{Credential, Reply, Request, Route};
+use contest_store::{ContestStore, StoreError};
+use contest_types::{Moment, Rows};
+use matchit::Router;
+use std::alloc::Global;
+
+/// Serves one request. Refusals come in the order route, method, token, role, body, references,
+/// domain.
+///
+/// # Errors
+///
+/// Those of the store, or want of memory. Every other refusal is a reply.
+pub fn serve<S: ContestStore>(
+    alloc: Global,
+    store: &mut S,
+    table: &Router<Route>,
+    now: Moment,
+    credential: &Credential,
+    request: Request,
+) -> Result<Reply, StoreError>
+    requires table { table.now ≡ routes }
+    requires settled { IsSettled (S.kept store.old) }
+    ensures reply { (S.kept store.new).is_clean → IfOk result (λ reply. reply ≡ (outcome (S.kept store.old).contest now credential.now request).reply) }
+    ensures ordinary { IfOk result IsOrdinary }
+    ensures leaves { Serves result (S.kept store.old) (S.kept store.new) (λ x. outcome x now credential.now request)
+        ((S.kept store.new).is_clean → may_take_memory (S.kept store.old).contest.fixed credential.now request ≡ true) }
+{
+    store.load(alloc)?;
+    match ask(alloc, table, store.lists().fixed(), credential, request)? {
+        Ok(wish) => carry_out(alloc, store, now, wish),
+        Err(reply) => Ok(reply),
+    }
+}
+
+// What a wish comes to.
+fn carry_out<S: ContestStore>(
+    alloc: Global,
+    store: &mut S,
+    now: Moment,
+    wish: Wish,
+) -> Result<Reply, StoreError>
+    requires loaded { IsTrue (S.kept store.old).is_loaded }
+    requires ready { (S.kept store.old).is_clean → IsReady (S.kept store.old) }
+    requires sound { (S.kept store.old).is_clean → IsSound (S.kept store.old).contest.fixed wish }
+    ensures reply { (S.kept store.new).is_clean → IfOk result (λ reply. reply ≡ (come now wish (S.kept store.old).contest).reply) }
+    ensures ordinary { IfOk result IsOrdinary }
+    ensures leaves { Serves result (S.kept store.old) (S.kept store.new) (come now wish) (Unit {0}) }
+{
+    let needed = file_needed(&wish, store.lists());
+    let file = file_at(alloc, store, needed)?;
+    let outcome = answer(alloc, store.lists(), now, wish, file)?;
+    keep(alloc, store, outcome.entries)?;
+    Ok(outcome.reply)
+}
+
+// The file of a submission by the place of its team, from 0, and its number, from 1.
+fn file_at<S: ContestStore>(
+    alloc: Global,
+    store: &mut S,
+    needed: Option<(usize, usize)>,
+) -> Result<Option<Rows<u8>>, StoreError>
+    requires ready { (S.kept store.old).is_clean → IsReady (S.kept store.old) }
+    ensures value { (S.kept store.new).is_clean → IfOk result (λ file. file ≡ file_at (S.kept store.old).contest needed) }
+    ensures leaves { Reads result (S.kept store.old) (S.kept store.new) }
+{
+    match needed {
+        Some((team, number)) => store.file(alloc, team, number),
+        None => Ok(None),
+    }
+}

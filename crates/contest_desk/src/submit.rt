@@ -1,0 +1,101 @@
+//! A team submits.
+ghost use Rattle.std.specs.Prelude.{◌≡◌, ◌+◌, ◌<◌, ◌^◌, true, option_map, length, slice_get, IfOk};
+ghost use Rattle.contest_types.specs.State.{ContestState};
+ghost use Rattle.contest_types.specs.Valid.{is_valid};
+ghost use Rattle.contest_types.specs.declared.entry.Entry.TheVariants.{NewSubmission};
+ghost use Rattle.contest_store.specs.Lists.{loaded};
+ghost use Rattle.contest_desk.specs.Outcomes.{adding};
+ghost use Rattle.contest_desk.specs.PostSubmission.{deciding, own_submission, repeating};
+ghost use Rattle.contest_desk.specs.Replies.{answer};
+ghost use Rattle.contest_desk.specs.Serving.{IsOrdinary};
+ghost use Rattle.contest_desk.specs.Wishes.{file_for};
+ghost use Rattle.contest_desk.specs.declared.wish.Wish.TheVariants.{Submit};
+
+use crate::Reply;
+use crate::caller::audience_at;
+use crate::outcome::Outcome;
+use crate::own_submissions::own_submissions;
+use contest_rules::{Decision, WantedSubmission, decide_submission};
+use contest_store::Lists;
+use contest_types::{Entry, Fixed, Moment, Refusal, Rows, Submission};
+use contest_view::submission_value;
+use std::alloc::{AllocError, Global};
+
+/// What becomes of what the team at a place, from 0, asks for.
+///
+/// # Errors
+///
+/// Want of memory alone.
+pub fn submit(
+    alloc: Global,
+    lists: &Lists,
+    now: Moment,
+    team: usize,
+    wanted: WantedSubmission,
+    file: Option<Rows<u8>>,
+) -> Result<Outcome, AllocError>
+    ensures come { (x : ContestState) → is_valid x ≡ true → lists.now ≡ loaded x → team < length x.fixed.settings.teams → file ≡ file_for (Submit team wanted) x
+        → IfOk result (λ o. o ≡ deciding now team wanted x) }
+    ensures ordinary { IfOk result (λ o. IsOrdinary o.reply) }
+{
+    let fixed = lists.fixed();
+    let own = own_submissions(alloc, team, &wanted.key, lists.submissions(), file)?;
+    match decide_submission(fixed, &own, now, team, wanted) {
+        Decision::Add(submission) => accept(alloc, fixed, team, submission),
+        Decision::Stands(place) => repeat(alloc, fixed, team, row_at(&own, place)),
+        Decision::Refused(refusal) => Ok(Outcome::refusing(alloc, refusal)),
+    }
+}
+
+fn row_at(own: &[Submission], place: usize) -> Option<&Submission>
+    ensures { option_map (λ s. s.now) result ≡ slice_get own.now place }
+{
+    own.get(place)
+}
+
+// The reply to a post that came before.
+fn repeat(
+    alloc: Global,
+    fixed: &Fixed,
+    team: usize,
+    standing: Option<&Submission>,
+) -> Result<Outcome, AllocError>
+    ensures ordinary { IfOk result (λ o. IsOrdinary o.reply) }
+    ensures come { team + 1 < 2 ^ 64 → IfOk result (λ o. o ≡ repeating fixed.now team (option_map (λ s. s.now) standing.entry)) }
+{
+    match standing {
+        Some(submission) => {
+            let reply = own_reply(alloc, fixed, team, submission)?;
+            Ok(Outcome::replying(alloc, reply))
+        }
+        None => Ok(Outcome::refusing(alloc, Refusal::NotFound)),
+    }
+}
+
+// One submission is added, and answered.
+fn accept(
+    alloc: Global,
+    fixed: &Fixed,
+    team: usize,
+    submission: Submission,
+) -> Result<Outcome, AllocError>
+    ensures ordinary { IfOk result (λ o. IsOrdinary o.reply) }
+    ensures come { team + 1 < 2 ^ 64 → IfOk result (λ o. o ≡ adding (NewSubmission submission) (own_submission fixed.now team submission)) }
+{
+    let reply = own_reply(alloc, fixed, team, &submission)?;
+    Outcome::adding(alloc, Entry::NewSubmission(submission), reply)
+}
+
+// The submission as the team at a place sees it.
+fn own_reply(
+    alloc: Global,
+    fixed: &Fixed,
+    team: usize,
+    submission: &Submission,
+) -> Result<Reply, AllocError>
+    ensures ordinary { IfOk result IsOrdinary }
+    ensures reply { team + 1 < 2 ^ 64 → IfOk result (λ reply. reply ≡ answer (own_submission fixed.now team submission.now)) }
+{
+    let value = submission_value(alloc, fixed, audience_at(team), submission)?;
+    Ok(Reply::answer(value.to_vec(alloc)?))
+}

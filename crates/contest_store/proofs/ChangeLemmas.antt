@@ -1,0 +1,41 @@
+-- A row that is changed where it stands.
+use Rattle.std.proofs.Common.{◌≡◌, ◌∙◌, ◌+◌, ◌<◌, ◌≤◌, ℕ, zero, suc, true, false, List, [], ◌∷◌, length, Some, refl, sym, inl, inr, arith}
+use Rattle.std.specs.Prelude.{◌⊎◌, ◌==◌, slice_get, slice_set}
+use Rattle.std.proofs.lemmas.Bool.Decides.{nat_tests}
+use Rattle.contest_types.specs.State.{changed_at}
+
+unlike : (m n : ℕ) → (m ≡ n → ⊥) → (m == n) ≡ false
+unlike m n off = grind (arith, nat_tests, off)
+
+-- no row has the number
+pub before_all : {X : Type 0} (first at : ℕ) (f : X → X) (xs : List X) → at < first → changed_at first at f xs ≡ xs
+before_all first at f [] l = refl
+before_all first at f (x ∷ xs) l = rw (unlike first at (λ e. omega (arith, e, l)), before_all (first + 1) at f xs (omega (arith, l))) refl
+
+pub after_all : {X : Type 0} (first at : ℕ) (f : X → X) (xs : List X) → first + length xs ≤ at → changed_at first at f xs ≡ xs
+after_all first at f [] l = refl
+after_all first at f (x ∷ xs) l = rw (unlike first at (λ e. omega (arith, e, l)), after_all (first + 1) at f xs (omega (arith, l))) refl
+
+-- one has it
+pub changed_there : {X : Type 0} (first at i : ℕ) (f : X → X) (xs : List X) (x : X) → at ≡ first + i → slice_get xs i ≡ Some x → changed_at first at f xs ≡ slice_set xs i (f x)
+changed_there first at i f [] x is there = absurd (cc there)
+changed_there first at zero f (y ∷ xs) x is there =
+    let same : y ≡ x = cc there in
+    let here : (first == at) ≡ true = grind (arith, nat_tests, is) in
+    rw (here, same, before_all (first + 1) at f xs (omega (arith, is))) refl
+changed_there first at (suc i) f (y ∷ xs) x is there =
+    rw (unlike first at (λ e. omega (arith, e, is)), changed_there (first + 1) at i f xs x (omega (arith, is)) there) refl
+
+row_at : {X : Type 0} (xs : List X) (i : ℕ) → i < length xs → (x : X) × (slice_get xs i ≡ Some x)
+row_at [] i l = absurd (omega (arith, l))
+row_at (x ∷ xs) zero l = (x, refl)
+row_at (x ∷ xs) (suc i) l = row_at xs i (omega (arith, l))
+
+pub changed_by : {X : Type 0} (first at i : ℕ) (f : X → X) (xs ys : List X) → at ≡ first + i → i < length xs → ((x : X) → slice_get xs i ≡ Some x → ys ≡ slice_set xs i (f x)) → ys ≡ changed_at first at f xs
+changed_by first at i f xs ys is within puts =
+    let row = row_at xs i within in
+    puts row.0 row.1 ∙ sym (changed_there first at i f xs row.0 is row.1)
+
+pub unchanged : {X : Type 0} (first at : ℕ) (f : X → X) (xs : List X) → (at < first) ⊎ (first + length xs ≤ at) → xs ≡ changed_at first at f xs
+unchanged first at f xs (inl below) = sym (before_all first at f xs below)
+unchanged first at f xs (inr above) = sym (after_all first at f xs above)

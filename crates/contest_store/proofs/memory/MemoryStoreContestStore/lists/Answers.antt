@@ -1,0 +1,6 @@
+use Rattle.std.proofs.Common.{◌∙◌}
+use Rattle.contest_store.specs.InMemory.{lists_of, filed}
+use Rattle.contest_store.proofs.memory.MemoryStoreContestStore.lists.Goals as goal
+
+pub returns : goal.returns
+returns c = λ clean. c.latest.ensures.lists ∙ (λ i. filed (c.latest.ensures.filed i) (lists_of c.args.self.now))
