@@ -9,7 +9,7 @@ use Rattle.contest_types.specs.declared.limits.TheConstants.{IMPORTED_FILE}
 use Rattle.contest_cli.specs.Asked.{Asks}
 use Rattle.contest_cli.specs.Commands.{Shows}
 use Rattle.contest_cli.specs.Input.{ReadsAll, TakesFront}
-use Rattle.contest_cli.specs.Replay.{replay_of, Gives, StopsBy, Replays, stop_of, status_of, line_of}
+use Rattle.contest_cli.specs.Replay.{replay_of, Gives, StopsBy, Replays, stop_of, exit_status_of, line_of}
 use Rattle.contest_types.specs.Streams.{Stream, Fails, Tells}
 use Rattle.contest_cli.specs.Text.{board_of}
 use Rattle.contest_cli.specs.declared.input.InputFault.{InputFault}
@@ -75,7 +75,7 @@ keeps_same (Some bytes) = refl
 
 -- where there is no text
 pub stopped : (words : List Text) (in_old in_new out err_old err_new : Stream) (stop : Stop) (status : ℕ)
-    → StopsBy words in_old in_new stop → status ≡ status_of stop → Tells err_old err_new (line_of stop)
+    → StopsBy words in_old in_new stop → status ≡ exit_status_of stop → Tells err_old err_new (line_of stop)
     → Replays words in_old in_new out out err_old err_new status
 stopped words in_old in_new out err_old err_new (Words text) status stops is told = record {
   statuses = omega (arith, is);

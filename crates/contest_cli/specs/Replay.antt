@@ -42,10 +42,10 @@ line_of (Refused r) = refusal_line r
 line_of File = codes "refused: File\n"
 
 -- the program's exit status
-abbrev pub status_of : Stop → ℕ
-status_of (Words text) = 2
-status_of (Refused r) = 1
-status_of File = 1
+abbrev pub exit_status_of : Stop → ℕ
+exit_status_of (Words text) = 2
+exit_status_of (Refused r) = 1
+exit_status_of File = 1
 
 -- memory was refused
 abbrev pub IsMemory : Stop → Type 0
@@ -72,7 +72,7 @@ pub record Replays (words : List Text) (in_old in_new out_old out_new err_old er
   pub statuses : status ≤ 2
   pub done : status ≡ 0 → (text : List ℕ) × Gives words in_old.bytes (Ok text)
       × Appends out_old.bytes out_new.bytes text × Keeps err_old.bytes err_new.bytes
-  pub refused : status ≡ 1 → (stop : Stop) × (status_of stop ≡ 1) × Tells err_old err_new (line_of stop)
+  pub refused : status ≡ 1 → (stop : Stop) × (exit_status_of stop ≡ 1) × Tells err_old err_new (line_of stop)
       × ((StopsBy words in_old in_new stop × Keeps out_old.bytes out_new.bytes)
       ⊎ ((stop ≡ File) × CutsOff words in_old.bytes out_old out_new))
   pub faulty : status ≡ 2 → HasFault words × Keeps out_old.bytes out_new.bytes

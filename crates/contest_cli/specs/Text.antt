@@ -9,7 +9,7 @@ use Rattle.contest_score.specs.Contest.{board_for}
 use Rattle.contest_score.specs.declared.submission.JudgedSubmission.{JudgedSubmission}
 use Rattle.contest_text.specs.BoardText.{board_text}
 use Rattle.contest_import.specs.ReplayLists.{ReplayLists}
-use Rattle.contest_import.specs.ReplayContest.{contest_of, marks_for, up_to}
+use Rattle.contest_import.specs.ReplayContest.{replay_contest, marks_for, up_to}
 use Rattle.contest_import.specs.ReplayFile.{contest_in_file}
 
 -- who looks: the jury, or anyone
@@ -23,12 +23,12 @@ moment_for s (Some (pos time)) = time
 moment_for s (Some (negsuc n)) = 0
 
 -- the text of the model's board for a caller at a moment, of the contest with these submissions
-abbrev pub text_of : Audience → Setup → Marks → ℕ → List JudgedSubmission → List ℕ
-text_of who s marks now us = board_text s marks now who (board_for who now (contest_of s marks us))
+abbrev pub board_text_of : Audience → Setup → Marks → ℕ → List JudgedSubmission → List ℕ
+board_text_of who s marks now us = board_text s marks now who (board_for who now (replay_contest s marks us))
 
 -- the text of the board of a replayed contest: of its submissions up to the moment
 abbrev pub shown_text : Audience → Marks → ℕ → ReplayLists → List ℕ
-shown_text who marks now r = text_of who r.settings marks now (up_to now r.submissions)
+shown_text who marks now r = board_text_of who r.settings marks now (up_to now r.submissions)
 
 abbrev pub shown : Bool → Bool → Option ℤ → Result ReplayLists Refusal → Result (List ℕ) Refusal
 shown jury thawed at (Err refusal) = Err refusal

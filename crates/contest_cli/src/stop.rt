@@ -3,7 +3,7 @@ ghost use Rattle.std.specs.Prelude.{◌≡◌, OnOk, OnErr};
 ghost use Rattle.std.specs.Io.KnownBytes.{Appends};
 ghost use Rattle.clap.specs.Values.{kind_of};
 ghost use Rattle.contest_types.specs.Streams.{AppendsFront, Fails, Tells, stream};
-ghost use Rattle.contest_cli.specs.Replay.{line_of, status_of, IsMemory, IsWordsOrMemory};
+ghost use Rattle.contest_cli.specs.Replay.{line_of, exit_status_of, IsMemory, IsWordsOrMemory};
 
 use crate::input::InputFault;
 use crate::lines::refusal_line;
@@ -41,7 +41,7 @@ impl Stop {
 
     /// Tells `err` of it, as far as `err` takes it, and answers the program's exit status.
     pub(crate) fn refuse<E: Write>(&self, err: &mut Counted<E>) -> u8
-        ensures status { result ≡ status_of self.now }
+        ensures status { result ≡ exit_status_of self.now }
         ensures told { Tells (stream E.contents err.old) (stream E.contents err.new) (line_of self.now) }
     {
         let _ = self.tell(err);

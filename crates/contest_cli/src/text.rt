@@ -1,7 +1,7 @@
 //! The text that `replay` gives of a file.
 ghost use Rattle.std.specs.Prelude.{◌≡◌, ◌⊎◌, ◌<◌, ◌^◌, Ok, Err, IfOk, IfErr, All, length, string_bytes};
 ghost use Rattle.contest_score.specs.MaskedCells.{IsAdmitted};
-ghost use Rattle.contest_cli.specs.Text.{board_of, audience_for, moment_for, text_of};
+ghost use Rattle.contest_cli.specs.Text.{board_of, audience_for, moment_for, board_text_of};
 
 use crate::words::Options;
 use contest_import::read_replay_csv;
@@ -46,7 +46,7 @@ fn text_of(
 ) -> Result<String, Refusal>
     requires few { length submissions.now < 2 ^ 32 }
     requires admitted { All (IsAdmitted settings.now marks.now) submissions.now }
-    ensures text { IfOk result (λ text. string_bytes text ≡ text_of audience settings.now marks.now now submissions.now) }
+    ensures text { IfOk result (λ text. string_bytes text ≡ board_text_of audience settings.now marks.now now submissions.now) }
     ensures err { IfErr result (λ e. e ≡ Refusal.Memory) }
 {
     let cells = plain_cells(alloc, settings, marks, audience, now, submissions)?;

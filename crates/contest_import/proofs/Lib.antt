@@ -6,3 +6,4 @@ pub mod ReplayFileLemmas
 pub mod ReplayContestLemmas
 pub mod ReplayValid
 pub mod ReplayUntil
+mod Examples

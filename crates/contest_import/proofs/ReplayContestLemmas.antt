@@ -17,11 +17,11 @@ use Rattle.contest_score.specs.Contest.{judged_submissions, board_for}
 use Rattle.contest_score.specs.MaskedCells.{cell_for}
 use Rattle.contest_score.specs.Ranking.{board_rows, is_public}
 use Rattle.contest_score.specs.declared.submission.JudgedSubmission.{JudgedSubmission}
-use Rattle.contest_import.specs.ReplayLists.{submissions_of}
-use Rattle.contest_import.specs.ReplayContest.{Numbered, numbered_after, released, releases_of, contest_of}
+use Rattle.contest_import.specs.ReplayLists.{team_submissions}
+use Rattle.contest_import.specs.ReplayContest.{Numbered, numbered_after, released, releases_of, replay_contest}
 
 abbrev pub count : ℕ → List JudgedSubmission → ℕ
-count team us = length (submissions_of team us)
+count team us = length (team_submissions team us)
 
 below : (a b : ℕ) → b < a → nat_eq a b ≡ false
 below a b h = grind (arith, nat_tests)
@@ -31,7 +31,7 @@ above a b h = grind (arith, nat_tests)
 
 -- a submission more
 count_more : (team : ℕ) (us : List JudgedSubmission) (u : JudgedSubmission) → count team (us ++ u ∷ []) ≡ count team us + count team (u ∷ [])
-count_more team us u = ap length (filter-append (λ v. v.team == team) us (u ∷ [])) ∙ length-append (submissions_of team us) (submissions_of team (u ∷ []))
+count_more team us u = ap length (filter-append (λ v. v.team == team) us (u ∷ [])) ∙ length-append (team_submissions team us) (team_submissions team (u ∷ []))
 
 count_own : (u : JudgedSubmission) → count u.team (u ∷ []) ≡ 1
 count_own u = rw (eq-eqb u.team u.team refl) refl
@@ -119,11 +119,11 @@ told_all vs before earlier (u ∷ us) e h =
     rw (same_head, same_tail) refl
 
 -- scoring reads of a replayed contest what the records said
-pub replayed_judged : (s : Setup) (marks : Marks) (us : List JudgedSubmission) → judged_submissions (contest_of s marks us) ≡ us
+pub replayed_judged : (s : Setup) (marks : Marks) (us : List JudgedSubmission) → judged_submissions (replay_contest s marks us) ≡ us
 replayed_judged s marks us =
     map-map _ _ (numbered_after [] us) ∙ told_all (releases_of (numbered_after [] us)) [] [] us refl (λ team number l. refl)
 
 -- so its board is the one of the cells of those
 pub replayed_board : (who : Audience) (s : Setup) (marks : Marks) (now : ℕ) (us : List JudgedSubmission)
-    → board_for who now (contest_of s marks us) ≡ board_rows s (is_public s) (cell_for who s marks now us)
+    → board_for who now (replay_contest s marks us) ≡ board_rows s (is_public s) (cell_for who s marks now us)
 replayed_board who s marks now us = ap (λ vs. board_rows s (is_public s) (cell_for who s marks now vs)) (replayed_judged s marks us)

@@ -19,14 +19,14 @@ use Rattle.contest_score.specs.MaskedCells.{IsAdmitted}
 use Rattle.contest_score.specs.declared.submission.JudgedSubmission.{JudgedSubmission}
 use Rattle.contest_import.specs.declared.replay.team_progress.TeamProgress.{TeamProgress}
 use Rattle.contest_import.specs.declared.replay.submission_row.SubmissionRefs.{SubmissionRefs}
-use Rattle.contest_import.specs.ReplayLists.{submissions_of, last_time}
-use Rattle.contest_import.specs.ReplayState.{reading_marks, TellsTeam, IsReplayed, AreThere}
+use Rattle.contest_import.specs.ReplayLists.{team_submissions, last_time}
+use Rattle.contest_import.specs.ReplayState.{reading_marks, TellsProgress, IsReplayed, AreThere}
 
 pub any_name : name_of (97 ∷ 110 ∷ 121 ∷ []) ≡ Some (97 ∷ 110 ∷ 121 ∷ [])
 unfolding chars
 any_name = refl
 
-kept : (team : ℕ) (u : JudgedSubmission) (us : List JudgedSubmission) (b : Bool) → nat_eq u.team team ≡ b → submissions_of team (us ++ u ∷ []) ≡ submissions_of team us ++ cond b (u ∷ []) []
+kept : (team : ℕ) (u : JudgedSubmission) (us : List JudgedSubmission) (b : Bool) → nat_eq u.team team ≡ b → team_submissions team (us ++ u ∷ []) ≡ team_submissions team us ++ cond b (u ∷ []) []
 kept team u us b h = filter-append (λ v. v.team == team) us (u ∷ []) ∙ (rw h refl)
 
 same_team : (a b : ℕ) → nat_eq a b ≡ true → a ≡ b
@@ -39,18 +39,18 @@ differ : (a b : ℕ) → a ≢ b → nat_eq a b ≡ false
 differ a b h = elim (cases_Bool (nat_eq a b)) [ inl t ↦ absurd (h (eqb-true a b t)) | inr f ↦ f ]
 
 -- a team that isn't there has no submission
-none_of : (team : ℕ) (us : List JudgedSubmission) → All (λ u. u.team < team) us → submissions_of team us ≡ []
+none_of : (team : ℕ) (us : List JudgedSubmission) → All (λ u. u.team < team) us → team_submissions team us ≡ []
 none_of team [] h = refl
 none_of team (u ∷ us) h = let f : nat_eq u.team team ≡ false = apart u.team team (h 0 u (omega arith)) in rw f (none_of team us (All-tail (λ u. u.team < team) u us h))
 
 -- one more submission of the team, or of another
-pub pushed_same : (team : ℕ) (u : JudgedSubmission) (us : List JudgedSubmission) → nat_eq u.team team ≡ true → (last_time team (us ++ u ∷ []) ≡ max (last_time team us) u.time) × (length (submissions_of team (us ++ u ∷ [])) ≡ length (submissions_of team us) + 1)
+pub pushed_same : (team : ℕ) (u : JudgedSubmission) (us : List JudgedSubmission) → nat_eq u.team team ≡ true → (last_time team (us ++ u ∷ []) ≡ max (last_time team us) u.time) × (length (team_submissions team (us ++ u ∷ [])) ≡ length (team_submissions team us) + 1)
 pushed_same team u us h =
     let more = kept team u us true h in
     let time : JudgedSubmission → ℕ = λ v. v.time in
-    (ap (λ vs. fold max 0 (map time vs)) more ∙ ap (fold max 0) (map-append time (submissions_of team us) (u ∷ [])) ∙ fold-append max 0 (map time (submissions_of team us)) (u.time ∷ []), ap length more ∙ length-append (submissions_of team us) (u ∷ []))
+    (ap (λ vs. fold max 0 (map time vs)) more ∙ ap (fold max 0) (map-append time (team_submissions team us) (u ∷ [])) ∙ fold-append max 0 (map time (team_submissions team us)) (u.time ∷ []), ap length more ∙ length-append (team_submissions team us) (u ∷ []))
 
-pub pushed_other : (team : ℕ) (u : JudgedSubmission) (us : List JudgedSubmission) → nat_eq u.team team ≡ false → submissions_of team (us ++ u ∷ []) ≡ submissions_of team us
+pub pushed_other : (team : ℕ) (u : JudgedSubmission) (us : List JudgedSubmission) → nat_eq u.team team ≡ false → team_submissions team (us ++ u ∷ []) ≡ team_submissions team us
 pushed_other team u us h = kept team u us false h ∙ append-nil _
 
 is_within : (s : Setup) (us : List JudgedSubmission) → All (IsAdmitted s reading_marks) us → All (λ u. u.team < length s.teams) us
@@ -98,8 +98,8 @@ IsReplayed-team s t us teams head more problems types languages r =
     let duration : t.head.duration ≡ s.head.duration = ap (λ h. h.duration) head in
     let all = r.all in
     let longer : length (teams ++ no_submissions ∷ []) ≡ length teams + 1 = length-append teams (no_submissions ∷ []) in
-    let none : submissions_of (length teams) us ≡ [] = none_of (length teams) us (rw all (is_within s us r.admitted)) in
-    let new : TellsTeam us (length teams) no_submissions = record { last = sym (rw none refl); count = sym (rw none refl) } in
+    let none : team_submissions (length teams) us ≡ [] = none_of (length teams) us (rw all (is_within s us r.admitted)) in
+    let new : TellsProgress us (length teams) no_submissions = record { last = sym (rw none refl); count = sym (rw none refl) } in
     record {
       all = longer ∙ (omega arith);
       told = λ i d l. elim (at_end i (length teams) (omega arith)) [
@@ -138,7 +138,7 @@ none_past a [] m h = refl
 none_past a (t ∷ ts) m h = both_true _ _ (le-leb t m (omega (arith, at_least (max a t) ts, h))) (none_past (max a t) ts m h)
 
 abbrev times_of : ℕ → List JudgedSubmission → List ℕ
-times_of team us = map (λ u. u.time) (submissions_of team us)
+times_of team us = map (λ u. u.time) (team_submissions team us)
 
 -- a team's times still don't fall after one that isn't before its last
 rising_more : (us : List JudgedSubmission) (u : JudgedSubmission) → last_time u.team us ≤ u.time → (team : ℕ) → never_fall (times_of team us) ≡ true → never_fall (times_of team (us ++ u ∷ [])) ≡ true
@@ -146,7 +146,7 @@ rising_more us u late team h =
     let time : JudgedSubmission → ℕ = λ v. v.time in
     let own : nat_eq u.team team ≡ true → never_fall (times_of team (us ++ u ∷ [])) ≡ true = λ t.
     (let e : last_time team us ≤ u.time = subst (λ k. last_time k us ≤ u.time) (same_team u.team team t) late in
-    let grown : times_of team (us ++ u ∷ []) ≡ times_of team us ++ u.time ∷ [] = ap (map time) (kept team u us true t) ∙ map-append time (submissions_of team us) (u ∷ []) in
+    let grown : times_of team (us ++ u ∷ []) ≡ times_of team us ++ u.time ∷ [] = ap (map time) (kept team u us true t) ∙ map-append time (team_submissions team us) (u ∷ []) in
     rw grown (never_fall_push (times_of team us) u.time h (none_past 0 (times_of team us) u.time e))) in
     elim (cases_Bool (nat_eq u.team team)) [
       | inl t ↦ own t
@@ -163,14 +163,14 @@ IsReplayed-submission s us teams p old time r there at room short =
     let team = there.team in
     let low : p.team < length teams = omega arith in
     let self : nat_eq p.team p.team ≡ true = eq-eqb p.team p.team refl in
-    let old_told : TellsTeam us p.team old = rw (← at) at (r.told p.team old low) in
+    let old_told : TellsProgress us p.team old = rw (← at) at (r.told p.team old low) in
     let old_early : old.last < s.head.duration = rw (← at) at (r.early p.team old low) in
     let more = pushed_same p.team u us self in
-    let new_told : TellsTeam (us ++ u ∷ []) p.team new = record {
+    let new_told : TellsProgress (us ++ u ∷ []) p.team new = record {
       last = sym (more.0 ∙ (rw (← old_told.last) (latest old.last time)));
       count = sym (more.1 ∙ ap (λ n. n + 1) (sym old_told.count));
     } in
-    let other_told = λ (i : ℕ) (t : TeamProgress) (e : i ≢ p.team) (o : TellsTeam us i t). (let same = pushed_other i u us (differ p.team i (λ f. e (sym f))) in let r : TellsTeam (us ++ u ∷ []) i t = record { last = o.last ∙ sym (ap (λ vs. fold max 0 (map (λ (v : JudgedSubmission). v.time) vs)) same); count = o.count ∙ sym (ap length same) } in r) in
+    let other_told = λ (i : ℕ) (t : TeamProgress) (e : i ≢ p.team) (o : TellsProgress us i t). (let same = pushed_other i u us (differ p.team i (λ f. e (sym f))) in let r : TellsProgress (us ++ u ∷ []) i t = record { last = o.last ∙ sym (ap (λ vs. fold max 0 (map (λ (v : JudgedSubmission). v.time) vs)) same); count = o.count ∙ sym (ap length same) } in r) in
     let long = length-set teams p.team new in
     let swapped : sum_by count_in (slice_set teams p.team new) + old.count ≡ sum_by count_in teams + (old.count + 1) = rw (← at) at (sum_by-set count_in teams p.team new old low) in
     record {

@@ -12,8 +12,8 @@ use Rattle.contest_types.specs.declared.limits.TheConstants.{TEAM_SUBMISSIONS}
 use Rattle.contest_score.specs.MaskedCells.{IsAdmitted}
 use Rattle.contest_score.specs.declared.submission.JudgedSubmission.{JudgedSubmission}
 use Rattle.contest_import.specs.declared.replay.team_progress.TeamProgress.{TeamProgress}
-use Rattle.contest_import.specs.ReplayLists.{submissions_of}
-use Rattle.contest_import.specs.ReplayContest.{contest_of, marks_for, up_to}
+use Rattle.contest_import.specs.ReplayLists.{team_submissions}
+use Rattle.contest_import.specs.ReplayContest.{replay_contest, marks_for, up_to}
 use Rattle.contest_import.specs.ReplayState.{reading_marks, IsReplay, IsReplayed, ReadsValid}
 use Rattle.contest_import.proofs.ReplayStateLemmas.{no_submissions, fewer}
 use Rattle.contest_import.proofs.ReplayValid.{contest_valid}
@@ -21,7 +21,7 @@ use Rattle.contest_import.proofs.ReplayValid.{contest_valid}
 -- what the state keeps says that its submissions are those of a valid contest
 pub reads_valid : (s : Setup) (us : List JudgedSubmission) (teams : List TeamProgress) → IsReplayed s us teams → ReadsValid s us
 reads_valid s us teams r =
-    let few : (team : ℕ) → team < length s.teams → length (submissions_of team us) ≤ TEAM_SUBMISSIONS = λ team l.
+    let few : (team : ℕ) → team < length s.teams → length (team_submissions team us) ≤ TEAM_SUBMISSIONS = λ team l.
     (let low : team < length teams = omega (arith, r.all, l) in
     let told = r.told team no_submissions low in
     let most = r.few team no_submissions low in
@@ -66,12 +66,12 @@ reads_valid_kept s p us r =
       spoken = r.spoken;
       admitted = All-filter p (IsAdmitted s reading_marks) us r.admitted;
       within = All-filter p (λ u. u.time < s.head.duration) us r.within;
-      few = λ team l. omega (arith, ap length (same team), fewer p (submissions_of team us), r.few team l);
-      rising = λ team. rw (same team) (rising_kept (λ (u : JudgedSubmission). u.time) p (submissions_of team us) (r.rising team));
+      few = λ team l. omega (arith, ap length (same team), fewer p (team_submissions team us), r.few team l);
+      rising = λ team. rw (same team) (rising_kept (λ (u : JudgedSubmission). u.time) p (team_submissions team us) (r.rising team));
     }
 
 -- a replay's contest is valid, thawed or not
-pub replay_valid : (s : Setup) (us : List JudgedSubmission) (thawed : Bool) → IsValid s → ReadsValid s us → is_valid (contest_of s (marks_for s thawed) us) ≡ true
+pub replay_valid : (s : Setup) (us : List JudgedSubmission) (thawed : Bool) → IsValid s → ReadsValid s us → is_valid (replay_contest s (marks_for s thawed) us) ≡ true
 replay_valid s us thawed v r = contest_valid s (if thawed then Some s.head.duration else None) us v r
 
 -- its submissions can be scored, thawed or not

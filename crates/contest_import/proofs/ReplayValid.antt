@@ -27,8 +27,8 @@ use Rattle.contest_types.proofs.ValidParts.{Parts, whole, all_four}
 use Rattle.contest_types.proofs.AddLemmas.{adding_submission, adding_release}
 use Rattle.contest_score.specs.MaskedCells.{IsAdmitted}
 use Rattle.contest_score.specs.declared.submission.JudgedSubmission.{JudgedSubmission}
-use Rattle.contest_import.specs.ReplayLists.{submissions_of}
-use Rattle.contest_import.specs.ReplayContest.{Numbered, numbered_after, submission_of, released, releases_of, replay_marks, contest_of}
+use Rattle.contest_import.specs.ReplayLists.{team_submissions}
+use Rattle.contest_import.specs.ReplayContest.{Numbered, numbered_after, submission_of, released, releases_of, replay_marks, replay_contest}
 use Rattle.contest_import.specs.ReplayState.{reading_marks, ReadsValid}
 use Rattle.contest_import.proofs.ReplayContestLemmas.{count, IsBefore, is_before_more}
 
@@ -49,7 +49,7 @@ record Follows (s : Setup) (us : List JudgedSubmission) (u : JudgedSubmission) :
   pub admitted : IsAdmitted s reading_marks u
   pub early : u.time < s.head.duration
   pub room : count u.team us < TEAM_SUBMISSIONS
-  pub last : list_all (λ t. nat_le t u.time) (map (λ v. v.time) (submissions_of u.team us)) ≡ true
+  pub last : list_all (λ t. nat_le t u.time) (map (λ v. v.time) (team_submissions u.team us)) ≡ true
 
 -- none of the times before one is past it
 none_before : (xs ys : List ℕ) (y : ℕ) → never_fall (xs ++ y ∷ ys) ≡ true → list_all (λ t. nat_le t y) xs ≡ true
@@ -61,7 +61,7 @@ none_before (x ∷ xs) ys y h =
     both_true (nat_le x y) _ here (none_before xs ys y (and_right (list_all (nat_le x) (xs ++ y ∷ ys)) (never_fall (xs ++ y ∷ ys)) h))
 
 -- a submission among others, in its team's
-own_among : (earlier us : List JudgedSubmission) (u : JudgedSubmission) → submissions_of u.team (earlier ++ u ∷ us) ≡ submissions_of u.team earlier ++ u ∷ submissions_of u.team us
+own_among : (earlier us : List JudgedSubmission) (u : JudgedSubmission) → team_submissions u.team (earlier ++ u ∷ us) ≡ team_submissions u.team earlier ++ u ∷ team_submissions u.team us
 own_among earlier us u = filter-append (λ v. v.team == u.team) earlier (u ∷ us) ∙ rw (eq-eqb u.team u.team refl) refl
 
 follows : (s : Setup) (earlier us : List JudgedSubmission) (u : JudgedSubmission) → ReadsValid s (earlier ++ u ∷ us) → Follows s earlier u
@@ -71,16 +71,16 @@ follows s earlier us u r =
     let there : length earlier < length all = omega (arith, length-append earlier (u ∷ us)) in
     let seam : get_or all (length earlier) u ≡ u = get_or-append_seam earlier u us u in
     let admitted : IsAdmitted s reading_marks u = subst (IsAdmitted s reading_marks) seam (r.admitted (length earlier) u there) in
-    let long : length (submissions_of u.team all) ≡ count u.team earlier + length (u ∷ submissions_of u.team us) = ap length (own_among earlier us u) ∙ length-append (submissions_of u.team earlier) (u ∷ submissions_of u.team us) in
-    let times : map time (submissions_of u.team all) ≡ map time (submissions_of u.team earlier) ++ u.time ∷ map time (submissions_of u.team us) =
-    ap (map time) (own_among earlier us u) ∙ map-append time (submissions_of u.team earlier) (u ∷ submissions_of u.team us) in
+    let long : length (team_submissions u.team all) ≡ count u.team earlier + length (u ∷ team_submissions u.team us) = ap length (own_among earlier us u) ∙ length-append (team_submissions u.team earlier) (u ∷ team_submissions u.team us) in
+    let times : map time (team_submissions u.team all) ≡ map time (team_submissions u.team earlier) ++ u.time ∷ map time (team_submissions u.team us) =
+    ap (map time) (own_among earlier us u) ∙ map-append time (team_submissions u.team earlier) (u ∷ team_submissions u.team us) in
     let few = r.few u.team admitted.team in
     record {
       spoken = r.spoken;
       admitted = admitted;
       early = subst (λ v. v.time < s.head.duration) seam (r.within (length earlier) u there);
       room = omega (arith, few, long);
-      last = none_before (map time (submissions_of u.team earlier)) (map time (submissions_of u.team us)) u.time (subst (λ ts. never_fall ts ≡ true) times (r.rising u.team));
+      last = none_before (map time (team_submissions u.team earlier)) (map time (team_submissions u.team us)) u.time (subst (λ ts. never_fall ts ≡ true) times (r.rising u.team));
     }
 
 -- one more is numbered after the others
@@ -91,7 +91,7 @@ numbered_more earlier (v ∷ us) u =
     ap (λ ns. n ∷ ns) (numbered_more (earlier ++ v ∷ []) us u ∙ rw (append_assoc earlier (v ∷ []) us) refl)
 
 -- the times of a team's rows are those of its submissions
-times_told : (team : ℕ) (earlier us : List JudgedSubmission) → map (λ (t : Submission). t.time) (rows_of team (map submission_of (numbered_after earlier us))) ≡ map (λ u. u.time) (submissions_of team us)
+times_told : (team : ℕ) (earlier us : List JudgedSubmission) → map (λ (t : Submission). t.time) (rows_of team (map submission_of (numbered_after earlier us))) ≡ map (λ u. u.time) (team_submissions team us)
 times_told team earlier [] = refl
 times_told team earlier (u ∷ us) =
     let rest = times_told team (earlier ++ u ∷ []) us in
@@ -110,17 +110,17 @@ last_among p (y ∷ xs) x h = or_right (p y) _ (last_among p xs x h)
 
 -- the contest is valid, and nothing is released on submissions to come
 abbrev Stands : Setup → Option ℕ → List JudgedSubmission → Type 0
-Stands s thaw us = (is_valid (contest_of s (replay_marks thaw) us) ≡ true) × IsBefore us (releases_of (numbered_after [] us))
+Stands s thaw us = (is_valid (replay_contest s (replay_marks thaw) us) ≡ true) × IsBefore us (releases_of (numbered_after [] us))
 
 next_submission : (s : Setup) (thaw : Option ℕ) (us : List JudgedSubmission) (u : JudgedSubmission) → Follows s us u
-    → is_addable (contest_of s (replay_marks thaw) us) (NewSubmission (submission_of (record { number = count u.team us + 1; row = u }))) ≡ true
+    → is_addable (replay_contest s (replay_marks thaw) us) (NewSubmission (submission_of (record { number = count u.team us + 1; row = u }))) ≡ true
 next_submission s thaw us u f =
-    let x = contest_of s (replay_marks thaw) us in
+    let x = replay_contest s (replay_marks thaw) us in
     let row = submission_of (record { number = count u.team us + 1; row = u }) in
     let own = rows_of u.team x.submissions in
     let time : Submission → ℕ = λ t. t.time in
     let told = times_told u.team [] us in
-    let long : length own ≡ count u.team us = omega (arith, length-map own time, ap length told, length-map (submissions_of u.team us) (λ v. v.time)) in
+    let long : length own ≡ count u.team us = omega (arith, length-map own time, ap length told, length-map (team_submissions u.team us) (λ v. v.time)) in
     let number : nat_eq row.number (length own + 1) ≡ true = eq-eqb row.number (length own + 1) (omega (arith, long)) in
     let last : list_all (λ t. nat_le t.time row.time) own ≡ true = sym (list_all-map (λ k. nat_le k u.time) time own) ∙ (rw told f.last) in
     both_true (is_valid_submission x.fixed row) (is_next_submission own row)
@@ -129,15 +129,15 @@ next_submission s thaw us u f =
 
 -- the next submission, with its verdict if it has one
 next : (s : Setup) (thaw : Option ℕ) (us : List JudgedSubmission) (u : JudgedSubmission) (verdict : Option ℕ) → IfSome verdict (λ place. place < length s.types) → Follows s us u → Stands s thaw us
-    → is_valid (record (contest_of s (replay_marks thaw) us) {
+    → is_valid (record (replay_contest s (replay_marks thaw) us) {
       submissions = map submission_of (numbered_after [] us) ++ submission_of (record { number = count u.team us + 1; row = u }) ∷ [];
       releases = releases_of (numbered_after [] us) ++ released (record { number = count u.team us + 1; row = u }) verdict;
     }) ≡ true
 next s thaw us u None there f h =
-    rw (append-nil (releases_of (numbered_after [] us))) (adding_submission (contest_of s (replay_marks thaw) us) (submission_of (record { number = count u.team us + 1; row = u })) h.0 (next_submission s thaw us u f))
+    rw (append-nil (releases_of (numbered_after [] us))) (adding_submission (replay_contest s (replay_marks thaw) us) (submission_of (record { number = count u.team us + 1; row = u })) h.0 (next_submission s thaw us u f))
 next s thaw us u (Some verdict) there f h =
     let n : Numbered = record { number = count u.team us + 1; row = u } in
-    let x = contest_of s (replay_marks thaw) us in
+    let x = replay_contest s (replay_marks thaw) us in
     let y = add x (NewSubmission (submission_of n)) in
     let v : Release = record { team = u.team; number = n.number; round = 1; verdict = verdict; time = u.time } in
     let valid : is_valid y ≡ true = adding_submission x (submission_of n) h.0 (next_submission s thaw us u f) in
@@ -162,7 +162,7 @@ all_more s thaw earlier (u ∷ us) r h =
     subst (Stands s thaw) regrouped (all_more s thaw (earlier ++ u ∷ []) us (subst (ReadsValid s) (sym regrouped) r) (one_more s thaw earlier u (follows s earlier us u r) h))
 
 -- settings in the order of the contest's tests
-settings_valid : (s : Setup) (thaw : Option ℕ) → IsValid s → has_valid_settings (contest_of s (replay_marks thaw) []) ≡ true
+settings_valid : (s : Setup) (thaw : Option ℕ) → IsValid s → has_valid_settings (replay_contest s (replay_marks thaw) []) ≡ true
 settings_valid s thaw v = all_thirteen _ _ _ _ _ _ _ _ _ _ _ _ _ (v.head, v.types, le-leb _ _ v.few_types, v.languages, le-leb _ _ v.few_languages, v.problems, v.labels, le-leb _ _ v.few_problems, v.groups, le-leb _ _ v.few_groups, v.teams, le-leb _ _ v.few_teams, v.references)
 
 -- no contest is longer than what fits before the last moment
@@ -177,7 +177,7 @@ ends duration h = grind (arith, nat_tests)
 
 empty_stands : (s : Setup) (thaw : Option ℕ) → IsValid s → Stands s thaw []
 empty_stands s thaw v =
-    let x = contest_of s (replay_marks thaw) [] in
+    let x = replay_contest s (replay_marks thaw) [] in
     let result : Parts x = record {
       settings = settings_valid s thaw v;
       clock = both_true _ _ (ends s.head.duration (not_long s.head v.head)) refl;
@@ -191,5 +191,5 @@ empty_stands s thaw v =
     (whole x result, λ team number l. refl)
 
 -- the contest of what a replay's records spell is valid
-pub contest_valid : (s : Setup) (thaw : Option ℕ) (us : List JudgedSubmission) → IsValid s → ReadsValid s us → is_valid (contest_of s (replay_marks thaw) us) ≡ true
+pub contest_valid : (s : Setup) (thaw : Option ℕ) (us : List JudgedSubmission) → IsValid s → ReadsValid s us → is_valid (replay_contest s (replay_marks thaw) us) ≡ true
 contest_valid s thaw us v r = (all_more s thaw [] us r (empty_stands s thaw v)).0

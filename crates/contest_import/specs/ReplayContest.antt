@@ -8,7 +8,7 @@ use Rattle.contest_types.specs.declared.marks.Marks.{Marks}
 use Rattle.contest_types.specs.declared.submission.Submission.{Submission}
 use Rattle.contest_types.specs.declared.submission.Release.{Release}
 use Rattle.contest_score.specs.declared.submission.JudgedSubmission.{JudgedSubmission}
-use Rattle.contest_import.specs.ReplayLists.{submissions_of}
+use Rattle.contest_import.specs.ReplayLists.{team_submissions}
 
 -- a submission, and which of its team's it is, counted from 1
 pub record Numbered : Type 0 where
@@ -18,7 +18,7 @@ pub record Numbered : Type 0 where
 -- the submissions numbered, each after those before it
 abbrev pub numbered_after : List JudgedSubmission → List JudgedSubmission → List Numbered
 numbered_after earlier [] = []
-numbered_after earlier (u ∷ us) = record { number = length (submissions_of u.team earlier) + 1; row = u } ∷ numbered_after (earlier ++ u ∷ []) us
+numbered_after earlier (u ∷ us) = record { number = length (team_submissions u.team earlier) + 1; row = u } ∷ numbered_after (earlier ++ u ∷ []) us
 
 abbrev pub submission_of : Numbered → Submission
 submission_of n = record { team = n.row.team; number = n.number; time = n.row.time; problem = n.row.problem; language = 0; entry_point = None; file = []; key = None }
@@ -42,8 +42,8 @@ abbrev pub up_to : ℕ → List JudgedSubmission → List JudgedSubmission
 up_to now us = filter (λ u. nat_le u.time now) us
 
 -- the contest of these settings and marks with these submissions
-abbrev pub contest_of : Setup → Marks → List JudgedSubmission → ContestState
-contest_of s marks us = record {
+abbrev pub replay_contest : Setup → Marks → List JudgedSubmission → ContestState
+replay_contest s marks us = record {
   fixed = record { settings = s; accounts = []; marks = marks };
   submissions = map submission_of (numbered_after [] us);
   proposals = [];

@@ -20,7 +20,7 @@ use Rattle.contest_score.specs.declared.submission.JudgedSubmission.{JudgedSubmi
 use Rattle.contest_import.specs.declared.replay.submission_row.SubmissionRefs.{SubmissionRefs}
 use Rattle.contest_import.specs.FieldTexts.{Text, is_empty}
 use Rattle.contest_import.specs.ReplayRecord.{FiveFields}
-use Rattle.contest_import.specs.ReplayRows.{head_of, type_of, problem_of, team_of}
+use Rattle.contest_import.specs.ReplayRows.{head_row, type_row, problem_row, team_row}
 
 -- the settings, and the submissions in order
 pub record ReplayLists : Type 0 where
@@ -47,26 +47,26 @@ lists_of_head head =
     else Err cause.Malformed
 
 -- the settings that a row leads to
-abbrev pub with_settings : ReplayLists → (Bool → Setup) → Result Bool Cause → Judged
-with_settings r settings (Ok added) = Ok (record r { settings = settings added })
-with_settings r settings (Err c) = Err c
+abbrev pub lists_with_settings : ReplayLists → (Bool → Setup) → Result Bool Cause → Judged
+lists_with_settings r settings (Ok added) = Ok (record r { settings = settings added })
+lists_with_settings r settings (Err c) = Err c
 
 abbrev pub with_type_row : ReplayLists → JudgementType → Judged
-with_type_row r row = with_settings r (λ added. with_type added r.settings row) (type_addition r.settings row)
+with_type_row r row = lists_with_settings r (λ added. with_type added r.settings row) (type_addition r.settings row)
 
 abbrev pub with_problem_row : ReplayLists → Problem → Judged
-with_problem_row r row = with_settings r (λ added. with_problem added r.settings row) (problem_addition r.settings row)
+with_problem_row r row = lists_with_settings r (λ added. with_problem added r.settings row) (problem_addition r.settings row)
 
 abbrev pub with_team_row : ReplayLists → Team → Judged
-with_team_row r row = with_settings r (λ added. with_team added r.settings row) (team_addition r.settings row)
+with_team_row r row = lists_with_settings r (λ added. with_team added r.settings row) (team_addition r.settings row)
 
 -- the submissions of the team at a place
-abbrev pub submissions_of : ℕ → List JudgedSubmission → List JudgedSubmission
-submissions_of team us = filter (λ u. u.team == team) us
+abbrev pub team_submissions : ℕ → List JudgedSubmission → List JudgedSubmission
+team_submissions team us = filter (λ u. u.team == team) us
 
 -- the latest of their times, 0 where there is none
 abbrev pub last_time : ℕ → List JudgedSubmission → ℕ
-last_time team us = fold max 0 (map (λ u. u.time) (submissions_of team us))
+last_time team us = fold max 0 (map (λ u. u.time) (team_submissions team us))
 
 -- the place of a judgement type, or nothing for no verdict
 abbrev pub verdict_place : Setup → Text → Option (Option ℕ)
@@ -96,7 +96,7 @@ addition_at r p (Some time) = Ok (record r { submissions = r.submissions ++ new_
 
 abbrev pub submission_addition : ReplayLists → SubmissionRefs → ℤ → Judged
 submission_addition r p time =
-    if nat_le TEAM_SUBMISSIONS (length (submissions_of p.team r.submissions)) then Err cause.TableFull else addition_at r p (within r.settings.head.duration time)
+    if nat_le TEAM_SUBMISSIONS (length (team_submissions p.team r.submissions)) then Err cause.TableFull else addition_at r p (within r.settings.head.duration time)
 
 -- why a record names no places: a text that isn't an id, or one that isn't there
 abbrev pub reference_fault : FiveFields → Cause
@@ -114,13 +114,13 @@ with_submission r f = or_malformed (λ time. named_addition r f time (refs_of r.
 abbrev pub lists_with : ReplayLists → FiveFields → Judged
 lists_with r f =
     if bytes_eq f.kind (codes "submission") then with_submission r f
-    else (if bytes_eq f.kind (codes "team") then or_malformed (with_team_row r) (team_of f)
-    else (if bytes_eq f.kind (codes "problem") then or_malformed (with_problem_row r) (problem_of f)
-    else (if bytes_eq f.kind (codes "type") then or_malformed (with_type_row r) (type_of f) else Err cause.Malformed)))
+    else (if bytes_eq f.kind (codes "team") then or_malformed (with_team_row r) (team_row f)
+    else (if bytes_eq f.kind (codes "problem") then or_malformed (with_problem_row r) (problem_row f)
+    else (if bytes_eq f.kind (codes "type") then or_malformed (with_type_row r) (type_row f) else Err cause.Malformed)))
 
 -- the first record is the contest
 abbrev pub first_lists : FiveFields → Judged
-first_lists f = if bytes_eq f.kind (codes "contest") then or_malformed lists_of_head (head_of f) else Err cause.Malformed
+first_lists f = if bytes_eq f.kind (codes "contest") then or_malformed lists_of_head (head_row f) else Err cause.Malformed
 
 -- what one more record makes of what was read before
 abbrev pub lists_after : Option ReplayLists → FiveFields → Judged

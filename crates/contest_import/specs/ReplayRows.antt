@@ -16,29 +16,29 @@ abbrev pub usual_medals : Medals
 usual_medals = record { gold = 4; silver = 4; bronze = 4 }
 
 -- `contest`: id, name, duration, and the freeze's duration or nothing
-abbrev pub head_of : FiveFields → Option ContestHead
-head_of f =
+abbrev pub head_row : FiveFields → Option ContestHead
+head_row f =
     option_and_then (λ id. option_and_then (λ name. option_and_then (λ duration. option_map
     (λ freeze. record { id = id; name = name; duration = duration; freeze = freeze; penalty_time = 20; verification = false; medals = usual_medals })
     (span_or_empty f.f3)) (span_of f.f2)) (name_from f.f1)) (id_of f.id)
 
 -- `type`: id, name, whether it solves, and whether it costs penalty time
-abbrev pub type_of : FiveFields → Option JudgementType
-type_of f =
+abbrev pub type_row : FiveFields → Option JudgementType
+type_row f =
     option_and_then (λ id. option_and_then (λ name. option_and_then (λ solved. option_map
     (λ penalty. record { id = id; name = name; solved = solved; penalty = penalty })
     (flag_of f.f3)) (flag_of f.f2)) (name_from f.f1)) (id_of f.id)
 
 -- `problem`: id, label, name and ordinal
-abbrev pub problem_of : FiveFields → Option Problem
-problem_of f =
+abbrev pub problem_row : FiveFields → Option Problem
+problem_row f =
     option_and_then (λ id. option_and_then (λ label. option_and_then (λ name. option_map
     (λ ordinal. record { id = id; label = label; name = name; ordinal = ordinal })
     (ordinal_of f.f3)) (name_from f.f2)) (name_from f.f1)) (id_of f.id)
 
 -- `team`: id, name, whether it is hidden, and nothing
-abbrev pub team_of : FiveFields → Option Team
-team_of f =
+abbrev pub team_row : FiveFields → Option Team
+team_row f =
     option_and_then (λ id. option_and_then (λ name. option_and_then
     (λ hidden. if is_empty f.f3 then Some (record { id = id; name = name; groups = []; hidden = hidden }) else None)
     (flag_or_empty f.f2)) (name_from f.f1)) (id_of f.id)

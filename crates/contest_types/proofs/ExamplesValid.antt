@@ -33,12 +33,14 @@ with_marks marks x = record x { fixed = record x.fixed { marks = marks } }
 abbrev with_accounts : List Account → ContestState → ContestState
 with_accounts accounts x = record x { fixed = record x.fixed { accounts = accounts } }
 
--- finalized before the end, a thaw with no freeze, an applied rejudging of a member with no verdict
+-- finalized before the end, a thaw with no freeze, an applied rejudging of a member with no verdict, and a
+-- rejudging without members
 abbrev odd_but_valid : List ContestState
 odd_but_valid =
     with_marks (record started { finalized = Some 1 }) base
     ∷ record base { fixed = record base.fixed { settings = record settings { head = record settings.head { freeze = None } }; marks = record started { thaw = Some 9 } } }
     ∷ record base { rejudgings = record { reason = codes "limits"; state = state.Applied; members = record { team = 0; number = 1; state = member.Empty } ∷ [] } ∷ [] }
+    ∷ record base { rejudgings = record { reason = codes "limits"; state = state.Open; members = [] } ∷ [] }
     ∷ []
 
 odd_valid : list_all is_valid odd_but_valid ≡ true

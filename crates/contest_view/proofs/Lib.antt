@@ -9,3 +9,4 @@ pub mod SubmissionIds
 pub mod SeenById
 pub mod ReadLaws
 mod ExamplesState
+mod ExamplesReads

@@ -22,12 +22,12 @@ abbrev pub once : Option ℕ → Option ℕ → Option ℕ
 once None moment = None
 once (Some first) moment = moment
 
-abbrev pub later_of : ℕ → ℕ → ℕ
-later_of a b = if nat_le a b then b else a
+abbrev pub later_moment : ℕ → ℕ → ℕ
+later_moment a b = if nat_le a b then b else a
 
 -- the later of both, where both are there
 abbrev pub both_come : Option ℕ → Option ℕ → Option ℕ
-both_come (Some a) (Some b) = Some (later_of a b)
+both_come (Some a) (Some b) = Some (later_moment a b)
 both_come _ _ = None
 
 -- a thaw follows a freeze, and final results follow the end; nothing changes after the last of them

@@ -3,7 +3,7 @@ ghost use Rattle.std.specs.Prelude.{◌≡◌, ◌<◌, ◌≤◌, Bool, true, O
 ghost use Rattle.contest_types.specs.Additions.{IsFaultOf};
 ghost use Rattle.contest_types.specs.Valid.{is_valid};
 ghost use Rattle.contest_import.specs.ReplayLists.{any_language, lists_of_head, with_type_row, with_problem_row, with_team_row, with_submission, submission_addition, within};
-ghost use Rattle.contest_import.specs.ReplayContest.{contest_of, marks_for};
+ghost use Rattle.contest_import.specs.ReplayContest.{replay_contest, marks_for};
 ghost use Rattle.contest_import.specs.ReplayState.{AreThere};
 
 use super::contest::ReplayContest;
@@ -74,7 +74,7 @@ impl ReplayBuilder {
     /// The contest of all records, which is a valid one.
     pub(crate) fn into_contest(self) -> ReplayContest
         ensures same { result ≡ self }
-        ensures valid { (thawed : Bool) → is_valid (contest_of result.settings (marks_for result.settings thawed) result.submissions) ≡ true }
+        ensures valid { (thawed : Bool) → is_valid (replay_contest result.settings (marks_for result.settings thawed) result.submissions) ≡ true }
     {
         let teams = self.settings.teams().len();
         prove!(teams <= limits::TEAMS);

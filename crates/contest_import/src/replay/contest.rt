@@ -2,7 +2,7 @@
 ghost use Rattle.std.specs.Prelude.{◌≡◌, ◌<◌, ◌^◌, Bool, true, All, length, nat_le};
 ghost use Rattle.contest_types.specs.Valid.{is_valid};
 ghost use Rattle.contest_score.specs.MaskedCells.{IsAdmitted};
-ghost use Rattle.contest_import.specs.ReplayContest.{contest_of, marks_for, up_to};
+ghost use Rattle.contest_import.specs.ReplayContest.{replay_contest, marks_for, up_to};
 ghost use Rattle.contest_import.specs.ReplayState.{IsReplay};
 
 use contest_score::JudgedSubmission;
@@ -64,7 +64,7 @@ impl ReplayContest {
         ensures value { result.now ≡ self.now.submissions }
         ensures few { length result.now < 2 ^ 32 }
         ensures admitted { (thawed : Bool) → All (IsAdmitted self.now.settings (marks_for self.now.settings thawed)) result.now }
-        ensures valid { (thawed : Bool) → is_valid (contest_of self.now.settings (marks_for self.now.settings thawed) result.now) ≡ true }
+        ensures valid { (thawed : Bool) → is_valid (replay_contest self.now.settings (marks_for self.now.settings thawed) result.now) ≡ true }
     {
         self.submissions.as_slice()
     }

@@ -3,7 +3,7 @@ ghost use Rattle.std.specs.Prelude.{◌≡◌, ◌≤◌, ◌+◌, ◌∷◌, �
 ghost use Rattle.csv.specs.Reading.{records};
 ghost use Rattle.csv.specs.Records.{fields_of};
 ghost use Rattle.contest_types.specs.Valid.{is_valid};
-ghost use Rattle.contest_import.specs.ReplayContest.{contest_of, marks_for};
+ghost use Rattle.contest_import.specs.ReplayContest.{replay_contest, marks_for};
 ghost use Rattle.contest_import.specs.ReplayRecord.{five_of};
 ghost use Rattle.contest_import.specs.ReplayFile.{contest_in_file, result_from, names_contest, is_header, is_header_text, Refuses};
 
@@ -146,7 +146,7 @@ fn judge_all<'a>(
 pub fn read_replay_csv(alloc: Global, bytes: &[u8]) -> Result<ReplayContest, Refusal>
     ensures ok { IfOk result (λ r. contest_in_file bytes.now ≡ Ok r) }
     ensures err { IfErr result (λ e. Refuses e (contest_in_file bytes.now)) }
-    ensures valid { (thawed : Bool) → IfOk result (λ r. is_valid (contest_of r.settings (marks_for r.settings thawed) r.submissions) ≡ true) }
+    ensures valid { (thawed : Bool) → IfOk result (λ r. is_valid (replay_contest r.settings (marks_for r.settings thawed) r.submissions) ≡ true) }
 {
     let mut records = CsvRecords::new(alloc, bytes);
     let mut row = ByteRecord::new(alloc);

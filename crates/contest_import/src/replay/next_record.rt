@@ -2,7 +2,7 @@
 ghost use Rattle.std.specs.Prelude.{◌≡◌, Ok, Some, OnOk, IfOk, IfErr};
 ghost use Rattle.contest_types.specs.Additions.{IsFaultOf};
 ghost use Rattle.contest_import.specs.ReplayLists.{first_lists, lists_with, lists_after, or_malformed, with_type_row, with_problem_row, with_team_row};
-ghost use Rattle.contest_import.specs.ReplayRows.{type_of, problem_of, team_of};
+ghost use Rattle.contest_import.specs.ReplayRows.{type_row, problem_row, team_row};
 ghost use Rattle.contest_import.specs.ReplayFile.{as_some};
 
 use super::builder::{ReplayBuilder, memory_of};
@@ -84,8 +84,8 @@ fn add_team(
     alloc: Global,
     fields: &ReplayRecord<'_>,
 ) -> Result<(), RowFault>
-    ensures ok { OnOk result (or_malformed (with_team_row replayed.old) (team_of fields.now) ≡ Ok replayed.new) }
-    ensures err { IfErr result (λ e. IsFaultOf e (or_malformed (with_team_row replayed.old) (team_of fields.now))) }
+    ensures ok { OnOk result (or_malformed (with_team_row replayed.old) (team_row fields.now) ≡ Ok replayed.new) }
+    ensures err { IfErr result (λ e. IsFaultOf e (or_malformed (with_team_row replayed.old) (team_row fields.now))) }
 {
     match team_in(alloc, fields) {
         Ok(Some(row)) => replayed.add_team(alloc, row),
@@ -101,8 +101,8 @@ fn add_problem(
     alloc: Global,
     fields: &ReplayRecord<'_>,
 ) -> Result<(), RowFault>
-    ensures ok { OnOk result (or_malformed (with_problem_row replayed.old) (problem_of fields.now) ≡ Ok replayed.new) }
-    ensures err { IfErr result (λ e. IsFaultOf e (or_malformed (with_problem_row replayed.old) (problem_of fields.now))) }
+    ensures ok { OnOk result (or_malformed (with_problem_row replayed.old) (problem_row fields.now) ≡ Ok replayed.new) }
+    ensures err { IfErr result (λ e. IsFaultOf e (or_malformed (with_problem_row replayed.old) (problem_row fields.now))) }
 {
     match problem_in(alloc, fields) {
         Ok(Some(row)) => replayed.add_problem(alloc, row),
@@ -118,8 +118,8 @@ fn add_type(
     alloc: Global,
     fields: &ReplayRecord<'_>,
 ) -> Result<(), RowFault>
-    ensures ok { OnOk result (or_malformed (with_type_row replayed.old) (type_of fields.now) ≡ Ok replayed.new) }
-    ensures err { IfErr result (λ e. IsFaultOf e (or_malformed (with_type_row replayed.old) (type_of fields.now))) }
+    ensures ok { OnOk result (or_malformed (with_type_row replayed.old) (type_row fields.now) ≡ Ok replayed.new) }
+    ensures err { IfErr result (λ e. IsFaultOf e (or_malformed (with_type_row replayed.old) (type_row fields.now))) }
 {
     match type_in(alloc, fields) {
         Ok(Some(row)) => replayed.add_type(alloc, row),

@@ -1,6 +1,6 @@
 //! What the records of a replay say: a contest, its judgement types, problems and teams.
 ghost use Rattle.std.specs.Prelude.{◌≡◌, IfOk, IfErr};
-ghost use Rattle.contest_import.specs.ReplayRows.{head_of, type_of, problem_of, team_of};
+ghost use Rattle.contest_import.specs.ReplayRows.{head_row, type_row, problem_row, team_row};
 
 use super::record::ReplayRecord;
 use crate::fields::{flag, flag_or_empty, ordinal, time_span, time_span_or_empty};
@@ -18,7 +18,7 @@ pub(crate) fn head_in(
     alloc: Global,
     fields: &ReplayRecord<'_>,
 ) -> Result<Option<ContestHead>, Refusal>
-    ensures value { IfOk result (λ found. found ≡ head_of fields.now) }
+    ensures value { IfOk result (λ found. found ≡ head_row fields.now) }
     ensures err { IfErr result (λ e. e ≡ Refusal.Memory) }
 {
     let Some(id) = Id::from_bytes(alloc, fields.id)? else {
@@ -54,7 +54,7 @@ pub(crate) fn type_in(
     alloc: Global,
     fields: &ReplayRecord<'_>,
 ) -> Result<Option<JudgementType>, Refusal>
-    ensures value { IfOk result (λ found. found ≡ type_of fields.now) }
+    ensures value { IfOk result (λ found. found ≡ type_row fields.now) }
     ensures err { IfErr result (λ e. e ≡ Refusal.Memory) }
 {
     let Some(id) = Id::from_bytes(alloc, fields.id)? else {
@@ -82,7 +82,7 @@ pub(crate) fn problem_in(
     alloc: Global,
     fields: &ReplayRecord<'_>,
 ) -> Result<Option<Problem>, Refusal>
-    ensures value { IfOk result (λ found. found ≡ problem_of fields.now) }
+    ensures value { IfOk result (λ found. found ≡ problem_row fields.now) }
     ensures err { IfErr result (λ e. e ≡ Refusal.Memory) }
 {
     let Some(id) = Id::from_bytes(alloc, fields.id)? else {
@@ -107,7 +107,7 @@ pub(crate) fn problem_in(
 
 /// The team of a record `team`: id, name, whether it is hidden, and nothing.
 pub(crate) fn team_in(alloc: Global, fields: &ReplayRecord<'_>) -> Result<Option<Team>, Refusal>
-    ensures value { IfOk result (λ found. found ≡ team_of fields.now) }
+    ensures value { IfOk result (λ found. found ≡ team_row fields.now) }
     ensures err { IfErr result (λ e. e ≡ Refusal.Memory) }
 {
     let Some(id) = Id::from_bytes(alloc, fields.id)? else {

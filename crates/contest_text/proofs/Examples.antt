@@ -1,0 +1,45 @@
+-- Worked examples of the text board: cells, and texts in columns.
+use Rattle.std.proofs.Common.{◌≡◌, ℕ, true, false, Option, Some, None, refl}
+use Rattle.std.specs.Prelude.{codes}
+use Rattle.std.specs.Fmt.{digits}
+use Rattle.contest_score.specs.declared.cell.Cell.{Cell}
+use Rattle.contest_text.specs.CellText.{cell_text}
+use Rattle.contest_text.specs.BoardText.{word_of}
+use Rattle.contest_types.specs.declared.audience.Phase.TheVariants as phase
+
+abbrev cell : (judged pending : ℕ) → Option ℕ → Cell
+cell judged pending None = record { judged = judged; pending = pending; solved = None; penalties = 0 }
+cell judged pending (Some minute) = record { judged = judged; pending = pending; solved = Some (record { 0 = minute }); penalties = 0 }
+
+-- nothing, solved in the 83rd minute at the third attempt, two failed, two failed and one pending, one pending
+untried : cell_text (cell 0 0 None) ≡ codes "."
+untried = refl
+
+solved : cell_text (cell 3 0 (Some 83)) ≡ codes "+3/83"
+unfolding digits
+solved = refl
+
+failed : cell_text (cell 2 0 None) ≡ codes "-2"
+unfolding digits
+failed = refl
+
+failed_and_pending : cell_text (cell 2 1 None) ≡ codes "-2?1"
+unfolding digits
+failed_and_pending = refl
+
+pending : cell_text (cell 0 1 None) ≡ codes "?1"
+unfolding digits
+pending = refl
+
+-- `final` comes before `frozen`, and both before where the contest stands; before the start nothing else is said
+before : word_of phase.Before true true ≡ codes "before"
+before = refl
+
+final_ended : word_of phase.Ended true true ≡ codes "final"
+final_ended = refl
+
+frozen_ended : word_of phase.Ended false true ≡ codes "frozen"
+frozen_ended = refl
+
+running : word_of phase.Running false false ≡ codes "running"
+running = refl
