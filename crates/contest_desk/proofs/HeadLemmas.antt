@@ -8,7 +8,7 @@ use Rattle.contest_desk.specs.Offers.{allowed_on}
 use Rattle.contest_desk.specs.Outcomes.{Outcome}
 use Rattle.contest_desk.specs.Replies.{refused}
 use Rattle.contest_desk.specs.Routes.{route_of}
-use Rattle.contest_desk.specs.Step.{is_here, offered, asked, or_refused, wished_by, outcome_of}
+use Rattle.contest_desk.specs.Step.{is_here, offered, asked, or_refused, wish_or_reply_by, outcome_of}
 use Rattle.contest_desk.specs.Wishes.{submission_wish}
 use Rattle.contest_desk.specs.Laws.{HeadIsGet}
 use Rattle.contest_desk.specs.declared.offer.AllowedMethods.{AllowedMethods}
@@ -38,7 +38,7 @@ wish_alike f None request = refl
 wish_alike f (Some team) request = refl
 
 -- what is wished doesn't go by the method
-wished_alike : (f : FixedPart) (who : Option Caller) (request : Request) (asks : Result Operation Reply) → wished_by f who (record request { method = Head }) asks ≡ wished_by f who (record request { method = Get }) asks
+wished_alike : (f : FixedPart) (who : Option Caller) (request : Request) (asks : Result Operation Reply) → wish_or_reply_by f who (record request { method = Head }) asks ≡ wish_or_reply_by f who (record request { method = Get }) asks
 wished_alike f who request (Err reply) = refl
 wished_alike f None request (Ok operation) = refl
 wished_alike f (Some who) request (Ok (Read reading)) = refl
@@ -52,4 +52,4 @@ head_is_get x now credential request =
     let contest = x.fixed.settings.head.id in
     let who = caller_of x.fixed credential in
     ap (λ wish. stepped x (outcome_of x now wish))
-    (ap (wished_by x.fixed who (record request { method = Head })) (on_route contest request.path (route_of request.path)) ∙ wished_alike x.fixed who request (asked contest request.path Get))
+    (ap (wish_or_reply_by x.fixed who (record request { method = Head })) (on_route contest request.path (route_of request.path)) ∙ wished_alike x.fixed who request (asked contest request.path Get))

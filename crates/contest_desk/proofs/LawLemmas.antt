@@ -15,10 +15,10 @@ use Rattle.contest_desk.specs.Callers.{Caller, caller_of, audience_of}
 use Rattle.contest_desk.specs.Laws.{StayAlike, ReadsAlike, PostsAlike, StepsAlike, StepsKeepValid}
 use Rattle.contest_desk.specs.Outcomes.{Outcome, replying}
 use Rattle.contest_desk.specs.Paths.{object_piece}
-use Rattle.contest_desk.specs.PostSubmission.{decided, deciding}
+use Rattle.contest_desk.specs.PostSubmission.{decision_outcome, submission_outcome}
 use Rattle.contest_desk.specs.Readings.{read, told}
-use Rattle.contest_desk.specs.Step.{wished, outcome_of, outcome}
-use Rattle.contest_desk.specs.Wishes.{come, IsSound}
+use Rattle.contest_desk.specs.Step.{wish_or_reply, outcome_of, outcome}
+use Rattle.contest_desk.specs.Wishes.{wish_outcome, IsSound}
 use Rattle.contest_desk.specs.declared.offer.Reading.TheVariants.{Submissions, Submission}
 use Rattle.contest_desk.specs.declared.reply.Reply.{Reply}
 use Rattle.contest_desk.specs.declared.wish.Wish.{Wish}
@@ -34,9 +34,9 @@ reads_alike a now x y Submission path held h = ap told ((alike_read a now x y he
 pub posts_alike : PostsAlike
 posts_alike now team wanted x y valid_x valid_y sound h =
     let a = audience.Team (team + 1) in
-    let p = deciding now team wanted x in
-    let q = deciding now team wanted y in
-    let same : p ≡ q = (λ i. decided (h.fixed i) team (own_alike x y team h i) (submit (h.fixed i) now team (own_alike x y team h i) wanted)) in
+    let p = submission_outcome now team wanted x in
+    let q = submission_outcome now team wanted y in
+    let same : p ≡ q = (λ i. decision_outcome (h.fixed i) team (own_alike x y team h i) (submit (h.fixed i) now team (own_alike x y team h i) wanted)) in
     let go : AddsAtMost x team p.entries → Alike a (add_all x p.entries) (add_all y p.entries) = elim [
       | inl none ↦ subst (λ es. Alike a (add_all x es) (add_all y es)) (sym none) h
       | inr adds ↦ subst (λ es. Alike a (add_all x es) (add_all y es)) (sym adds.are) (added_alike x y team adds.submission valid_x valid_y h adds.own adds.next)
@@ -44,11 +44,11 @@ posts_alike now team wanted x y valid_x valid_y sound h =
     (ap (λ (o : Outcome). o.reply) same, subst (λ (o : Outcome). Alike a (add_all x p.entries) (add_all y o.entries)) same (go (deciding_adds x now team wanted valid_x sound)))
 
 come_alike : (a : Audience) (now : ℕ) (wish : Wish) (x y : ContestState) → is_valid x ≡ true → is_valid y ≡ true → IsSound x.fixed wish → speaker wish ≡ a → MayBeHeld a now x → Alike a x y
-    → StayAlike a x y (come now wish x) (come now wish y)
+    → StayAlike a x y (wish_outcome now wish x) (wish_outcome now wish y)
 come_alike a now (Read reading b path) x y valid_x valid_y sound speaks held h =
     subst (λ c. StayAlike a x y (replying (read c now x reading path)) (replying (read c now y reading path))) (sym speaks) (reads_alike a now x y reading path held h, h)
 come_alike a now (Submit team wanted) x y valid_x valid_y sound speaks held h =
-    subst (λ b. StayAlike b x y (deciding now team wanted x) (deciding now team wanted y)) speaks (posts_alike now team wanted x y valid_x valid_y sound (subst (λ b. Alike b x y) (sym speaks) h))
+    subst (λ b. StayAlike b x y (submission_outcome now team wanted x) (submission_outcome now team wanted y)) speaks (posts_alike now team wanted x y valid_x valid_y sound (subst (λ b. Alike b x y) (sym speaks) h))
 
 speaks_as : (a : Audience) (o : Option Caller) (wish : Wish) → SpeaksFor o wish → IfSome o (λ who. audience_of who ≡ a) → speaker wish ≡ a
 speaks_as a None wish speaks sight = absurd speaks
@@ -61,17 +61,17 @@ of_alike a now o (Ok wish) x y valid_x valid_y known sight held h = come_alike a
 
 pub steps_alike : StepsAlike
 steps_alike a now credential request x y valid_x valid_y sight held h =
-    subst (λ q. StayAlike a x y (outcome x now credential request) q) (λ i. outcome_of y now (wished (h.fixed i) credential request))
-    (of_alike a now (caller_of x.fixed credential) (wished x.fixed credential request) x y valid_x valid_y (wished_known x credential request valid_x) sight held h)
+    subst (λ q. StayAlike a x y (outcome x now credential request) q) (λ i. outcome_of y now (wish_or_reply (h.fixed i) credential request))
+    (of_alike a now (caller_of x.fixed credential) (wish_or_reply x.fixed credential request) x y valid_x valid_y (wished_known x credential request valid_x) sight held h)
 
 -- what a wish adds may be added
-pub come_addable : (x : ContestState) (now : ℕ) (wish : Wish) → is_valid x ≡ true → IsSound x.fixed wish → are_addable x (come now wish x).entries ≡ true
+pub come_addable : (x : ContestState) (now : ℕ) (wish : Wish) → is_valid x ≡ true → IsSound x.fixed wish → are_addable x (wish_outcome now wish x).entries ≡ true
 come_addable x now (Read reading a path) valid sound = refl
 come_addable x now (Submit team wanted) valid sound = adds_addable x team _ (deciding_adds x now team wanted valid sound)
 
 of_valid : (x : ContestState) (now : ℕ) (o : Option Caller) (r : Result Wish Reply) → is_valid x ≡ true → IfKnown x.fixed o r → is_valid (add_all x (outcome_of x now r).entries) ≡ true
 of_valid x now o (Err reply) valid known = valid
-of_valid x now o (Ok wish) valid known = adding_all x (come now wish x).entries valid (come_addable x now wish valid known.sound)
+of_valid x now o (Ok wish) valid known = adding_all x (wish_outcome now wish x).entries valid (come_addable x now wish valid known.sound)
 
 pub steps_keep_valid : StepsKeepValid
-steps_keep_valid now credential request x valid = of_valid x now (caller_of x.fixed credential) (wished x.fixed credential request) valid (wished_known x credential request valid)
+steps_keep_valid now credential request x valid = of_valid x now (caller_of x.fixed credential) (wish_or_reply x.fixed credential request) valid (wished_known x credential request valid)

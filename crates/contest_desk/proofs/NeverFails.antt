@@ -18,20 +18,20 @@ use Rattle.contest_rules.specs.declared.decision.Decision.{Decision}
 use Rattle.contest_rules.specs.declared.decision.Decision.TheVariants.{Add, Stands, Refused}
 use Rattle.contest_rules.specs.declared.submitting.WantedSubmission.{WantedSubmission}
 use Rattle.contest_desk.specs.Laws.{StepsNeverFail}
-use Rattle.contest_desk.specs.PostSubmission.{repeating, decided}
+use Rattle.contest_desk.specs.PostSubmission.{repeat_outcome, decision_outcome}
 use Rattle.contest_types.specs.declared.audience.Audience.{Audience}
 use Rattle.contest_view.specs.Reads.{submission_found}
 use Rattle.contest_desk.specs.Paths.{object_piece}
 use Rattle.contest_desk.specs.declared.offer.Reading.{Reading}
 use Rattle.contest_desk.specs.declared.offer.Reading.TheVariants.{Submissions, Submission as ToOne}
 use Rattle.contest_desk.specs.Readings.{read, told}
-use Rattle.contest_desk.specs.Wishes.{come}
+use Rattle.contest_desk.specs.Wishes.{wish_outcome}
 use Rattle.contest_desk.specs.declared.wish.Wish.{Wish}
 use Rattle.contest_desk.specs.declared.wish.Wish.TheVariants.{Read, Submit}
 use Rattle.contest_desk.proofs.WishLemmas.{OrdinaryError, wished_ordinary}
 use Rattle.contest_desk.specs.Replies.{refused}
 use Rattle.contest_desk.specs.Serving.{IsOrdinary}
-use Rattle.contest_desk.specs.Step.{wished, outcome_of}
+use Rattle.contest_desk.specs.Step.{wish_or_reply, outcome_of}
 use Rattle.contest_desk.specs.declared.reply.Reply.{Reply}
 
 abbrev OrdinaryDecision : Decision Submission → Type 0
@@ -71,11 +71,11 @@ problem_ordinary f now team own w (Some problem) = language_ordinary f now team 
 submit_ordinary : (f : FixedPart) (now team : ℕ) (own : List Submission) (w : WantedSubmission) → OrdinaryDecision (submit f now team own w)
 submit_ordinary f now team own w = problem_ordinary f now team own w (place_of w.problem (map (λ (p : Problem). p.id) f.settings.problems))
 
-repeating_ordinary : (f : FixedPart) (team : ℕ) (o : Option Submission) → IsOrdinary (repeating f team o).reply
+repeating_ordinary : (f : FixedPart) (team : ℕ) (o : Option Submission) → IsOrdinary (repeat_outcome f team o).reply
 repeating_ordinary f team None = refl
 repeating_ordinary f team (Some s) = refl
 
-decided_ordinary : (f : FixedPart) (team : ℕ) (own : List Submission) (d : Decision Submission) → OrdinaryDecision d → IsOrdinary (decided f team own d).reply
+decided_ordinary : (f : FixedPart) (team : ℕ) (own : List Submission) (d : Decision Submission) → OrdinaryDecision d → IsOrdinary (decision_outcome f team own d).reply
 decided_ordinary f team own (Add s) o = refl
 decided_ordinary f team own (Stands place) o = repeating_ordinary f team (slice_get own place)
 decided_ordinary f team own (Refused r) o = o
@@ -88,7 +88,7 @@ read_ordinary : (a : Audience) (now : ℕ) (x : ContestState) (reading : Reading
 read_ordinary a now x Submissions path = refl
 read_ordinary a now x ToOne path = found_ordinary (submission_found a now x (object_piece path))
 
-come_ordinary : (x : ContestState) (now : ℕ) (wish : Wish) → IsOrdinary (come now wish x).reply
+come_ordinary : (x : ContestState) (now : ℕ) (wish : Wish) → IsOrdinary (wish_outcome now wish x).reply
 come_ordinary x now (Read reading a path) = read_ordinary a now x reading path
 come_ordinary x now (Submit team w) = decided_ordinary x.fixed team (submissions_of team x.submissions) (submit x.fixed now team (submissions_of team x.submissions) w) (submit_ordinary x.fixed now team (submissions_of team x.submissions) w)
 
@@ -98,12 +98,12 @@ of_ordinary x now (Ok wish) ordinary = come_ordinary x now wish
 
 pub steps_never_fail : StepsNeverFail
 steps_never_fail now credential request x fails =
-    let ordinary = of_ordinary x now (wished x.fixed credential request) (wished_ordinary x.fixed credential request) in
+    let ordinary = of_ordinary x now (wish_or_reply x.fixed credential request) (wished_ordinary x.fixed credential request) in
     elim fails [ inl e ↦ false≢true (sym ordinary ∙ ap (λ (r : Reply). r.status == 503) e) | inr e ↦ false≢true (sym ordinary ∙ ap (λ (r : Reply). r.status == 503) e) ]
 
 -- nor does a refusal that is decided
 pub refusal_ordinary : (f : FixedPart) (now team : ℕ) (own : List Submission) (w : WantedSubmission) (d : Decision Submission) (refusal : Refusal) (reply : Reply) → d ≡ submit f now team own w → d ≡ Refused refusal
     → reply ≡ refused refusal → IsOrdinary reply
-refusal_ordinary f now team own w d refusal reply is come told =
-    let o : OrdinaryDecision (Refused refusal) = subst OrdinaryDecision (sym is ∙ come) (submit_ordinary f now team own w) in
+refusal_ordinary f now team own w d refusal reply is wish_outcome told =
+    let o : OrdinaryDecision (Refused refusal) = subst OrdinaryDecision (sym is ∙ wish_outcome) (submit_ordinary f now team own w) in
     ap (λ (r : Reply). r.status == 503) told ∙ o

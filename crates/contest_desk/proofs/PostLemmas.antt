@@ -19,7 +19,7 @@ use Rattle.contest_types.proofs.ValidParts.{parts}
 use Rattle.contest_types.proofs.SettingsTest.{is_settings}
 use Rattle.contest_desk.specs.Outcomes.{telling}
 use Rattle.contest_desk.specs.OwnSubmissions.{loaded_for}
-use Rattle.contest_desk.specs.PostSubmission.{own_submission, repeating, decided, deciding}
+use Rattle.contest_desk.specs.PostSubmission.{own_submission, repeat_outcome, decision_outcome, submission_outcome}
 use Rattle.contest_desk.proofs.OwnLemmas.{loaded_same, loaded_decides}
 
 -- the decision over what is loaded is that over all of the team's submissions
@@ -41,10 +41,10 @@ number_fits x f team valid same there =
 
 -- what comes of a decision over what is loaded
 pub deciding_is : (x : ContestState) (f : FixedPart) (now team : ℕ) (w : WantedSubmission) (items slice : List Submission) (r d : Decision Submission) → x.fixed ≡ f
-    → items ≡ loaded_for w.key (submissions_of team x.submissions) → slice ≡ items → r ≡ submit f now team slice w → r ≡ d → deciding now team w x ≡ decided x.fixed team (submissions_of team x.submissions) d
-deciding_is x f now team w items slice r d same are seen is come =
+    → items ≡ loaded_for w.key (submissions_of team x.submissions) → slice ≡ items → r ≡ submit f now team slice w → r ≡ d → submission_outcome now team w x ≡ decision_outcome x.fixed team (submissions_of team x.submissions) d
+deciding_is x f now team w items slice r d same are seen is wish_outcome =
     let over : r ≡ submit f now team items w = is ∙ ap (λ ss. submit f now team ss w) seen in
-    ap (decided x.fixed team (submissions_of team x.submissions)) (decision_is x f now team w items r same are over ∙ come)
+    ap (decision_outcome x.fixed team (submissions_of team x.submissions)) (decision_is x f now team w items r same are over ∙ wish_outcome)
 
 -- the file of a submission isn't in its value
 own_unfiled : (f : FixedPart) (team : ℕ) (s : Submission) → own_submission f team (without_file s) ≡ own_submission f team s
@@ -53,17 +53,17 @@ own_unfiled f team s =
     ≡ submission_data f s.team s.number s.time s.problem s.language (if b then Some (record { file = s.file; entry_point = s.entry_point }) else None) = elim [ true ↦ refl | false ↦ refl ] in
     go (knows_all_of (audience.Team (team + 1)) s.team)
 
-repeating_unfiled : (f : FixedPart) (team : ℕ) (o : Option Submission) → repeating f team (option_map without_file o) ≡ repeating f team o
+repeating_unfiled : (f : FixedPart) (team : ℕ) (o : Option Submission) → repeat_outcome f team (option_map without_file o) ≡ repeat_outcome f team o
 repeating_unfiled f team None = refl
 repeating_unfiled f team (Some s) = ap telling (own_unfiled f team s)
 
 -- the row that stands at a place is answered from what is loaded
 pub repeating_is : (x : ContestState) (f : FixedPart) (team place : ℕ) (key : Option (List ℕ)) (items slice : List Submission) (o : Option Submission) → x.fixed ≡ f
     → items ≡ loaded_for key (submissions_of team x.submissions) → slice ≡ items → o ≡ slice_get slice place
-    → repeating x.fixed team (slice_get (submissions_of team x.submissions) place) ≡ repeating f team o
+    → repeat_outcome x.fixed team (slice_get (submissions_of team x.submissions) place) ≡ repeat_outcome f team o
 repeating_is x f team place key items slice o same are seen at =
     let own = submissions_of team x.submissions in
     let rows : map without_file slice ≡ map without_file own = ap (map without_file) (seen ∙ are) ∙ loaded_same key own in
     let get : option_map without_file (slice_get own place) ≡ option_map without_file o =
     sym (slice_get-map without_file own place) ∙ (ap (λ ss. slice_get ss place) (sym rows) ∙ (slice_get-map without_file slice place ∙ ap (option_map without_file) (sym at))) in
-    sym (repeating_unfiled x.fixed team (slice_get own place)) ∙ (ap (repeating x.fixed team) get ∙ (repeating_unfiled x.fixed team o ∙ ap (λ g. repeating g team o) same))
+    sym (repeating_unfiled x.fixed team (slice_get own place)) ∙ (ap (repeat_outcome x.fixed team) get ∙ (repeating_unfiled x.fixed team o ∙ ap (λ g. repeat_outcome g team o) same))

@@ -13,11 +13,11 @@ use Rattle.contest_rules.specs.declared.decision.Decision.TheVariants.{Add, Stan
 use Rattle.contest_desk.specs.Callers.{Caller, caller_of}
 use Rattle.contest_desk.specs.Offers.{allowed_on, read_on, is_read, operation_of}
 use Rattle.contest_desk.specs.Outcomes.{Outcome}
-use Rattle.contest_desk.specs.PostSubmission.{repeating, decided}
+use Rattle.contest_desk.specs.PostSubmission.{repeat_outcome, decision_outcome}
 use Rattle.contest_desk.specs.Replies.{refused, refused_method}
 use Rattle.contest_desk.specs.Routes.{route_of}
-use Rattle.contest_desk.specs.Step.{is_here, offered, asked, wished_by, wished, outcome_of, outcome, step}
-use Rattle.contest_desk.specs.Wishes.{come}
+use Rattle.contest_desk.specs.Step.{is_here, offered, asked, wish_or_reply_by, wish_or_reply, outcome_of, outcome, step}
+use Rattle.contest_desk.specs.Wishes.{wish_outcome}
 use Rattle.contest_desk.specs.declared.wish.Wish.{Wish}
 use Rattle.contest_desk.specs.declared.wish.Wish.TheVariants.{Read, Submit}
 use Rattle.contest_desk.specs.UnseenLaws.{IsUnnoticed}
@@ -37,16 +37,16 @@ use Rattle.contest_desk.proofs.UnseenLemmas.{unseen_entries}
 abbrev IsQuiet : Outcome → Type 0
 IsQuiet o = (o.entries ≡ []) ⊎ (o.reply.status ≡ 200)
 
-repeating_quiet : (f : FixedPart) (team : ℕ) (standing : Option Submission) → IsQuiet (repeating f team standing)
+repeating_quiet : (f : FixedPart) (team : ℕ) (standing : Option Submission) → IsQuiet (repeat_outcome f team standing)
 repeating_quiet f team None = inl refl
 repeating_quiet f team (Some s) = inl refl
 
-decided_quiet : (f : FixedPart) (team : ℕ) (own : List Submission) (d : Decision Submission) → IsQuiet (decided f team own d)
+decided_quiet : (f : FixedPart) (team : ℕ) (own : List Submission) (d : Decision Submission) → IsQuiet (decision_outcome f team own d)
 decided_quiet f team own (Add s) = inr refl
 decided_quiet f team own (Stands place) = repeating_quiet f team (slice_get own place)
 decided_quiet f team own (Refused r) = inl refl
 
-come_quiet : (x : ContestState) (now : ℕ) (wish : Wish) → IsQuiet (come now wish x)
+come_quiet : (x : ContestState) (now : ℕ) (wish : Wish) → IsQuiet (wish_outcome now wish x)
 come_quiet x now (Read reading a path) = inl refl
 come_quiet x now (Submit team w) = decided_quiet x.fixed team (submissions_of team x.submissions) (submit x.fixed now team (submissions_of team x.submissions) w)
 
@@ -56,7 +56,7 @@ wished_quiet x now (Ok wish) = come_quiet x now wish
 
 pub refused_adds_nothing : (x : ContestState) (now : ℕ) (credential : Credential) (request : Request) → (step x now credential request).0.status ≢ 200 → (step x now credential request).1 ≡ x
 refused_adds_nothing x now credential request fails =
-    elim (wished_quiet x now (wished x.fixed credential request)) [
+    elim (wished_quiet x now (wish_or_reply x.fixed credential request)) [
       | inl none ↦ ap (add_all x) none
       | inr done ↦ absurd (fails done)
     ]
@@ -111,7 +111,7 @@ WishesToRead (Err reply) = Unit {0}
 WishesToRead (Ok (Read reading a path)) = Unit {0}
 WishesToRead (Ok (Submit team w)) = ⊥
 
-wished_reads : (f : FixedPart) (who : Option Caller) (request : Request) (r : Result Operation Reply) → AsksToRead r → WishesToRead (wished_by f who request r)
+wished_reads : (f : FixedPart) (who : Option Caller) (request : Request) (r : Result Operation Reply) → AsksToRead r → WishesToRead (wish_or_reply_by f who request r)
 wished_reads f who request (Err reply) h = tt
 wished_reads f None request (Ok operation) h = tt
 wished_reads f (Some who) request (Ok (ToRead reading)) h = tt
@@ -125,7 +125,7 @@ reads_add_nothing x now (Ok (Submit team w)) h = absurd h
 pub read_adds_nothing : (x : ContestState) (now : ℕ) (credential : Credential) (request : Request) → is_read request.method ≡ true → (step x now credential request).1 ≡ x
 read_adds_nothing x now credential request e =
     let contest = x.fixed.settings.head.id in
-    ap (add_all x) (reads_add_nothing x now (wished x.fixed credential request) (wished_reads x.fixed (caller_of x.fixed credential) request (asked contest request.path request.method) (asked_reads contest request.path request.method e)))
+    ap (add_all x) (reads_add_nothing x now (wish_or_reply x.fixed credential request) (wished_reads x.fixed (caller_of x.fixed credential) request (asked contest request.path request.method) (asked_reads contest request.path request.method e)))
 
 alike_as_it_was : (a : Audience) (x y : ContestState) → y ≡ x → Alike a y x
 alike_as_it_was a x y e = subst (λ z. Alike a z x) (sym e) (record { fixed = refl; teams = λ team. refl; told = λ to. refl })

@@ -20,7 +20,7 @@ use Rattle.contest_desk.specs.Offers.{allowed_on, operation_of}
 use Rattle.contest_desk.specs.Replies.{refused, refused_method}
 use Rattle.contest_desk.specs.Routes.{route_of}
 use Rattle.contest_desk.specs.Serving.{IsOrdinary}
-use Rattle.contest_desk.specs.Step.{is_here, offered, asked, or_refused, wished_by, wished}
+use Rattle.contest_desk.specs.Step.{is_here, offered, asked, or_refused, wish_or_reply_by, wish_or_reply}
 use Rattle.contest_desk.specs.SubmissionBodies.{submission_in, key_in, wanted_of, within_limit, wanted_in}
 use Rattle.contest_desk.specs.Wishes.{submit_as, submission_wish, wish_of, IsSound}
 use Rattle.contest_desk.specs.declared.offer.AllowedMethods.{AllowedMethods}
@@ -95,7 +95,7 @@ refused_known : (f : FixedPart) (o : Option Caller) (r : Result Wish Refusal) �
 refused_known f o (Err e) h = tt
 refused_known f o (Ok wish) h = h
 
-by_known : (f : FixedPart) (o : Option Caller) (request : Request) (r : Result Operation Reply) → IfSome o (λ who. IfSome (team_of who) (λ team. team < length f.settings.teams)) → IfKnown f o (wished_by f o request r)
+by_known : (f : FixedPart) (o : Option Caller) (request : Request) (r : Result Operation Reply) → IfSome o (λ who. IfSome (team_of who) (λ team. team < length f.settings.teams)) → IfKnown f o (wish_or_reply_by f o request r)
 by_known f o request (Err reply) there = tt
 by_known f None request (Ok operation) there = tt
 by_known f (Some who) request (Ok operation) there = refused_known f (Some who) (wish_of f who operation request) (wish_known f who operation request there)
@@ -104,7 +104,7 @@ known_teams : (x : ContestState) (credential : Credential) (o : Option Caller) �
 known_teams x credential None valid is = tt
 known_teams x credential (Some who) valid is = caller_there x x.fixed credential who valid refl is
 
-pub wished_known : (x : ContestState) (credential : Credential) (request : Request) → is_valid x ≡ true → IfKnown x.fixed (caller_of x.fixed credential) (wished x.fixed credential request)
+pub wished_known : (x : ContestState) (credential : Credential) (request : Request) → is_valid x ≡ true → IfKnown x.fixed (caller_of x.fixed credential) (wish_or_reply x.fixed credential request)
 wished_known x credential request valid =
     by_known x.fixed (caller_of x.fixed credential) request (asked x.fixed.settings.head.id request.path request.method) (known_teams x credential (caller_of x.fixed credential) valid refl)
 
@@ -153,23 +153,23 @@ refused_ordinary : (r : Result Wish Refusal) → OrdinaryRefusal r → OrdinaryE
 refused_ordinary (Err e) h = h
 refused_ordinary (Ok wish) h = tt
 
-by_ordinary : (f : FixedPart) (o : Option Caller) (request : Request) (r : Result Operation Reply) → OrdinaryError r → OrdinaryError (wished_by f o request r)
+by_ordinary : (f : FixedPart) (o : Option Caller) (request : Request) (r : Result Operation Reply) → OrdinaryError r → OrdinaryError (wish_or_reply_by f o request r)
 by_ordinary f o request (Err reply) h = h
 by_ordinary f None request (Ok operation) h = refl
 by_ordinary f (Some who) request (Ok operation) h = refused_ordinary (wish_of f who operation request) (wish_ordinary f who operation request)
 
-pub wished_ordinary : (f : FixedPart) (credential : Credential) (request : Request) → OrdinaryError (wished f credential request)
+pub wished_ordinary : (f : FixedPart) (credential : Credential) (request : Request) → OrdinaryError (wish_or_reply f credential request)
 wished_ordinary f credential request = by_ordinary f (caller_of f credential) request (asked f.settings.head.id request.path request.method) (asked_ordinary f.settings.head.id request.path request.method)
 
 -- a caller who is known, an operation that is offered and a body that is read make the wish
 pub wished_is : (f : FixedPart) (credential : Credential) (request : Request) (who : Caller) (operation : Operation) (wish : Wish) → caller_of f credential ≡ Some who
-    → asked f.settings.head.id request.path request.method ≡ Ok operation → wish_of f who operation request ≡ Ok wish → Ok wish ≡ wished f credential request
+    → asked f.settings.head.id request.path request.method ≡ Ok operation → wish_of f who operation request ≡ Ok wish → Ok wish ≡ wish_or_reply f credential request
 wished_is f credential request who operation wish calls asks wishes =
-    sym (ap (λ o. wished_by f o request (asked f.settings.head.id request.path request.method)) calls ∙ (ap (wished_by f (Some who) request) asks ∙ ap or_refused wishes))
+    sym (ap (λ o. wish_or_reply_by f o request (asked f.settings.head.id request.path request.method)) calls ∙ (ap (wish_or_reply_by f (Some who) request) asks ∙ ap or_refused wishes))
 
 pub wished_sound : (x : ContestState) (f h : FixedPart) (credential : Credential) (request : Request) (r : Result Wish Reply) (wish : Wish) → is_valid x ≡ true → x.fixed ≡ f → f ≡ h
-    → r ≡ wished f credential request → r ≡ Ok wish → IsSound h wish
+    → r ≡ wish_or_reply f credential request → r ≡ Ok wish → IsSound h wish
 wished_sound x f h credential request r wish valid same again asks is =
     let known : IfKnown {E = Reply} f (caller_of f credential) (Ok wish) =
-    subst (λ (q : Result Wish Reply). IfKnown f (caller_of f credential) q) (sym asks ∙ is) (subst (λ g. IfKnown g (caller_of g credential) (wished g credential request)) same (wished_known x credential request valid)) in
+    subst (λ (q : Result Wish Reply). IfKnown f (caller_of f credential) q) (sym asks ∙ is) (subst (λ g. IfKnown g (caller_of g credential) (wish_or_reply g credential request)) same (wished_known x credential request valid)) in
     subst (λ g. IsSound g wish) again known.sound

@@ -7,7 +7,7 @@ use Rattle.contest_types.specs.declared.audience.Audience.{Audience}
 use Rattle.contest_types.specs.declared.audience.Audience.TheVariants as audience
 use Rattle.contest_desk.specs.Callers.{caller_of, audience_of}
 use Rattle.contest_desk.specs.Outcomes.{Outcome}
-use Rattle.contest_desk.specs.PostSubmission.{deciding}
+use Rattle.contest_desk.specs.PostSubmission.{submission_outcome}
 use Rattle.contest_desk.specs.Readings.{read}
 use Rattle.contest_desk.specs.Serving.{IsStoreReply}
 use Rattle.contest_desk.specs.Step.{step}
@@ -37,7 +37,7 @@ ReadsAlike =
 abbrev pub PostsAlike : Type 0
 PostsAlike =
     (now team : ℕ) (wanted : WantedSubmission) (x y : ContestState) → is_valid x ≡ true → is_valid y ≡ true → IsSound x.fixed (Submit team wanted)
-    → Alike (audience.Team (team + 1)) x y → StayAlike (audience.Team (team + 1)) x y (deciding now team wanted x) (deciding now team wanted y)
+    → Alike (audience.Team (team + 1)) x y → StayAlike (audience.Team (team + 1)) x y (submission_outcome now team wanted x) (submission_outcome now team wanted y)
 
 -- until the thaw, valid contests that are alike for a caller answer each of its requests alike, and are
 -- alike for it afterwards

@@ -20,15 +20,15 @@ abbrev pub own_submission : FixedPart → (team : ℕ) → Submission → Data
 own_submission f team s = submission_data f s.team s.number s.time s.problem s.language (program_for (audience.Team (team + 1)) s)
 
 -- the submission that stands at a place is answered again
-abbrev pub repeating : FixedPart → (team : ℕ) → Option Submission → Outcome
-repeating f team None = refusing NotFound
-repeating f team (Some s) = telling (own_submission f team s)
+abbrev pub repeat_outcome : FixedPart → (team : ℕ) → Option Submission → Outcome
+repeat_outcome f team None = refusing NotFound
+repeat_outcome f team (Some s) = telling (own_submission f team s)
 
-abbrev pub decided : FixedPart → (team : ℕ) → List Submission → Decision Submission → Outcome
-decided f team own (Add s) = adding (NewSubmission s) (own_submission f team s)
-decided f team own (Stands place) = repeating f team (slice_get own place)
-decided f team own (Refused refusal) = refusing refusal
+abbrev pub decision_outcome : FixedPart → (team : ℕ) → List Submission → Decision Submission → Outcome
+decision_outcome f team own (Add s) = adding (NewSubmission s) (own_submission f team s)
+decision_outcome f team own (Stands place) = repeat_outcome f team (slice_get own place)
+decision_outcome f team own (Refused refusal) = refusing refusal
 
 -- what becomes of what the team at a place asks for
-abbrev pub deciding : (now team : ℕ) → WantedSubmission → ContestState → Outcome
-deciding now team wanted x = let own = submissions_of team x.submissions in decided x.fixed team own (submit x.fixed now team own wanted)
+abbrev pub submission_outcome : (now team : ℕ) → WantedSubmission → ContestState → Outcome
+submission_outcome now team wanted x = let own = submissions_of team x.submissions in decision_outcome x.fixed team own (submit x.fixed now team own wanted)

@@ -11,7 +11,7 @@ use Rattle.contest_desk.specs.Paths.{contest_piece}
 use Rattle.contest_desk.specs.Offers.{is_of_contest, allowed_on, operation_of}
 use Rattle.contest_desk.specs.Callers.{Caller, caller_of}
 use Rattle.contest_desk.specs.Outcomes.{Outcome, replying}
-use Rattle.contest_desk.specs.Wishes.{wish_of, come, takes_memory}
+use Rattle.contest_desk.specs.Wishes.{wish_of, wish_outcome, takes_memory}
 use Rattle.contest_desk.specs.declared.offer.AllowedMethods.{AllowedMethods}
 use Rattle.contest_desk.specs.declared.offer.Operation.{Operation}
 use Rattle.contest_desk.specs.declared.reply.Reply.{Reply}
@@ -41,14 +41,14 @@ abbrev pub or_refused : Result Wish Refusal → Result Wish Reply
 or_refused (Err refusal) = Err (refused refusal)
 or_refused (Ok wish) = Ok wish
 
-abbrev pub wished_by : FixedPart → Option Caller → Request → Result Operation Reply → Result Wish Reply
-wished_by f who request (Err reply) = Err reply
-wished_by f None request (Ok operation) = Err (refused UnknownToken)
-wished_by f (Some who) request (Ok operation) = or_refused (wish_of f who operation request)
+abbrev pub wish_or_reply_by : FixedPart → Option Caller → Request → Result Operation Reply → Result Wish Reply
+wish_or_reply_by f who request (Err reply) = Err reply
+wish_or_reply_by f None request (Ok operation) = Err (refused UnknownToken)
+wish_or_reply_by f (Some who) request (Ok operation) = or_refused (wish_of f who operation request)
 
 -- what a request wishes, or the reply that refuses it, of the fixed part alone
-abbrev pub wished : FixedPart → Credential → Request → Result Wish Reply
-wished f credential request = wished_by f (caller_of f credential) request (asked f.settings.head.id request.path request.method)
+abbrev pub wish_or_reply : FixedPart → Credential → Request → Result Wish Reply
+wish_or_reply f credential request = wish_or_reply_by f (caller_of f credential) request (asked f.settings.head.id request.path request.method)
 
 abbrev pub takes_memory_by : Option Caller → Result Operation Reply → Bool
 takes_memory_by who (Err reply) = false
@@ -61,11 +61,11 @@ may_take_memory f credential request = takes_memory_by (caller_of f credential) 
 
 abbrev pub outcome_of : ContestState → (now : ℕ) → Result Wish Reply → Outcome
 outcome_of x now (Err reply) = replying reply
-outcome_of x now (Ok wish) = come now wish x
+outcome_of x now (Ok wish) = wish_outcome now wish x
 
 -- what a request comes to at a moment
 abbrev pub outcome : ContestState → (now : ℕ) → Credential → Request → Outcome
-outcome x now credential request = outcome_of x now (wished x.fixed credential request)
+outcome x now credential request = outcome_of x now (wish_or_reply x.fixed credential request)
 
 -- the reply, and the contest afterwards: as it was, unless something is added
 abbrev pub step : ContestState → (now : ℕ) → Credential → Request → Reply × ContestState

@@ -13,7 +13,7 @@ use Rattle.contest_store.specs.Lists.{loaded}
 use Rattle.contest_desk.specs.Callers.{Caller, audience_of, team_of}
 use Rattle.contest_desk.specs.Outcomes.{Outcome, replying}
 use Rattle.contest_desk.specs.OwnSubmissions.{keyed_row}
-use Rattle.contest_desk.specs.PostSubmission.{deciding}
+use Rattle.contest_desk.specs.PostSubmission.{submission_outcome}
 use Rattle.contest_desk.specs.Readings.{read}
 use Rattle.contest_desk.specs.SubmissionBodies.{wanted_in}
 use Rattle.contest_desk.specs.declared.offer.Operation.{Operation}
@@ -37,9 +37,9 @@ wish_of f who (ToRead reading) request = Ok (Read reading (audience_of who) requ
 wish_of f who PostSubmission request = submission_wish f (team_of who) request
 
 -- what a wish comes to at a moment
-abbrev pub come : (now : ℕ) → Wish → ContestState → Outcome
-come now (Read reading a path) x = replying (read a now x reading path)
-come now (Submit team wanted) x = deciding now team wanted x
+abbrev pub wish_outcome : (now : ℕ) → Wish → ContestState → Outcome
+wish_outcome now (Read reading a path) x = replying (read a now x reading path)
+wish_outcome now (Submit team wanted) x = submission_outcome now team wanted x
 
 -- what is known of a wish once it is read
 abbrev pub IsSound : FixedPart → Wish → Type 0

@@ -7,7 +7,7 @@ ghost use Rattle.contest_types.specs.Valid.{is_valid};
 ghost use Rattle.contest_store.specs.Lists.{loaded};
 ghost use Rattle.contest_desk.specs.Readings.{read, told};
 ghost use Rattle.contest_desk.specs.Serving.{IsOrdinary};
-ghost use Rattle.contest_desk.specs.Wishes.{IsSound, come, file_for, file_needed};
+ghost use Rattle.contest_desk.specs.Wishes.{IsSound, wish_outcome, file_for, file_needed};
 
 use crate::Reply;
 use crate::offer::Reading;
@@ -46,7 +46,7 @@ pub fn answer(
     wish: Wish,
     file: Option<Rows<u8>>,
 ) -> Result<Outcome, AllocError>
-    ensures come { (x : ContestState) → is_valid x ≡ true → lists.now ≡ loaded x → IsSound x.fixed wish → file ≡ file_for wish x → IfOk result (λ o. o ≡ come now wish x) }
+    ensures outcome { (x : ContestState) → is_valid x ≡ true → lists.now ≡ loaded x → IsSound x.fixed wish → file ≡ file_for wish x → IfOk result (λ o. o ≡ wish_outcome now wish x) }
     ensures ordinary { IfOk result (λ o. IsOrdinary o.reply) }
 {
     match wish {

@@ -6,7 +6,7 @@ ghost use Rattle.contest_types.specs.Valid.{is_valid};
 ghost use Rattle.contest_desk.specs.Callers.{team_of};
 ghost use Rattle.contest_desk.specs.Routes.{routes};
 ghost use Rattle.contest_desk.specs.Serving.{IsOrdinary};
-ghost use Rattle.contest_desk.specs.Step.{may_take_memory, wished};
+ghost use Rattle.contest_desk.specs.Step.{may_take_memory, wish_or_reply};
 ghost use Rattle.contest_desk.specs.Wishes.{submission_wish, takes_memory, wish_of};
 
 use crate::asked::asked;
@@ -32,7 +32,7 @@ pub fn ask(
     request: Request,
 ) -> Result<Result<Wish, Reply>, AllocError>
     requires { table.now ≡ routes }
-    ensures wished { (x : ContestState) → is_valid x ≡ true → x.fixed ≡ fixed.now → IfOk result (λ wish. wish ≡ wished fixed.now credential.now request) }
+    ensures wish { (x : ContestState) → is_valid x ≡ true → x.fixed ≡ fixed.now → IfOk result (λ wish. wish ≡ wish_or_reply fixed.now credential.now request) }
     ensures ordinary { IfOk result (λ wish. IfErr wish IsOrdinary) }
     ensures memory { OnErr result (may_take_memory fixed.now credential.now request ≡ true) }
 {

@@ -70,9 +70,8 @@ impl<S: ContestStore> Desk<S> {
     ///
     /// The reply and the contest afterwards are what one step of the machine gives; where the store
     /// fails or a growth is refused the reply says so and, while the store is open, the contest is as
-    /// before. Until the thaw
-    /// the reply is the same over every contest that is alike for the caller. Want of memory never
-    /// shuts the store.
+    /// before. Want of memory never shuts the store. Until the thaw the reply is the same over every
+    /// contest that is alike for the caller.
     pub fn handle(
         &mut self,
         alloc: Global,

@@ -1,6 +1,7 @@
 //! Requests handled one after another.
-ghost use Rattle.std.specs.Prelude.{◌≡◌, All, Option, IfOk, IsTrue, OnErr};
+ghost use Rattle.std.specs.Prelude.{◌≡◌, ◌≤◌, ◌⊎◌, All, Option, IfOk, IsTrue, OnErr};
 ghost use Rattle.contest_types.specs.State.{ContestState};
+ghost use Rattle.contest_types.specs.Streams.{Failed};
 ghost use Rattle.contest_desk.specs.Runs.{CountsReplies, LeavesAfter, RunsTo};
 ghost use Rattle.contest_desk.specs.Serving.{IsStoreReply};
 
@@ -36,6 +37,8 @@ impl<S: ContestStore> Desk<S> {
         ensures faults { IfOk result (λ replies. CountsReplies replies.items (S.kept self.old).faults (S.kept self.new).faults) }
         ensures clean { (S.kept self.new).is_clean → (S.kept self.old).is_clean }
         ensures up { (S.kept self.new).is_clean → IsTrue (S.kept self.new).is_open → IsTrue (S.kept self.old).is_open }
+        ensures shuts { (S.kept self.new).is_clean → IsTrue (S.kept self.old).is_open → IsTrue (S.kept self.new).is_open ⊎ Failed (S.kept self.old).troubles (S.kept self.new).troubles }
+        ensures troubles { (S.kept self.old).troubles ≤ (S.kept self.new).troubles }
         ensures early { OnErr result (self.new ≡ self.old) }
     {
         let mut replies = Vec::with_capacity(alloc, items.len())?;

@@ -5,7 +5,7 @@ ghost use Rattle.contest_store.specs.Keeping.{Reads};
 ghost use Rattle.contest_desk.specs.Routes.{routes};
 ghost use Rattle.contest_desk.specs.Serving.{IsOrdinary, IsReady, IsSettled, Serves};
 ghost use Rattle.contest_desk.specs.Step.{may_take_memory, outcome};
-ghost use Rattle.contest_desk.specs.Wishes.{IsSound, come, file_at};
+ghost use Rattle.contest_desk.specs.Wishes.{IsSound, wish_outcome, file_at};
 
 use crate::answer::{answer, file_needed};
 use crate::ask::ask;
@@ -55,9 +55,9 @@ fn carry_out<S: ContestStore>(
     requires loaded { IsTrue (S.kept store.old).is_loaded }
     requires ready { (S.kept store.old).is_clean → IsReady (S.kept store.old) }
     requires sound { (S.kept store.old).is_clean → IsSound (S.kept store.old).contest.fixed wish }
-    ensures reply { (S.kept store.new).is_clean → IfOk result (λ reply. reply ≡ (come now wish (S.kept store.old).contest).reply) }
+    ensures reply { (S.kept store.new).is_clean → IfOk result (λ reply. reply ≡ (wish_outcome now wish (S.kept store.old).contest).reply) }
     ensures ordinary { IfOk result IsOrdinary }
-    ensures leaves { Serves result (S.kept store.old) (S.kept store.new) (come now wish) (Unit {0}) }
+    ensures leaves { Serves result (S.kept store.old) (S.kept store.new) (wish_outcome now wish) (Unit {0}) }
 {
     let needed = file_needed(&wish, store.lists());
     let file = file_at(alloc, store, needed)?;

@@ -5,7 +5,7 @@ ghost use Rattle.contest_types.specs.Valid.{is_valid};
 ghost use Rattle.contest_types.specs.declared.entry.Entry.TheVariants.{NewSubmission};
 ghost use Rattle.contest_store.specs.Lists.{loaded};
 ghost use Rattle.contest_desk.specs.Outcomes.{adding};
-ghost use Rattle.contest_desk.specs.PostSubmission.{deciding, own_submission, repeating};
+ghost use Rattle.contest_desk.specs.PostSubmission.{submission_outcome, own_submission, repeat_outcome};
 ghost use Rattle.contest_desk.specs.Replies.{answer};
 ghost use Rattle.contest_desk.specs.Serving.{IsOrdinary};
 ghost use Rattle.contest_desk.specs.Wishes.{file_for};
@@ -34,8 +34,8 @@ pub fn submit(
     wanted: WantedSubmission,
     file: Option<Rows<u8>>,
 ) -> Result<Outcome, AllocError>
-    ensures come { (x : ContestState) → is_valid x ≡ true → lists.now ≡ loaded x → team < length x.fixed.settings.teams → file ≡ file_for (Submit team wanted) x
-        → IfOk result (λ o. o ≡ deciding now team wanted x) }
+    ensures outcome { (x : ContestState) → is_valid x ≡ true → lists.now ≡ loaded x → team < length x.fixed.settings.teams → file ≡ file_for (Submit team wanted) x
+        → IfOk result (λ o. o ≡ submission_outcome now team wanted x) }
     ensures ordinary { IfOk result (λ o. IsOrdinary o.reply) }
 {
     let fixed = lists.fixed();
@@ -61,7 +61,7 @@ fn repeat(
     standing: Option<&Submission>,
 ) -> Result<Outcome, AllocError>
     ensures ordinary { IfOk result (λ o. IsOrdinary o.reply) }
-    ensures come { team + 1 < 2 ^ 64 → IfOk result (λ o. o ≡ repeating fixed.now team (option_map (λ s. s.now) standing.entry)) }
+    ensures outcome { team + 1 < 2 ^ 64 → IfOk result (λ o. o ≡ repeat_outcome fixed.now team (option_map (λ s. s.now) standing.entry)) }
 {
     match standing {
         Some(submission) => {
@@ -80,7 +80,7 @@ fn accept(
     submission: Submission,
 ) -> Result<Outcome, AllocError>
     ensures ordinary { IfOk result (λ o. IsOrdinary o.reply) }
-    ensures come { team + 1 < 2 ^ 64 → IfOk result (λ o. o ≡ adding (NewSubmission submission) (own_submission fixed.now team submission)) }
+    ensures outcome { team + 1 < 2 ^ 64 → IfOk result (λ o. o ≡ adding (NewSubmission submission) (own_submission fixed.now team submission)) }
 {
     let reply = own_reply(alloc, fixed, team, &submission)?;
     Outcome::adding(alloc, Entry::NewSubmission(submission), reply)

@@ -9,11 +9,11 @@ use Rattle.contest_store.specs.declared.store_error.StoreError.{StoreError}
 use Rattle.contest_store.specs.declared.store_error.StoreError.TheVariants.{Fault, Memory}
 
 -- a failure is seen over more calls
-failed_then : (old mid new : ℕ) → Failed old mid → mid ≤ new → Failed old new
+pub failed_then : (old mid new : ℕ) → Failed old mid → mid ≤ new → Failed old new
 failed_then old mid new (inl more) rises = inl (omega (arith, more, rises))
 failed_then old mid new (inr most) rises = inr (omega (arith, most, rises))
 
-then_failed : (old mid new : ℕ) → old ≤ mid → Failed mid new → Failed old new
+pub then_failed : (old mid new : ℕ) → old ≤ mid → Failed mid new → Failed old new
 then_failed old mid new rises (inl more) = inl (omega (arith, more, rises))
 then_failed old mid new rises (inr most) = inr most
 

@@ -10,6 +10,10 @@ use std::alloc::{AllocError, Global};
 /// A row that can be copied.
 pub trait CopyRow {
     /// The same row again.
+    ///
+    /// # Errors
+    ///
+    /// Want of memory alone.
     fn copied(&self, alloc: Global) -> Result<Self, AllocError>
         ensures { IfOk result (λ row. row ≡ self.now) };
 }

@@ -13,7 +13,9 @@ use std::alloc::{AllocError, Global};
 use std::marker::Model;
 use std::rc::Rc;
 
-/// A contest in memory. A call can be made to fail, to see what its callers do then.
+/// A contest in memory, with all its rows; changes of the settings, the accounts and the marks it
+/// doesn't keep, and answers with a fault. A call can be made to fail, to see what its callers do
+/// then.
 #[derive(Drop)]
 pub struct MemoryStore {
     // with their files

@@ -4,8 +4,8 @@ use Rattle.contest_desk.proofs.CallerLemmas.{caller_there, caller_fits}
 use Rattle.contest_desk.proofs.WishLemmas.{wished_is}
 use Rattle.contest_desk.proofs.ask.ask.Goals as goal
 
-pub returns-in-Ok-wish_of-clause-wished : goal.returns-in-Ok-wish_of-clause-wished
-returns-in-Ok-wish_of-clause-wished c = λ x valid same.
+pub returns-in-Ok-wish_of-clause-wish : goal.returns-in-Ok-wish_of-clause-wish
+returns-in-Ok-wish_of-clause-wish c = λ x valid same.
     let f = c.args.fixed.now in
     let calls = sym c.caller_of.ensures ∙ c.in-Some.is in
     let fits = caller_fits x f (team_of c.in-Some.caller) valid same (caller_there x f c.args.credential.now c.in-Some.caller valid same calls) in

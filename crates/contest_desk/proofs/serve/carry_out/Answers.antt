@@ -14,5 +14,5 @@ keep-requires-clause-addable g c = λ clean.
     let x = (g.S.ContestStore.kept c.args.store.now).contest in
     let same = (c.in_ok-file.ensures.leaves.ok clean).now_is in
     let filed = c.in_ok-file.ensures.value clean ∙ ap (file_at x) (c.file_needed-needed.ensures ∙ ap (file_needed c.args.wish) (c.lists.ensures before)) in
-    let comes = c.in_ok-outcome.ensures.come x ready.valid (c.lists-2.ensures clean ∙ ap loaded same) sound filed in
+    let comes = c.in_ok-outcome.ensures.outcome x ready.valid (c.lists-2.ensures clean ∙ ap loaded same) sound filed in
     ap (λ y. are_addable y c.in_ok-outcome.outcome.entries) same ∙ (ap (λ (o : Outcome). are_addable x o.entries) comes ∙ come_addable x c.args.now c.args.wish ready.valid sound)

@@ -11,4 +11,4 @@ carry_out-requires-clause-sound g c = λ clean.
     let settled = c.requires.settled (c.load.ensures.leaves.clean clean) (c.load.ensures.leaves.up clean shows.up) in
     let now = c.fixed.ensures ∙ ap (λ (x : ContestState). x.fixed) (c.lists.ensures clean) in
     let same = sym (now ∙ ap (λ (x : ContestState). x.fixed) shows.now_is) in
-    wished_sound old.contest c.fixed.result.now mid.contest.fixed c.args.credential.now c.args.request c.in_ok-wish.field-0 c.in-Ok.wish settled.1 same now (c.in_ok-wish.ensures.wished old.contest settled.1 same) c.in-Ok.is
+    wished_sound old.contest c.fixed.result.now mid.contest.fixed c.args.credential.now c.args.request c.in_ok-wish.field-0 c.in-Ok.wish settled.1 same now (c.in_ok-wish.ensures.wish old.contest settled.1 same) c.in-Ok.is

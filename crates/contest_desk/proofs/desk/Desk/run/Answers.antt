@@ -1,4 +1,5 @@
-use Rattle.std.proofs.Common.{◌≡◌, [], subst, sym, refl, ◌++◌, ◌∷◌, rules}
+use Rattle.std.proofs.Common.{◌≡◌, [], subst, sym, refl, ◌++◌, ◌∷◌, inl, inr, arith, rules}
+use Rattle.contest_store.proofs.LeaveLemmas.{failed_then, then_failed}
 use Rattle.contest_desk.proofs.RunLemmas.{Handles, begins, handled, ends, leaves_at_end, open_after, counts_more}
 use Rattle.contest_desk.specs.Runs.{CountsReplies}
 use Rattle.contest_desk.proofs.desk.Desk.run.Goals as goal
@@ -10,6 +11,8 @@ loop-item-init g c = record {
   faults = subst (λ rs. CountsReplies rs (g.S.ContestStore.kept c.args.self.now).faults (g.S.ContestStore.kept c.args.self.now).faults) (let e : c.in_ok-replies.replies.items ≡ [] = search rules in sym e) refl;
   clean = λ clean. clean;
   up = λ clean opened. opened;
+  shuts = λ clean opened. inl opened;
+  troubles = omega arith;
   room = search rules;
 }
 
@@ -34,6 +37,11 @@ loop-item-preserved g c =
           (counts_more c.loop-item.replies.items c.handle-reply.result _ _ _ c.loop-item.invariant.faults (c.handle-reply.ensures.fault, c.handle-reply.ensures.no_fault));
       clean = λ clean. c.loop-item.invariant.clean (c.handle-reply.ensures.clean clean);
       up = λ clean opened. c.loop-item.invariant.up (c.handle-reply.ensures.clean clean) (c.handle-reply.ensures.up clean opened);
+      shuts = λ clean opened. elim (c.loop-item.invariant.shuts (c.handle-reply.ensures.clean clean) opened) [
+        | inl still ↦ elim (c.handle-reply.ensures.shuts clean still) [ inl now_open ↦ inl now_open | inr failed ↦ inr (then_failed _ _ _ c.loop-item.invariant.troubles failed) ]
+        | inr failed ↦ inr (failed_then _ _ _ failed c.handle-reply.ensures.troubles)
+      ];
+      troubles = let a = c.loop-item.invariant.troubles in let b = c.handle-reply.ensures.troubles in omega (arith, a, b);
       room = search rules;
     }
 

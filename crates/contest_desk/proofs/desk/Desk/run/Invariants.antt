@@ -1,5 +1,6 @@
 use Rattle.std.proofs.Common.{◌+◌, ◌≤◌, length, vec_len, vec_capacity}
-use Rattle.std.specs.Prelude.{All, IsTrue}
+use Rattle.std.specs.Prelude.{◌⊎◌, All, IsTrue}
+use Rattle.contest_types.specs.Streams.{Failed}
 use Rattle.contest_desk.specs.Serving.{IsStoreReply}
 use Rattle.contest_desk.specs.Runs.{CountsReplies}
 use Rattle.contest_desk.proofs.RunLemmas.{GoesOn}
@@ -12,5 +13,7 @@ invariant-loop-item g l = record {
   faults : CountsReplies l.replies.items (g.S.ContestStore.kept l.fn.self).faults (g.S.ContestStore.kept l.self).faults;
   clean : (g.S.ContestStore.kept l.self).is_clean → (g.S.ContestStore.kept l.fn.self).is_clean;
   up : (g.S.ContestStore.kept l.self).is_clean → IsTrue (g.S.ContestStore.kept l.self).is_open → IsTrue (g.S.ContestStore.kept l.fn.self).is_open;
+  shuts : (g.S.ContestStore.kept l.self).is_clean → IsTrue (g.S.ContestStore.kept l.fn.self).is_open → IsTrue (g.S.ContestStore.kept l.self).is_open ⊎ Failed (g.S.ContestStore.kept l.fn.self).troubles (g.S.ContestStore.kept l.self).troubles;
+  troubles : (g.S.ContestStore.kept l.fn.self).troubles ≤ (g.S.ContestStore.kept l.self).troubles;
   room : vec_len l.replies + length l.item-iterator.rest.items ≤ vec_capacity l.replies;
 }
