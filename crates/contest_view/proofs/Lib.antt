@@ -1,5 +1,6 @@
 pub mod ObjectLemmas
 pub mod CollectionLemmas
+pub mod SettingsObjectLemmas
 pub mod KeyPlaces
 pub mod Sorting
 pub mod SeenApart

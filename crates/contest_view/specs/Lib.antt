@@ -1,6 +1,7 @@
 pub mod Objects
 pub mod Members
 pub mod Items
+pub mod SettingsObjects
 pub mod Reads
 pub mod Keys
 pub mod StateObject

@@ -4,6 +4,7 @@
 mod collection;
 pub mod laws;
 mod members;
+mod settings_objects;
 mod submission_id;
 mod submission_object;
 mod submission_order;
@@ -12,6 +13,7 @@ mod visibility;
 
 pub use collection::{Collection, array_value, value_by_id};
 pub use contest_types::{Audience, Phase, phase};
+pub use settings_objects::{Groups, JudgementTypes, Languages, Problems, Teams};
 pub use submission_object::submission_value;
 pub use submissions::{submission_by_id, submissions_value};
 pub use visibility::{seen_verdict, sees_submission};

@@ -1,0 +1,48 @@
+-- The rows of a contest's settings as they are served (Contest API 2023-06, the objects of these names; which
+-- members each has is this desk's choice).
+use Rattle.std.specs.Prelude.{ℕ, List, [], codes, map, slice_get}
+use Rattle.std.specs.Option.{option_map_or}
+use Rattle.serde_json.specs.Data.{array, boolean, number, unsigned, string, object, member, no_members}
+use Rattle.serde_json.specs.View.{items_of}
+use Rattle.contest_types.specs.Setup.{Setup}
+use Rattle.contest_types.specs.declared.objects.Group.{Group}
+use Rattle.contest_types.specs.declared.objects.JudgementType.{JudgementType}
+use Rattle.contest_types.specs.declared.objects.Language.{Language}
+use Rattle.contest_types.specs.declared.objects.Problem.{Problem}
+use Rattle.contest_types.specs.declared.objects.Team.{Team}
+use Rattle.contest_view.specs.Items.{Item}
+
+abbrev pub type_item : JudgementType → Item
+type_item t = record {
+  id = t.id;
+  object = object (member (codes "id") (string t.id) (member (codes "name") (string t.name)
+      (member (codes "penalty") (boolean t.penalty) (member (codes "solved") (boolean t.solved) no_members))));
+}
+
+abbrev pub language_item : Language → Item
+language_item l = record {
+  id = l.id;
+  object = object (member (codes "entry_point_required") (boolean l.entry_point_required) (member (codes "id") (string l.id)
+      (member (codes "name") (string l.name) no_members)));
+}
+
+abbrev pub problem_item : Problem → Item
+problem_item p = record {
+  id = p.id;
+  object = object (member (codes "id") (string p.id) (member (codes "label") (string p.label)
+      (member (codes "name") (string p.name) (member (codes "ordinal") (number (unsigned p.ordinal)) no_members))));
+}
+
+abbrev pub group_item : Group → Item
+group_item g = record { id = g.id; object = object (member (codes "id") (string g.id) (member (codes "name") (string g.name) no_members)) }
+
+abbrev pub group_id_at : Setup → ℕ → List ℕ
+group_id_at s place = option_map_or (λ (g : Group). g.id) (slice_get s.groups place) []
+
+-- a team, with the ids of its groups as they were given
+abbrev pub team_item : Setup → Team → Item
+team_item s t = record {
+  id = t.id;
+  object = object (member (codes "group_ids") (array (items_of (map (λ g. string (group_id_at s g)) t.groups))) (member (codes "hidden") (boolean t.hidden)
+      (member (codes "id") (string t.id) (member (codes "name") (string t.name) no_members))));
+}

@@ -1,0 +1,181 @@
+//! The rows of a contest's settings as they are served: everybody is served all of them alike.
+ghost use Rattle.std.specs.Prelude.{◌≡◌, IfOk, map};
+ghost use Rattle.serde_json.specs.Data.{string};
+ghost use Rattle.serde_json.specs.View.{view};
+ghost use Rattle.contest_view.specs.SettingsObjects.{group_id_at, team_item};
+
+use crate::collection::Collection;
+use contest_types::{Group, JudgementType, Language, Problem, Settings, Team};
+use serde_json::{Value, json};
+use std::alloc::{AllocError, Global};
+
+/// Judgement types (Contest API 2023-06, judgement-types): `id`, `name`, `penalty` and `solved`.
+#[derive(Clone, Copy, Debug)]
+pub struct JudgementTypes;
+
+impl Collection for JudgementTypes {
+    ghost use Rattle.std.specs.Prelude.{true};
+    ghost use Rattle.contest_view.specs.SettingsObjects.{type_item};
+
+    type Row = JudgementType;
+
+    ghost sees = { λ c row. true };
+
+    ghost item = { λ c. type_item };
+
+    fn sees(&self, _row: &JudgementType) -> bool {
+        true
+    }
+
+    fn has_id(&self, row: &JudgementType, id: &[u8]) -> bool {
+        row.id.as_bytes() == id
+    }
+
+    fn object(&self, alloc: Global, row: &JudgementType) -> Result<Value, AllocError> {
+        let (id, name) = (row.id.as_str(), row.name.as_str());
+        json!(in alloc; {"id": id, "name": name, "penalty": row.penalty, "solved": row.solved})
+    }
+}
+
+/// Languages (Contest API 2023-06, languages): `entry_point_required`, `id` and `name`.
+#[derive(Clone, Copy, Debug)]
+pub struct Languages;
+
+impl Collection for Languages {
+    ghost use Rattle.std.specs.Prelude.{true};
+    ghost use Rattle.contest_view.specs.SettingsObjects.{language_item};
+
+    type Row = Language;
+
+    ghost sees = { λ c row. true };
+
+    ghost item = { λ c. language_item };
+
+    fn sees(&self, _row: &Language) -> bool {
+        true
+    }
+
+    fn has_id(&self, row: &Language, id: &[u8]) -> bool {
+        row.id.as_bytes() == id
+    }
+
+    fn object(&self, alloc: Global, row: &Language) -> Result<Value, AllocError> {
+        let (id, name) = (row.id.as_str(), row.name.as_str());
+        json!(in alloc; {"entry_point_required": row.entry_point_required, "id": id, "name": name})
+    }
+}
+
+/// Problems (Contest API 2023-06, problems): `id`, `label`, `name` and `ordinal`.
+#[derive(Clone, Copy, Debug)]
+pub struct Problems;
+
+impl Collection for Problems {
+    ghost use Rattle.std.specs.Prelude.{true};
+    ghost use Rattle.contest_view.specs.SettingsObjects.{problem_item};
+
+    type Row = Problem;
+
+    ghost sees = { λ c row. true };
+
+    ghost item = { λ c. problem_item };
+
+    fn sees(&self, _row: &Problem) -> bool {
+        true
+    }
+
+    fn has_id(&self, row: &Problem, id: &[u8]) -> bool {
+        row.id.as_bytes() == id
+    }
+
+    fn object(&self, alloc: Global, row: &Problem) -> Result<Value, AllocError> {
+        let (id, name) = (row.id.as_str(), row.name.as_str());
+        let label = row.label.as_str();
+        json!(in alloc; {"id": id, "label": label, "name": name, "ordinal": row.ordinal})
+    }
+}
+
+/// Groups (Contest API 2023-06, groups): `id` and `name`.
+#[derive(Clone, Copy, Debug)]
+pub struct Groups;
+
+impl Collection for Groups {
+    ghost use Rattle.std.specs.Prelude.{true};
+    ghost use Rattle.contest_view.specs.SettingsObjects.{group_item};
+
+    type Row = Group;
+
+    ghost sees = { λ c row. true };
+
+    ghost item = { λ c. group_item };
+
+    fn sees(&self, _row: &Group) -> bool {
+        true
+    }
+
+    fn has_id(&self, row: &Group, id: &[u8]) -> bool {
+        row.id.as_bytes() == id
+    }
+
+    fn object(&self, alloc: Global, row: &Group) -> Result<Value, AllocError> {
+        let (id, name) = (row.id.as_str(), row.name.as_str());
+        json!(in alloc; {"id": id, "name": name})
+    }
+}
+
+/// Teams (Contest API 2023-06, teams), hidden ones too: `group_ids`, `hidden`, `id` and `name`.
+#[derive(Clone, Copy)]
+pub struct Teams<'a> {
+    pub settings: &'a Settings,
+}
+
+impl<'a> Collection for Teams<'a> {
+    ghost use Rattle.std.specs.Prelude.{true};
+    ghost use Rattle.contest_view.specs.SettingsObjects.{team_item};
+
+    type Row = Team;
+
+    ghost sees = { λ c row. true };
+
+    ghost item = { λ c. team_item c.settings.now };
+
+    fn sees(&self, _row: &Team) -> bool {
+        true
+    }
+
+    fn has_id(&self, row: &Team, id: &[u8]) -> bool {
+        row.id.as_bytes() == id
+    }
+
+    #[tactic(auto, using(crate::proofs::SettingsObjectLemmas::team_has_none))]
+    fn object(&self, alloc: Global, row: &Team) -> Result<Value, AllocError> {
+        team_value(alloc, self.settings, row)
+    }
+}
+
+fn team_value(alloc: Global, settings: &Settings, row: &Team) -> Result<Value, AllocError>
+    ensures { IfOk result (λ v. view v ≡ (team_item settings.now row.now).object) }
+{
+    let groups = Value::Array(group_ids(alloc, settings, row.groups.as_slice())?);
+    let (id, name) = (row.id.as_str(), row.name.as_str());
+    json!(in alloc; {"group_ids": groups, "hidden": row.hidden, "id": id, "name": name})
+}
+
+// The ids of the groups at these places.
+fn group_ids(alloc: Global, settings: &Settings, groups: &[usize]) -> Result<Vec<Value>, AllocError>
+    ensures { IfOk result (λ v. map view v.items ≡ map (λ g. string (group_id_at settings.now g)) groups.now) }
+{
+    let mut ids = Vec::new(alloc);
+    for group in groups {
+        ids.push(Value::try_from_str(alloc, group_id(settings, *group))?)?;
+    }
+    Ok(ids)
+}
+
+fn group_id(settings: &Settings, place: usize) -> &str
+    ensures { result.now ≡ group_id_at settings.now place }
+{
+    match settings.groups().get(place) {
+        Some(group) => group.id.as_str(),
+        None => "",
+    }
+}
