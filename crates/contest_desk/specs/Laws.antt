@@ -1,10 +1,10 @@
 -- What holds of every step, in the subject's words. Each is the contract of a function of src/laws.rt.
 use Rattle.std.specs.Prelude.{◌≡◌, ◌+◌, ℕ, true, List, IfSome}
 use Rattle.contest_types.specs.Alike.{Alike, MayBeHeld}
+use Rattle.contest_types.specs.Masks.{audience_at}
 use Rattle.contest_types.specs.State.{FixedPart, ContestState, add_all}
 use Rattle.contest_types.specs.Valid.{is_valid}
 use Rattle.contest_types.specs.declared.audience.Audience.{Audience}
-use Rattle.contest_types.specs.declared.audience.Audience.TheVariants as audience
 use Rattle.contest_desk.specs.Callers.{caller_of, audience_of}
 use Rattle.contest_desk.specs.Outcomes.{Outcome}
 use Rattle.contest_desk.specs.PostSubmission.{submission_outcome}
@@ -37,7 +37,7 @@ ReadsAlike =
 abbrev pub PostsAlike : Type 0
 PostsAlike =
     (now team : ℕ) (wanted : WantedSubmission) (x y : ContestState) → is_valid x ≡ true → is_valid y ≡ true → IsSound x.fixed (Submit team wanted)
-    → Alike (audience.Team (team + 1)) x y → StayAlike (audience.Team (team + 1)) x y (submission_outcome now team wanted x) (submission_outcome now team wanted y)
+    → Alike (audience_at team) x y → StayAlike (audience_at team) x y (submission_outcome now team wanted x) (submission_outcome now team wanted y)
 
 -- until the thaw, valid contests that are alike for a caller answer each of its requests alike, and are
 -- alike for it afterwards

@@ -2,10 +2,10 @@
 -- own submissions, and of nothing else.
 use Rattle.std.specs.Prelude.{ℕ, ◌+◌, List, Option, Some, None, slice_get}
 use Rattle.serde_json.specs.Data.{Data}
+use Rattle.contest_types.specs.Masks.{audience_at}
 use Rattle.contest_types.specs.State.{FixedPart, ContestState, submissions_of}
 use Rattle.contest_types.specs.declared.entry.Entry.TheVariants.{NewSubmission}
 use Rattle.contest_types.specs.Sight.{program_for}
-use Rattle.contest_types.specs.declared.audience.Audience.TheVariants as audience
 use Rattle.contest_types.specs.declared.refusal.Refusal.TheVariants.{NotFound}
 use Rattle.contest_types.specs.declared.submission.Submission.{Submission}
 use Rattle.contest_view.specs.Objects.{submission_data}
@@ -17,7 +17,7 @@ use Rattle.contest_desk.specs.Outcomes.{Outcome, refusing, telling, adding}
 
 -- a submission as its own team sees it
 abbrev pub own_submission : FixedPart → (team : ℕ) → Submission → Data
-own_submission f team s = submission_data f s.team s.number s.time s.problem s.language (program_for (audience.Team (team + 1)) s)
+own_submission f team s = submission_data f s.team s.number s.time s.problem s.language (program_for (audience_at team) s)
 
 -- the submission that stands at a place is answered again
 abbrev pub repeat_outcome : FixedPart → (team : ℕ) → Option Submission → Outcome
