@@ -15,7 +15,7 @@ const PIECE: usize = 65_536;
 const RETRIES: u32 = 1_000;
 
 /// Why a stream wasn't read to its end.
-#[derive(Clone, Copy, Debug, PartialEq, Eq)]
+#[derive(Clone, Copy, PartialEq, Eq)]
 pub(crate) enum InputFault {
     /// A read failed, or was interrupted once too often.
     File,

@@ -7,7 +7,7 @@ use contest_types::Counted;
 use std::io::Write;
 
 /// A stream that took not all of the bytes, or couldn't be flushed.
-#[derive(Clone, Copy, Debug, PartialEq, Eq)]
+#[derive(Clone, Copy, PartialEq, Eq)]
 pub(crate) struct OutputFault;
 
 /// Writes all the bytes, by calls of `write` alone, and flushes. An error of any kind, also an

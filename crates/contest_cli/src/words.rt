@@ -10,7 +10,7 @@ use clap::{Arg, ArgAction, ArgMatches, Command, Error};
 use std::alloc::{AllocError, Global};
 
 /// What the words of `replay` ask for.
-#[derive(Clone, Copy, Debug)]
+#[derive(Clone, Copy)]
 pub(crate) struct Options<'a> {
     /// The jury's board, in place of the public's.
     pub(crate) jury: bool,

@@ -5,7 +5,7 @@ ghost use Rattle.contest_desk.specs.Offers.{allowed_on, is_of_contest, methods_t
 use crate::{Method, Route};
 
 /// What a request asks for.
-#[derive(Clone, Copy, Debug, PartialEq, Eq)]
+#[derive(Clone, Copy, PartialEq, Eq)]
 pub enum Operation {
     /// To read.
     Read(Reading),
@@ -14,7 +14,7 @@ pub enum Operation {
 }
 
 /// What is read.
-#[derive(Clone, Copy, Debug, PartialEq, Eq)]
+#[derive(Clone, Copy, PartialEq, Eq)]
 pub enum Reading {
     /// The submissions that the caller sees.
     Submissions,
@@ -23,7 +23,7 @@ pub enum Reading {
 }
 
 /// The methods of a route, as an `Allow` field lists them.
-#[derive(Clone, Copy, Debug, PartialEq, Eq)]
+#[derive(Clone, Copy, PartialEq, Eq)]
 pub enum AllowedMethods {
     /// `GET, HEAD`.
     Get,

@@ -8,7 +8,7 @@ use contest_types::Refusal;
 use std::marker::Model;
 
 /// The media type of a body.
-#[derive(Clone, Copy, Debug, PartialEq, Eq)]
+#[derive(Clone, Copy, PartialEq, Eq)]
 pub enum ContentType {
     /// `application/json`.
     Json,
@@ -17,7 +17,7 @@ pub enum ContentType {
 }
 
 /// The one field of a reply that only some have.
-#[derive(Clone, Copy, Debug, PartialEq, Eq)]
+#[derive(Clone, Copy, PartialEq, Eq)]
 pub enum ExtraField {
     /// None of them.
     Nothing,
@@ -28,12 +28,12 @@ pub enum ExtraField {
 }
 
 /// The bytes of a reply. Contracts see them.
-#[derive(Debug, Drop)]
+#[derive(Drop)]
 pub struct ReplyBody {
     content: Content,
 }
 
-#[derive(Debug, Drop)]
+#[derive(Drop)]
 enum Content {
     // of a refusal, so that want of memory can be told without memory
     Fixed(&'static str),
@@ -78,7 +78,7 @@ impl ReplyBody {
 }
 
 /// A reply.
-#[derive(Debug, Drop)]
+#[derive(Drop)]
 pub struct Reply {
     /// Its HTTP status.
     pub status: u16,

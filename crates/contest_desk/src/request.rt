@@ -2,7 +2,7 @@
 use contest_types::{Id, Rows};
 
 /// The method of a request (RFC 9110, section 9), as far as the desk tells them apart.
-#[derive(Clone, Copy, Debug, PartialEq, Eq)]
+#[derive(Clone, Copy, PartialEq, Eq)]
 pub enum Method {
     /// `GET`.
     Get,
@@ -17,7 +17,7 @@ pub enum Method {
 }
 
 /// The field `Idempotency-Key` of a request.
-#[derive(Debug, Drop)]
+#[derive(Drop)]
 pub enum KeyField {
     /// There is none.
     Absent,
@@ -28,7 +28,7 @@ pub enum KeyField {
 }
 
 /// A request.
-#[derive(Debug, Drop)]
+#[derive(Drop)]
 pub struct Request {
     /// Its method.
     pub method: Method,
@@ -41,7 +41,7 @@ pub struct Request {
 }
 
 /// What the field `Authorization` of a request gives (RFC 6750, section 2.1).
-#[derive(Debug, Drop)]
+#[derive(Drop)]
 pub enum Credential {
     /// There is none: the caller is the public.
     Absent,

@@ -1,7 +1,7 @@
 //! The routes of the desk.
 
 /// Which kind of path a request's path is. `<c>` is the contest's id.
-#[derive(Clone, Copy, Debug, PartialEq, Eq)]
+#[derive(Clone, Copy, PartialEq, Eq)]
 pub enum Route {
     /// `/contests`
     Contests,

@@ -11,7 +11,7 @@ use contest_types::Moment;
 use std::alloc::{AllocError, Global};
 
 /// A request at its moment, with who asks.
-#[derive(Debug, Drop)]
+#[derive(Drop)]
 pub struct Item {
     /// The moment.
     pub now: Moment,

@@ -7,7 +7,7 @@ use std::alloc::Global;
 use std::test::Fail;
 
 /// A row of a contest's settings.
-#[derive(Clone, Copy, Debug)]
+#[derive(Clone, Copy)]
 pub enum SettingRow {
     /// Its id, which is its name as well, whether it solves, and whether it is penalised.
     Type(&'static str, bool, bool),

@@ -2,7 +2,7 @@
 use contest_types::Refusal;
 
 /// What a command comes to.
-#[derive(Debug, Drop)]
+#[derive(Drop)]
 pub enum Decision<T> {
     /// A row is added.
     Add(T),

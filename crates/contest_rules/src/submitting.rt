@@ -8,7 +8,7 @@ use contest_types::limits::TEAM_SUBMISSIONS;
 use contest_types::{Fixed, Id, Moment, Name, Phase, Refusal, Rows, Submission, phase};
 
 /// What a team asks for when it submits (Contest API 2023-06, submissions).
-#[derive(Debug, Drop)]
+#[derive(Drop)]
 pub struct WantedSubmission {
     /// The id of the problem.
     pub problem: Id,

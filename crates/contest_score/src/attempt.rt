@@ -2,7 +2,7 @@
 use contest_types::Moment;
 
 /// What a judgement type means to scoring (Contest API 2023-06, judgement-types).
-#[derive(Clone, Copy, Debug, PartialEq, Eq)]
+#[derive(Clone, Copy, PartialEq, Eq)]
 pub struct Verdict {
     /// Whether it solves the problem.
     pub solving: bool,
@@ -11,7 +11,7 @@ pub struct Verdict {
 }
 
 /// One attempt, with the verdict that the caller sees, if any.
-#[derive(Clone, Copy, Debug, PartialEq, Eq)]
+#[derive(Clone, Copy, PartialEq, Eq)]
 pub struct Attempt {
     /// When it counts as submitted.
     pub time: Moment,

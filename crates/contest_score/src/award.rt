@@ -6,7 +6,7 @@ use std::alloc::{AllocError, Global};
 use std::marker::Model;
 
 /// The id or the citation of an award. Contracts see its bytes.
-#[derive(Debug, Drop)]
+#[derive(Drop)]
 pub struct AwardText {
     text: String,
 }
@@ -47,7 +47,7 @@ impl AwardText {
 }
 
 /// An award (Contest API 2023-06, awards).
-#[derive(Debug, Drop)]
+#[derive(Drop)]
 pub struct Award {
     /// Its id, such as `winner` or `first-to-solve-a`. With a problem's or a group's id in it, it may
     /// be longer than the 36 characters of an id.

@@ -10,7 +10,7 @@ use contest_types::{Minute, Moment};
 
 /// What one team's attempts at one problem come to (Contest API 2023-06, scoreboard). An attempt
 /// counts where no earlier one is seen as solving.
-#[derive(Clone, Copy, Debug, PartialEq, Eq)]
+#[derive(Clone, Copy, PartialEq, Eq)]
 pub struct Cell {
     /// Counted attempts with a verdict.
     pub judged: u32,

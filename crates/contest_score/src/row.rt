@@ -10,7 +10,7 @@ use contest_types::Moment;
 use std::marker::Model;
 
 /// A team's cells, one for each problem. Contracts see the list of them.
-#[derive(Debug, Drop)]
+#[derive(Drop)]
 pub struct CellRow {
     cells: Vec<Cell>,
 }
@@ -51,7 +51,7 @@ impl CellRow {
 }
 
 /// One team's row on the board (Contest API 2023-06, scoreboard).
-#[derive(Debug, Drop)]
+#[derive(Drop)]
 pub struct Row {
     /// The place of the team in the settings, from 0.
     pub team: usize,

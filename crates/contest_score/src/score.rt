@@ -7,7 +7,7 @@ use crate::cell::Cell;
 use contest_types::Minute;
 
 /// How a team stands (Contest API 2023-06, scoreboard).
-#[derive(Clone, Copy, Debug, PartialEq, Eq)]
+#[derive(Clone, Copy, PartialEq, Eq)]
 pub struct Score {
     /// Problems solved.
     pub solved: u32,

@@ -5,7 +5,7 @@ use crate::row::Row;
 use std::marker::Model;
 
 /// The rows of a board, the first team first. Contracts see the list of them.
-#[derive(Debug, Drop)]
+#[derive(Drop)]
 pub struct Board {
     rows: Vec<Row>,
 }

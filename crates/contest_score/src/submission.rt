@@ -7,7 +7,7 @@ use contest_types::{Marks, Moment, Settings};
 
 /// A submission with the last verdict that was released on it. Team, problem and judgement type go
 /// by their places in the settings, from 0.
-#[derive(Clone, Copy, Debug, PartialEq, Eq)]
+#[derive(Clone, Copy, PartialEq, Eq)]
 pub struct JudgedSubmission {
     /// The place of its team.
     pub team: u32,

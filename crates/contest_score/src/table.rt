@@ -11,7 +11,7 @@ use contest_types::Moment;
 use std::marker::Model;
 
 /// The cells of each team, in plain lists. Contracts see the lists.
-#[derive(Debug, Drop)]
+#[derive(Drop)]
 pub struct PlainCells {
     rows: Vec<CellRow>,
 }

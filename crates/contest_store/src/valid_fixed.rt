@@ -50,9 +50,12 @@ fn has_valid_accounts(fixed: &Fixed) -> bool
 fn are_valid_accounts(settings: &Settings, accounts: &[Account]) -> bool
     ensures { result ≡ list_all (is_valid_account settings.now) accounts.now }
 {
-    accounts
-        .iter()
-        .all(|account| is_valid_account(settings, account))
+    for account in accounts {
+        if !is_valid_account(settings, account) {
+            return false;
+        }
+    }
+    true
 }
 
 fn is_valid_account(settings: &Settings, account: &Account) -> bool

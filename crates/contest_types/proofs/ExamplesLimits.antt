@@ -1,7 +1,8 @@
 -- Worked examples: each limit of a list reached, and passed.
 use Rattle.std.proofs.Common.{◌≡◌, ℕ, true, false, List, [], ◌∷◌, length, map, refl, None}
-use Rattle.std.specs.Prelude.{codes, count_by, Ok, Err}
-use Rattle.std.specs.List.{range_with_len}
+use Rattle.std.specs.Prelude.{◌&&◌, codes, count_by, nat_le, Ok, Err}
+use Rattle.std.specs.List.{list_all, range_with_len}
+use Rattle.std.proofs.lemmas.Bool.{and_right}
 use Rattle.contest_types.specs.Setup.{Setup}
 use Rattle.contest_types.specs.Accounts.{account_addition}
 use Rattle.contest_types.specs.SetupAdditions.{type_addition, language_addition, problem_addition, group_addition, team_addition}
@@ -9,11 +10,12 @@ use Rattle.contest_types.specs.State.{ContestState}
 use Rattle.contest_types.specs.ValidFixed.{has_valid_settings}
 use Rattle.contest_types.specs.ValidSubmissions.{is_valid_submission, are_valid_submissions, are_valid_proposals}
 use Rattle.contest_types.specs.ValidClarifications.{are_valid_clarifications}
-use Rattle.contest_types.specs.ValidRejudgings.{is_valid_rejudging}
+use Rattle.contest_types.specs.ValidRejudgings.{are_different_members, is_valid_member, is_valid_rejudging}
 use Rattle.contest_types.specs.Addable.{is_next_submission, is_next_proposal, is_next_clarification, is_next_rejudging}
 use Rattle.contest_types.specs.declared.account.Account.{Account}
 use Rattle.contest_types.specs.declared.account.Role.TheVariants as role
 use Rattle.contest_types.specs.declared.clarification.Clarification.{Clarification}
+use Rattle.contest_types.specs.declared.limits.TheConstants.{REJUDGING_MEMBERS}
 use Rattle.contest_types.specs.declared.objects.JudgementType.{JudgementType}
 use Rattle.contest_types.specs.declared.objects.Language.{Language}
 use Rattle.contest_types.specs.declared.objects.Problem.{Problem}
@@ -214,8 +216,8 @@ with_releases n = record empty { submissions = rows a_submission n; releases = r
 abbrev with_members : ℕ → Rejudging
 with_members n = record { reason = codes "limits"; state = state.Open; members = rows a_member n }
 
-members_within : is_valid_rejudging (with_releases 501) (with_members 500) ≡ true
+members_within : is_valid_rejudging (with_releases 500) (with_members 500) ≡ true
 members_within = refl
 
-members_past : is_valid_rejudging (with_releases 501) (with_members 501) ≡ false
-members_past = refl
+members_past : (x : ContestState) (r : Rejudging) → length r.members ≡ 501 → is_valid_rejudging x r ≡ false
+members_past x r is = and_right (list_all (is_valid_member x) r.members && are_different_members r.members) (nat_le (length r.members) REJUDGING_MEMBERS) (rw is refl)

@@ -3,7 +3,7 @@ use crate::{Digest, Id};
 
 /// What an account is for (Contest Control System Requirements, "Users and Roles"; DOMjudge manual,
 /// "Users").
-#[derive(Clone, Copy, Debug, PartialEq, Eq)]
+#[derive(Clone, Copy, PartialEq, Eq)]
 pub enum Role {
     /// It speaks for the team at this place in the settings, from 0.
     Team(usize),
@@ -14,7 +14,7 @@ pub enum Role {
 }
 
 /// An account. Its token is known by its digest alone.
-#[derive(Debug, Drop)]
+#[derive(Drop)]
 pub struct Account {
     /// Its id.
     pub id: Id,

@@ -1,7 +1,7 @@
 //! Who looks at a contest, and in which phase it is.
 
 /// Who looks at a contest.
-#[derive(Clone, Copy, Debug, PartialEq, Eq)]
+#[derive(Clone, Copy, PartialEq, Eq)]
 pub enum Audience {
     /// Anyone.
     Public,
@@ -12,7 +12,7 @@ pub enum Audience {
 }
 
 /// Where a contest stands at a moment.
-#[derive(Clone, Copy, Debug, PartialEq, Eq)]
+#[derive(Clone, Copy, PartialEq, Eq)]
 pub enum Phase {
     /// The start is unset or still to come.
     Before,

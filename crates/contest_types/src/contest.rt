@@ -3,7 +3,7 @@ use crate::{Id, Moment, Name, TimeSpan};
 
 /// The head of a contest: all of its contest object but the marks of the clock (Contest API 2023-06,
 /// contest object).
-#[derive(Debug, PartialEq, Eq, Drop)]
+#[derive(PartialEq, Eq, Drop)]
 pub struct ContestHead {
     /// Its id, which stands in every path.
     pub id: Id,
@@ -23,7 +23,7 @@ pub struct ContestHead {
 }
 
 /// How many ranks win each kind of medal, at most 100 each.
-#[derive(Clone, Copy, Debug, PartialEq, Eq)]
+#[derive(Clone, Copy, PartialEq, Eq)]
 pub struct Medals {
     /// Ranks with a gold medal.
     pub gold: u32,
@@ -34,7 +34,7 @@ pub struct Medals {
 }
 
 /// A contest as it is set up: its head and its start, if that is set.
-#[derive(Debug, PartialEq, Eq, Drop)]
+#[derive(PartialEq, Eq, Drop)]
 pub struct Contest {
     /// All but the clock.
     pub head: ContestHead,

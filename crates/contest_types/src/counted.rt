@@ -10,7 +10,7 @@ use std::marker::Model;
 
 /// A reader or a writer, with the number of its calls that failed. So a caller can be held to say
 /// "the stream failed" only where it did. The count stays at `u64::MAX` once it is there.
-#[derive(Debug, Drop)]
+#[derive(Drop)]
 pub struct Counted<T> {
     inner: T,
     faults: u64,

@@ -4,7 +4,7 @@ ghost use Rattle.std.specs.Prelude.{◌≡◌, length};
 use std::marker::Model;
 
 /// The SHA-256 digest of a token (FIPS 180-4): 32 bytes. Contracts see its bytes.
-#[derive(Clone, Copy, Debug)]
+#[derive(Clone, Copy)]
 pub struct Digest {
     bytes: [u8; 32],
 }

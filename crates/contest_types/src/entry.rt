@@ -5,7 +5,7 @@ use crate::{
 };
 
 /// One change of a contest: everything that a command or an import may add or set.
-#[derive(Debug, Drop)]
+#[derive(Drop)]
 pub enum Entry {
     /// A submission is accepted.
     NewSubmission(Submission),

@@ -17,7 +17,7 @@ use std::marker::Model;
 
 /// What names an object of a contest in paths, files and replies (Contest API 2023-06, ID): 1 to 36
 /// letters, digits, `_`, `.` or `-`, not beginning with `-` (own). Contracts see its bytes.
-#[derive(Clone, Debug, Drop)]
+#[derive(Clone, Drop)]
 pub struct Id {
     text: String,
 }

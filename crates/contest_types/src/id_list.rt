@@ -22,7 +22,7 @@ pub trait Identified {
 }
 
 /// What a list has under a row's id.
-#[derive(Clone, Copy, Debug, PartialEq, Eq)]
+#[derive(Clone, Copy, PartialEq, Eq)]
 pub enum IdMatch {
     /// No row has the id.
     New,

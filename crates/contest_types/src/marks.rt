@@ -2,7 +2,7 @@
 use crate::Moment;
 
 /// The moments that are set by hand (Contest API 2023-06, contest and state objects).
-#[derive(Clone, Copy, Debug, PartialEq, Eq)]
+#[derive(Clone, Copy, PartialEq, Eq)]
 pub struct Marks {
     /// The start, if it is set.
     pub start: Option<Moment>,

@@ -5,7 +5,7 @@ ghost use Rattle.contest_types.specs.Masks.{knows_all_of, mask_for, verdict_unde
 use crate::{Audience, Marks, Moment, Settings, is_frozen, is_thawed};
 
 /// Which of a team's verdicts are seen.
-#[derive(Clone, Copy, Debug, PartialEq, Eq)]
+#[derive(Clone, Copy, PartialEq, Eq)]
 pub enum Mask {
     /// Those on submissions from before the freeze.
     Held,

@@ -2,5 +2,5 @@
 
 /// Contest time in whole minutes, rounded down: the unit of scores (Contest Control System
 /// Requirements, "Scoring").
-#[derive(Clone, Copy, Debug, PartialEq, Eq, PartialOrd, Ord)]
+#[derive(Clone, Copy, PartialEq, Eq, PartialOrd, Ord)]
 pub struct Minute(pub u32);

@@ -12,7 +12,7 @@ use std::marker::Model;
 
 /// A moment: whole milliseconds since 1970-01-01T00:00:00Z, up to the end of the year 9998 (Contest
 /// API 2023-06, TIME).
-#[derive(Clone, Copy, Debug, PartialEq, Eq, PartialOrd, Ord)]
+#[derive(Clone, Copy, PartialEq, Eq, PartialOrd, Ord)]
 pub struct Moment {
     milliseconds: u64,
 }

@@ -16,7 +16,7 @@ use std::cmp::Ordering;
 use std::marker::Model;
 
 /// A name: 1 to 200 bytes of UTF-8 without control characters. Contracts see its bytes.
-#[derive(Clone, Debug, Drop)]
+#[derive(Clone, Drop)]
 pub struct Name {
     text: String,
 }

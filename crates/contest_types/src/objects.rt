@@ -3,7 +3,7 @@ use crate::id_list::Identified;
 use crate::{Id, Name, Rows};
 
 /// A judgement type (Contest API 2023-06, judgement-types).
-#[derive(Debug, PartialEq, Eq, Drop)]
+#[derive(PartialEq, Eq, Drop)]
 pub struct JudgementType {
     /// Its id, such as `AC`.
     pub id: Id,
@@ -16,7 +16,7 @@ pub struct JudgementType {
 }
 
 /// A language (Contest API 2023-06, languages).
-#[derive(Debug, PartialEq, Eq, Drop)]
+#[derive(PartialEq, Eq, Drop)]
 pub struct Language {
     /// Its id.
     pub id: Id,
@@ -27,7 +27,7 @@ pub struct Language {
 }
 
 /// A problem (Contest API 2023-06, problems).
-#[derive(Debug, PartialEq, Eq, Drop)]
+#[derive(PartialEq, Eq, Drop)]
 pub struct Problem {
     /// Its id.
     pub id: Id,
@@ -40,7 +40,7 @@ pub struct Problem {
 }
 
 /// A group of teams (Contest API 2023-06, groups).
-#[derive(Debug, PartialEq, Eq, Drop)]
+#[derive(PartialEq, Eq, Drop)]
 pub struct Group {
     /// Its id.
     pub id: Id,
@@ -49,7 +49,7 @@ pub struct Group {
 }
 
 /// A team (Contest API 2023-06, teams).
-#[derive(Debug, PartialEq, Eq, Drop)]
+#[derive(PartialEq, Eq, Drop)]
 pub struct Team {
     /// Its id.
     pub id: Id,

@@ -2,7 +2,7 @@
 use crate::{Id, Moment};
 
 /// Who proposed a verdict.
-#[derive(Debug, Drop)]
+#[derive(Drop)]
 pub enum Proposer {
     /// The account with this id.
     Account(Id),
@@ -12,7 +12,7 @@ pub enum Proposer {
 
 /// A verdict that was proposed for a submission. Until it is released nobody but the jury learns of
 /// it (DOMjudge manual, "Judging": verification).
-#[derive(Debug, Drop)]
+#[derive(Drop)]
 pub struct Proposal {
     /// The place of the submission's team, from 0.
     pub team: usize,

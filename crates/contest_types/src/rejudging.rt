@@ -2,7 +2,7 @@
 use crate::{Id, Name, Rows};
 
 /// How far a rejudging is (DOMjudge manual, "Rejudging": applied or cancelled).
-#[derive(Clone, Copy, Debug, PartialEq, Eq)]
+#[derive(Clone, Copy, PartialEq, Eq)]
 pub enum RejudgingState {
     /// Its members are being judged.
     Open,
@@ -14,7 +14,7 @@ pub enum RejudgingState {
 
 /// How far a member of a rejudging is. A judgement type goes by its place, from 0, an
 /// account by its id.
-#[derive(Debug, Drop)]
+#[derive(Drop)]
 pub enum MemberState {
     /// It has no verdict yet.
     Empty,
@@ -25,7 +25,7 @@ pub enum MemberState {
 }
 
 /// A submission in a rejudging.
-#[derive(Debug, Drop)]
+#[derive(Drop)]
 pub struct Member {
     /// The place of the submission's team, from 0.
     pub team: usize,
@@ -36,7 +36,7 @@ pub struct Member {
 }
 
 /// A rejudging. Rejudgings are numbered from 1, in the order in which they were opened.
-#[derive(Debug, Drop)]
+#[derive(Drop)]
 pub struct Rejudging {
     /// Why it was opened.
     pub reason: Name,

@@ -15,7 +15,7 @@ const HOUR: u64 = 3_600_000;
 
 /// A length of time in milliseconds, which may be below zero, spelled `(-)?(h)*h:mm:ss(.uuu)?`
 /// (Contest API 2023-06, RELTIME).
-#[derive(Clone, Copy, Debug, PartialEq, Eq, PartialOrd, Ord)]
+#[derive(Clone, Copy, PartialEq, Eq, PartialOrd, Ord)]
 pub struct RelTime {
     milliseconds: i64,
 }

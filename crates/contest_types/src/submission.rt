@@ -2,7 +2,7 @@
 use crate::{Id, Moment, Name, Rows};
 
 /// A submission. Teams, problems and languages are named by their places in the settings, from 0.
-#[derive(Debug, Drop)]
+#[derive(Drop)]
 pub struct Submission {
     /// The place of its team.
     pub team: usize,
@@ -23,7 +23,7 @@ pub struct Submission {
 }
 
 /// A verdict that was released on a submission. The last one counts.
-#[derive(Clone, Copy, Debug, PartialEq, Eq)]
+#[derive(Clone, Copy, PartialEq, Eq)]
 pub struct Release {
     /// The place of the submission's team, from 0.
     pub team: usize,

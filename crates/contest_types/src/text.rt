@@ -8,7 +8,7 @@ use std::alloc::Global;
 use std::marker::Model;
 
 /// The text of a clarification: 1 to 4,096 bytes of UTF-8. Contracts see its bytes.
-#[derive(Clone, Debug, Drop)]
+#[derive(Clone, Drop)]
 pub struct Text {
     text: String,
 }

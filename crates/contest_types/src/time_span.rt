@@ -7,7 +7,7 @@ use crate::limits::LAST_MOMENT;
 use std::marker::Model;
 
 /// A length of time in milliseconds, zero or more (Contest API 2023-06, RELTIME).
-#[derive(Clone, Copy, Debug, PartialEq, Eq, PartialOrd, Ord)]
+#[derive(Clone, Copy, PartialEq, Eq, PartialOrd, Ord)]
 pub struct TimeSpan {
     milliseconds: u64,
 }

@@ -1,5 +1,5 @@
 -- The members of a served submission stand in the order of their names.
-use Rattle.std.proofs.Common.{◌≡◌, ℕ, List, Option, Some, None, codes, refl, false}
+use Rattle.std.proofs.Common.{◌≡◌, ℕ, List, [], ◌∷◌, Option, Some, None, codes, refl, false}
 use Rattle.std.specs.Option.{option_map}
 use Rattle.serde_json.specs.Data.{Data, string, object, no_members, put}
 use Rattle.serde_json.specs.Written.{has_float}
@@ -7,14 +7,14 @@ use Rattle.contest_types.specs.State.{FixedPart}
 use Rattle.contest_types.specs.Sight.{Program}
 use Rattle.contest_types.specs.MomentText.{moment_text}
 use Rattle.contest_types.specs.TeamPlaces.{team_id_at}
-use Rattle.contest_view.specs.Members.{put_where}
+use Rattle.contest_view.specs.Members.{put_where, with_all}
 use Rattle.contest_types.specs.ProblemPlaces.{problem_id_at}
 use Rattle.contest_types.specs.VisibleIds.{submission_id}
 use Rattle.contest_view.specs.Objects.{contest_time_data, files_data, language_id_at, submission_data, submission_members}
 
 pub members_in_order : (contest_time : Data) (entry_point files : Option Data) (id language problem team : List ℕ) (time : Data)
-    → put (codes "time") time (put (codes "team_id") (string team) (put (codes "problem_id") (string problem) (put (codes "language_id") (string language) (put (codes "id") (string id)
-    (put_where files (codes "files") (put_where entry_point (codes "entry_point") (put (codes "contest_time") contest_time no_members)))))))
+    → put (codes "time") time (put_where files (codes "files") (put (codes "contest_time") contest_time
+    (with_all ((codes "entry_point", entry_point) ∷ (codes "id", Some (string id)) ∷ (codes "language_id", Some (string language)) ∷ (codes "problem_id", Some (string problem)) ∷ (codes "team_id", Some (string team)) ∷ []) no_members)))
     ≡ submission_members contest_time entry_point files id language problem team time
 members_in_order c None None id l p t time = refl
 members_in_order c None (Some f) id l p t time = refl

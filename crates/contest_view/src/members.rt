@@ -1,43 +1,84 @@
-//! The members of a JSON object, put in one by one, and values that come as texts.
-ghost use Rattle.std.specs.Prelude.{◌≡◌, ◌-ℤ◌, pos, IfOk, OnOk, option_map};
-ghost use Rattle.serde_json.specs.Data.{string, put as with_member};
+//! Objects by their members, and values that come as texts.
+ghost use Rattle.std.specs.Prelude.{◌≡◌, ◌-ℤ◌, pos, IfOk, OnOk, map, option_map};
+ghost use Rattle.serde_json.specs.Data.{no_members, object, string};
 ghost use Rattle.serde_json.specs.View.{view, members_view};
 ghost use Rattle.contest_types.specs.MomentText.{moment_text};
 ghost use Rattle.contest_types.specs.RelTimeText.{rel_time_text};
-ghost use Rattle.contest_view.specs.Members.{put_where};
+ghost use Rattle.contest_view.specs.Members.{put_where, shown, with_all};
 
 use contest_types::{Moment, RelTime, print_reltime, print_time};
 use serde_json::{Map, Value, put};
 use std::alloc::{AllocError, Global};
 
+/// What stands under a name.
+#[derive(Clone, Copy)]
+pub(crate) enum Member<'a> {
+    /// A text.
+    Text(&'a str),
+    /// A whole number.
+    Number(u64),
+    /// True or false.
+    Flag(bool),
+    /// Nothing: the object has no such name.
+    Absent,
+}
+
+/// The object with these members, each with its name.
+///
+/// # Errors
+///
+/// Want of memory alone.
+pub(crate) fn object_of(alloc: Global, members: &[(&str, Member<'_>)]) -> Result<Value, AllocError>
+    ensures { IfOk result (λ v. view v ≡ object (with_all (map (λ m. (m.0.now, shown m.1)) members.now) no_members)) }
+{
+    let mut object = Map::new(alloc);
+    put_all(&mut object, alloc, members)?;
+    Ok(Value::Object(object))
+}
+
+/// Puts these members into an object, each under its name.
+///
+/// # Errors
+///
+/// Want of memory alone.
+pub(crate) fn put_all(
+    object: &mut Map<String, Value>,
+    alloc: Global,
+    members: &[(&str, Member<'_>)],
+) -> Result<(), AllocError>
+    ensures { OnOk result (members_view object.new.entries ≡ with_all (map (λ m. (m.0.now, shown m.1)) members.now) (members_view object.old.entries)) }
+{
+    for (name, member) in members {
+        put_where(object, alloc, name, member_value(alloc, *member)?)?;
+    }
+    Ok(())
+}
+
 /// A member that is only there with a value.
 pub(crate) fn put_where(
-    members: &mut Map<String, Value>,
+    object: &mut Map<String, Value>,
     alloc: Global,
     name: &str,
     value: Option<Value>,
 ) -> Result<(), AllocError>
-    ensures { OnOk result (members_view members.new.entries
-        ≡ put_where (option_map view value) name.now (members_view members.old.entries)) }
+    ensures { OnOk result (members_view object.new.entries
+        ≡ put_where (option_map view value) name.now (members_view object.old.entries)) }
 {
     match value {
-        Some(value) => put(members, alloc, name, value),
+        Some(value) => put(object, alloc, name, value),
         None => Ok(()),
     }
 }
 
-/// A member that is a text.
-pub(crate) fn put_text(
-    members: &mut Map<String, Value>,
-    alloc: Global,
-    name: &str,
-    text: &str,
-) -> Result<(), AllocError>
-    ensures { OnOk result (members_view members.new.entries
-        ≡ with_member name.now (string text.now) (members_view members.old.entries)) }
+fn member_value(alloc: Global, member: Member<'_>) -> Result<Option<Value>, AllocError>
+    ensures { IfOk result (λ found. option_map view found ≡ shown member.entry) }
 {
-    let value = Value::try_from_str(alloc, text)?;
-    put(members, alloc, name, value)
+    match member {
+        Member::Text(text) => Ok(Some(Value::try_from_str(alloc, text)?)),
+        Member::Number(number) => Ok(Some(Value::from(number))),
+        Member::Flag(flag) => Ok(Some(Value::Bool(flag))),
+        Member::Absent => Ok(None),
+    }
 }
 
 /// The text of a moment.

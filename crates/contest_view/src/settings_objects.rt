@@ -5,12 +5,13 @@ ghost use Rattle.serde_json.specs.View.{view};
 ghost use Rattle.contest_view.specs.SettingsObjects.{group_id_at, team_item};
 
 use crate::collection::Collection;
+use crate::members::{Member, object_of, put_all};
 use contest_types::{Group, JudgementType, Language, Problem, Settings, Team};
-use serde_json::{Value, json};
+use serde_json::{Map, Value, put};
 use std::alloc::{AllocError, Global};
 
 /// Judgement types (Contest API 2023-06, judgement-types): `id`, `name`, `penalty` and `solved`.
-#[derive(Clone, Copy, Debug)]
+#[derive(Clone, Copy)]
 pub struct JudgementTypes;
 
 impl Collection for JudgementTypes {
@@ -32,13 +33,20 @@ impl Collection for JudgementTypes {
     }
 
     fn object(&self, alloc: Global, row: &JudgementType) -> Result<Value, AllocError> {
-        let (id, name) = (row.id.as_str(), row.name.as_str());
-        json!(in alloc; {"id": id, "name": name, "penalty": row.penalty, "solved": row.solved})
+        object_of(
+            alloc,
+            &[
+                ("id", Member::Text(row.id.as_str())),
+                ("name", Member::Text(row.name.as_str())),
+                ("penalty", Member::Flag(row.penalty)),
+                ("solved", Member::Flag(row.solved)),
+            ],
+        )
     }
 }
 
 /// Languages (Contest API 2023-06, languages): `entry_point_required`, `id` and `name`.
-#[derive(Clone, Copy, Debug)]
+#[derive(Clone, Copy)]
 pub struct Languages;
 
 impl Collection for Languages {
@@ -60,13 +68,22 @@ impl Collection for Languages {
     }
 
     fn object(&self, alloc: Global, row: &Language) -> Result<Value, AllocError> {
-        let (id, name) = (row.id.as_str(), row.name.as_str());
-        json!(in alloc; {"entry_point_required": row.entry_point_required, "id": id, "name": name})
+        object_of(
+            alloc,
+            &[
+                (
+                    "entry_point_required",
+                    Member::Flag(row.entry_point_required),
+                ),
+                ("id", Member::Text(row.id.as_str())),
+                ("name", Member::Text(row.name.as_str())),
+            ],
+        )
     }
 }
 
 /// Problems (Contest API 2023-06, problems): `id`, `label`, `name` and `ordinal`.
-#[derive(Clone, Copy, Debug)]
+#[derive(Clone, Copy)]
 pub struct Problems;
 
 impl Collection for Problems {
@@ -88,14 +105,20 @@ impl Collection for Problems {
     }
 
     fn object(&self, alloc: Global, row: &Problem) -> Result<Value, AllocError> {
-        let (id, name) = (row.id.as_str(), row.name.as_str());
-        let label = row.label.as_str();
-        json!(in alloc; {"id": id, "label": label, "name": name, "ordinal": row.ordinal})
+        object_of(
+            alloc,
+            &[
+                ("id", Member::Text(row.id.as_str())),
+                ("label", Member::Text(row.label.as_str())),
+                ("name", Member::Text(row.name.as_str())),
+                ("ordinal", Member::Number(u64::from(row.ordinal))),
+            ],
+        )
     }
 }
 
 /// Groups (Contest API 2023-06, groups): `id` and `name`.
-#[derive(Clone, Copy, Debug)]
+#[derive(Clone, Copy)]
 pub struct Groups;
 
 impl Collection for Groups {
@@ -117,8 +140,13 @@ impl Collection for Groups {
     }
 
     fn object(&self, alloc: Global, row: &Group) -> Result<Value, AllocError> {
-        let (id, name) = (row.id.as_str(), row.name.as_str());
-        json!(in alloc; {"id": id, "name": name})
+        object_of(
+            alloc,
+            &[
+                ("id", Member::Text(row.id.as_str())),
+                ("name", Member::Text(row.name.as_str())),
+            ],
+        )
     }
 }
 
@@ -156,8 +184,18 @@ fn team_value(alloc: Global, settings: &Settings, row: &Team) -> Result<Value, A
     ensures { IfOk result (λ v. view v ≡ (team_item settings.now row.now).object) }
 {
     let groups = Value::Array(group_ids(alloc, settings, row.groups.as_slice())?);
-    let (id, name) = (row.id.as_str(), row.name.as_str());
-    json!(in alloc; {"group_ids": groups, "hidden": row.hidden, "id": id, "name": name})
+    let mut object = Map::new(alloc);
+    put_all(
+        &mut object,
+        alloc,
+        &[
+            ("hidden", Member::Flag(row.hidden)),
+            ("id", Member::Text(row.id.as_str())),
+            ("name", Member::Text(row.name.as_str())),
+        ],
+    )?;
+    put(&mut object, alloc, "group_ids", groups)?;
+    Ok(Value::Object(object))
 }
 
 // The ids of the groups at these places.

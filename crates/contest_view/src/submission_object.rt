@@ -7,19 +7,20 @@ ghost use Rattle.contest_types.specs.Sight.{program_for};
 ghost use Rattle.contest_types.specs.TeamPlaces.{team_id_at};
 ghost use Rattle.contest_types.specs.ProblemPlaces.{problem_id_at};
 ghost use Rattle.contest_types.specs.VisibleIds.{submission_id};
+ghost use Rattle.contest_view.specs.Members.{shown as shown_as};
 ghost use Rattle.contest_view.specs.Objects.{contest_time_data, file_array, files_data, files_path, language_id_at, submission_data, submission_members};
 
-use crate::members::{moment_value, put_text, put_where, reltime_value};
+use crate::members::{Member, moment_value, put_all, put_where, reltime_value};
 use crate::submission_id::submission_id;
 use contest_types::{Audience, Fixed, Moment, Name, Settings, Submission, knows_all_of};
 use serde_json::{Map, Value, json, put};
 use std::alloc::{AllocError, Global};
 
-/// The values of a submission's members.
+/// What stands in a submission's members.
 #[derive(Drop)]
 struct Members<'a> {
     contest_time: Value,
-    entry_point: Option<Value>,
+    entry_point: Member<'a>,
     files: Option<Value>,
     id: &'a str,
     language: &'a str,
@@ -51,7 +52,7 @@ pub fn submission_value(
     let id = submission_id(submission.team, submission.number);
     let members = Members {
         contest_time: contest_time_value(alloc, fixed.marks.start, submission.time)?,
-        entry_point: entry_point_where(alloc, shown, &submission.entry_point)?,
+        entry_point: entry_point_where(shown, &submission.entry_point),
         files: files_where(alloc, shown, settings, id.as_str())?,
         id: id.as_str(),
         language: language_id(settings, submission.language),
@@ -59,25 +60,28 @@ pub fn submission_value(
         team: team_id(settings, submission.team),
         time: moment_value(alloc, submission.time)?,
     };
-    object_of(alloc, members)
+    submission_object(alloc, members)
 }
 
-/// The object with these members.
+// The object with these members.
 #[tactic(auto, using(crate::proofs::ObjectLemmas::members_in_order))]
-fn object_of(alloc: Global, shown: Members<'_>) -> Result<Value, AllocError>
-    ensures { IfOk result (λ v. view v ≡ object (submission_members (view shown.entry.contest_time) (option_map view shown.entry.entry_point)
-        (option_map view shown.entry.files) shown.entry.id.now shown.entry.language.now shown.entry.problem.now shown.entry.team.now (view shown.entry.time))) }
+fn submission_object(alloc: Global, members: Members<'_>) -> Result<Value, AllocError>
+    ensures { IfOk result (λ v. view v ≡ object (submission_members (view members.entry.contest_time) (shown_as members.entry.entry_point)
+        (option_map view members.entry.files) members.entry.id.now members.entry.language.now members.entry.problem.now members.entry.team.now (view members.entry.time))) }
 {
-    let mut members = Map::new(alloc);
-    put(&mut members, alloc, "contest_time", shown.contest_time)?;
-    put_where(&mut members, alloc, "entry_point", shown.entry_point)?;
-    put_where(&mut members, alloc, "files", shown.files)?;
-    put_text(&mut members, alloc, "id", shown.id)?;
-    put_text(&mut members, alloc, "language_id", shown.language)?;
-    put_text(&mut members, alloc, "problem_id", shown.problem)?;
-    put_text(&mut members, alloc, "team_id", shown.team)?;
-    put(&mut members, alloc, "time", shown.time)?;
-    Ok(Value::Object(members))
+    let mut object = Map::new(alloc);
+    let texts = [
+        ("entry_point", members.entry_point),
+        ("id", Member::Text(members.id)),
+        ("language_id", Member::Text(members.language)),
+        ("problem_id", Member::Text(members.problem)),
+        ("team_id", Member::Text(members.team)),
+    ];
+    put_all(&mut object, alloc, &texts)?;
+    put(&mut object, alloc, "contest_time", members.contest_time)?;
+    put_where(&mut object, alloc, "files", members.files)?;
+    put(&mut object, alloc, "time", members.time)?;
+    Ok(Value::Object(object))
 }
 
 // The time since the start.
@@ -95,19 +99,12 @@ fn contest_time_value(
 }
 
 // The entry point, where one was given and is shown.
-fn entry_point_where(
-    alloc: Global,
-    shown: bool,
-    entry_point: &Option<Name>,
-) -> Result<Option<Value>, AllocError>
-    ensures { IfOk result (λ v. option_map view v ≡ (if shown then option_map string entry_point.now else None)) }
+fn entry_point_where(shown: bool, entry_point: &Option<Name>) -> Member<'_>
+    ensures { shown_as result ≡ (if shown then option_map string entry_point.now else None) }
 {
-    if !shown {
-        return Ok(None);
-    }
     match entry_point {
-        Some(entry_point) => Ok(Some(Value::try_from_str(alloc, entry_point.as_str())?)),
-        None => Ok(None),
+        Some(entry_point) if shown => Member::Text(entry_point.as_str()),
+        _ => Member::Absent,
     }
 }
 
