@@ -3,11 +3,12 @@ use Rattle.std.proofs.Common.{◌≡◌, ◌∙◌, ◌+◌, ℕ, true, Option, 
 use Rattle.std.specs.Prelude.{IfSome}
 use Rattle.contest_types.specs.Addable.{are_addable}
 use Rattle.contest_types.specs.Alike.{Alike, MayBeHeld}
-use Rattle.contest_types.specs.State.{ContestState, add_all}
+use Rattle.contest_types.specs.State.{FixedPart, ContestState, add_all}
 use Rattle.contest_types.specs.Valid.{is_valid}
 use Rattle.contest_types.specs.declared.audience.Audience.{Audience}
 use Rattle.contest_types.specs.declared.audience.Audience.TheVariants as audience
 use Rattle.contest_types.proofs.AddEntry.{adding_all}
+use Rattle.contest_view.specs.SettingsObjects.{settings_data, setting_found}
 use Rattle.contest_view.proofs.ReadLaws.{alike_read}
 use Rattle.contest_rules.specs.Submitting.{submit}
 use Rattle.contest_rules.proofs.SubmittingLemmas.{own_alike}
@@ -19,7 +20,8 @@ use Rattle.contest_desk.specs.PostSubmission.{decision_outcome, submission_outco
 use Rattle.contest_desk.specs.Readings.{read, told}
 use Rattle.contest_desk.specs.Step.{wish_or_reply, outcome_of, outcome}
 use Rattle.contest_desk.specs.Wishes.{wish_outcome, IsSound}
-use Rattle.contest_desk.specs.declared.offer.Reading.TheVariants.{Submissions, Submission}
+use Rattle.contest_desk.specs.declared.operation.Endpoint.TheVariants.{Settings, Submissions}
+use Rattle.contest_desk.specs.declared.operation.Reading.TheVariants.{List as All, Object}
 use Rattle.contest_desk.specs.declared.reply.Reply.{Reply}
 use Rattle.contest_desk.specs.declared.wish.Wish.{Wish}
 use Rattle.contest_desk.specs.declared.wish.Wish.TheVariants.{Read, Submit}
@@ -28,8 +30,10 @@ use Rattle.contest_desk.proofs.PostAdds.{AddsAtMost, adds_addable, deciding_adds
 use Rattle.contest_desk.proofs.WishLemmas.{speaker, SpeaksFor, IfKnown, wished_known}
 
 pub reads_alike : ReadsAlike
-reads_alike a now x y Submissions path held h = ap (λ d. told (Some d)) (alike_read a now x y held h).0
-reads_alike a now x y Submission path held h = ap told ((alike_read a now x y held h).1 (object_piece path))
+reads_alike a now x y (All (Settings endpoint)) path held h = ap (λ (f : FixedPart). told (Some (settings_data endpoint f.settings))) h.fixed
+reads_alike a now x y (All Submissions) path held h = ap (λ d. told (Some d)) (alike_read a now x y held h).0
+reads_alike a now x y (Object (Settings endpoint)) path held h = ap (λ (f : FixedPart). told (setting_found endpoint f.settings (object_piece path))) h.fixed
+reads_alike a now x y (Object Submissions) path held h = ap told ((alike_read a now x y held h).1 (object_piece path))
 
 pub posts_alike : PostsAlike
 posts_alike now team wanted x y valid_x valid_y sound h =

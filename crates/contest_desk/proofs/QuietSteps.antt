@@ -1,6 +1,7 @@
 -- A step adds nothing unless it is answered as done, and nothing where it reads.
 use Rattle.std.proofs.Common.{◌≡◌, ℕ, List, [], Option, Some, None, Result, Ok, Err, refl, sym, ap, subst, inl, inr, if◌then◌else◌}
 use Rattle.std.specs.Prelude.{◌≢◌, ◌⊎◌, Bool, true, false, slice_get}
+use Rattle.std.specs.Option.{option_map}
 use Rattle.std.proofs.lemmas.Bool.{false≢true}
 use Rattle.contest_types.specs.Alike.{Alike}
 use Rattle.contest_types.specs.State.{ContestState, FixedPart, submissions_of, add_all}
@@ -11,26 +12,25 @@ use Rattle.contest_rules.specs.Submitting.{submit}
 use Rattle.contest_rules.specs.declared.decision.Decision.{Decision}
 use Rattle.contest_rules.specs.declared.decision.Decision.TheVariants.{Add, Stands, Refused}
 use Rattle.contest_desk.specs.Callers.{Caller, caller_of}
-use Rattle.contest_desk.specs.Offers.{allowed_on, read_on, is_read, operation_of}
+use Rattle.contest_desk.specs.Offers.{is_read, is_served, operation_of}
 use Rattle.contest_desk.specs.Outcomes.{Outcome}
 use Rattle.contest_desk.specs.PostSubmission.{repeat_outcome, decision_outcome}
-use Rattle.contest_desk.specs.Replies.{refused, refused_method}
-use Rattle.contest_desk.specs.Routes.{route_of}
-use Rattle.contest_desk.specs.Step.{is_here, offered, asked, wish_or_reply_by, wish_or_reply, outcome_of, outcome, step}
+use Rattle.contest_desk.specs.Replies.{refused}
+use Rattle.contest_desk.specs.Routes.{offer_at}
+use Rattle.contest_desk.specs.Step.{is_here, or_not_allowed, offered, asked_there, asked, wish_or_reply_by, wish_or_reply, outcome_of, outcome, step}
 use Rattle.contest_desk.specs.Wishes.{wish_outcome}
 use Rattle.contest_desk.specs.declared.wish.Wish.{Wish}
 use Rattle.contest_desk.specs.declared.wish.Wish.TheVariants.{Read, Submit}
 use Rattle.contest_desk.specs.UnseenLaws.{IsUnnoticed}
-use Rattle.contest_desk.specs.declared.offer.AllowedMethods.{AllowedMethods}
-use Rattle.contest_desk.specs.declared.offer.Operation.{Operation}
-use Rattle.contest_desk.specs.declared.offer.Operation.TheVariants.{Read as ToRead, PostSubmission}
+use Rattle.contest_desk.specs.declared.offer.Offer.{Offer}
+use Rattle.contest_desk.specs.declared.operation.Operation.{Operation}
+use Rattle.contest_desk.specs.declared.operation.Operation.TheVariants.{Read as ToRead, Do}
+use Rattle.contest_desk.specs.declared.operation.Reading.{Reading}
 use Rattle.contest_desk.specs.declared.reply.Reply.{Reply}
 use Rattle.contest_desk.specs.declared.request.Credential.{Credential}
 use Rattle.contest_desk.specs.declared.request.Method.{Method}
 use Rattle.contest_desk.specs.declared.request.Method.TheVariants.{Get, Head, Post, Patch, Other}
 use Rattle.contest_desk.specs.declared.request.Request.{Request}
-use Rattle.contest_desk.specs.declared.route.Route.{Route}
-use Rattle.contest_desk.specs.declared.route.Route.TheVariants.{Submissions, Submission as OneSubmission}
 use Rattle.contest_desk.proofs.UnseenLemmas.{unseen_entries}
 
 -- it adds nothing, or it is answered as done
@@ -64,7 +64,7 @@ refused_adds_nothing x now credential request fails =
 -- it asks to read, or for nothing that is there
 abbrev Reads : Operation → Type 0
 Reads (ToRead reading) = Unit {0}
-Reads PostSubmission = ⊥
+Reads (Do command) = ⊥
 
 abbrev MayRead : Option Operation → Type 0
 MayRead None = Unit {0}
@@ -74,37 +74,35 @@ abbrev AsksToRead : Result Operation Reply → Type 0
 AsksToRead (Ok operation) = Reads operation
 AsksToRead (Err reply) = Unit {0}
 
-got_reads : (route : Route) → MayRead (read_on route)
-got_reads Submissions = tt
-got_reads OneSubmission = tt
-got_reads _ = tt
+allowed_reads : (offer : Offer) (o : Option Operation) → MayRead o → AsksToRead (or_not_allowed offer o)
+allowed_reads offer None h = tt
+allowed_reads offer (Some operation) h = h
 
-allowed_reads : (allowed : AllowedMethods) (o : Option Operation) → MayRead o → AsksToRead (elim o as (λ _. Result Operation Reply) [ None ↦ Err (refused_method allowed) | (Some operation) ↦ Ok operation ])
-allowed_reads allowed None h = tt
-allowed_reads allowed (Some operation) h = h
+got_reads : (o : Option Reading) → MayRead (option_map ToRead o)
+got_reads None = tt
+got_reads (Some reading) = tt
 
-method_reads : (method : Method) (route : Route) → is_read method ≡ true → MayRead (operation_of route method)
-method_reads Get route h = got_reads route
-method_reads Head route h = got_reads route
-method_reads Post route h = absurd (false≢true h)
-method_reads Patch route h = absurd (false≢true h)
-method_reads Other route h = absurd (false≢true h)
+method_reads : (method : Method) (offer : Offer) → is_read method ≡ true → MayRead (operation_of offer method)
+method_reads Get offer h = got_reads offer.get
+method_reads Head offer h = got_reads offer.get
+method_reads Post offer h = absurd (false≢true h)
+method_reads Patch offer h = absurd (false≢true h)
+method_reads Other offer h = absurd (false≢true h)
 
-offered_reads : (method : Method) (route : Route) (o : Option AllowedMethods) → is_read method ≡ true → AsksToRead (offered method route o)
-offered_reads method route None h = tt
-offered_reads method route (Some allowed) h = allowed_reads allowed (operation_of route method) (method_reads method route h)
+served_reads : (method : Method) (offer : Offer) (b : Bool) → is_read method ≡ true → AsksToRead (if b then or_not_allowed offer (operation_of offer method) else Err (refused NotFound))
+served_reads method offer true h = allowed_reads offer (operation_of offer method) (method_reads method offer h)
+served_reads method offer false h = tt
 
-here_reads : (method : Method) (route : Route) (b : Bool) → is_read method ≡ true → AsksToRead (if b then offered method route (allowed_on route) else Err (refused NotFound))
-here_reads method route true h = offered_reads method route (allowed_on route) h
-here_reads method route false h = tt
+here_reads : (method : Method) (offer : Offer) (b : Bool) → is_read method ≡ true → AsksToRead (if b then offered method offer else Err (refused NotFound))
+here_reads method offer true h = served_reads method offer (is_served offer) h
+here_reads method offer false h = tt
 
-route_reads : (contest path : List ℕ) (method : Method) (o : Option Route) → is_read method ≡ true
-    → AsksToRead (elim o as (λ _. Result Operation Reply) [ None ↦ Err (refused NotFound) | (Some route) ↦ if is_here contest path route then offered method route (allowed_on route) else Err (refused NotFound) ])
-route_reads contest path method None h = tt
-route_reads contest path method (Some route) h = here_reads method route (is_here contest path route) h
+there_reads : (contest path : List ℕ) (method : Method) (o : Option Offer) → is_read method ≡ true → AsksToRead (asked_there contest path method o)
+there_reads contest path method None h = tt
+there_reads contest path method (Some offer) h = here_reads method offer (is_here contest path) h
 
 asked_reads : (contest path : List ℕ) (method : Method) → is_read method ≡ true → AsksToRead (asked contest path method)
-asked_reads contest path method h = route_reads contest path method (route_of path) h
+asked_reads contest path method h = there_reads contest path method (offer_at path) h
 
 abbrev WishesToRead : Result Wish Reply → Type 0
 WishesToRead (Err reply) = Unit {0}
@@ -115,7 +113,7 @@ wished_reads : (f : FixedPart) (who : Option Caller) (request : Request) (r : Re
 wished_reads f who request (Err reply) h = tt
 wished_reads f None request (Ok operation) h = tt
 wished_reads f (Some who) request (Ok (ToRead reading)) h = tt
-wished_reads f (Some who) request (Ok PostSubmission) h = absurd h
+wished_reads f (Some who) request (Ok (Do command)) h = absurd h
 
 reads_add_nothing : (x : ContestState) (now : ℕ) (r : Result Wish Reply) → WishesToRead r → (outcome_of x now r).entries ≡ []
 reads_add_nothing x now (Err reply) h = refl

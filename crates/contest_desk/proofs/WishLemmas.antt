@@ -16,21 +16,21 @@ use Rattle.contest_types.specs.declared.refusal.Refusal.{Refusal}
 use Rattle.contest_types.specs.declared.refusal.Refusal.TheVariants.{NotFound, BodyTooLarge}
 use Rattle.contest_rules.specs.declared.submitting.WantedSubmission.{WantedSubmission}
 use Rattle.contest_desk.specs.Callers.{Caller, caller_of, audience_for, audience_of, team_for, team_of}
-use Rattle.contest_desk.specs.Offers.{allowed_on, operation_of}
-use Rattle.contest_desk.specs.Replies.{refused, refused_method}
-use Rattle.contest_desk.specs.Routes.{route_of}
+use Rattle.contest_desk.specs.Offers.{is_served, operation_of}
+use Rattle.contest_desk.specs.Replies.{refused}
+use Rattle.contest_desk.specs.Routes.{offer_at}
 use Rattle.contest_desk.specs.Serving.{IsOrdinary}
-use Rattle.contest_desk.specs.Step.{is_here, offered, asked, or_refused, wish_or_reply_by, wish_or_reply}
+use Rattle.contest_desk.specs.Step.{is_here, or_not_allowed, offered, asked_there, asked, or_refused, wish_or_reply_by, wish_or_reply}
 use Rattle.contest_desk.specs.SubmissionBodies.{submission_in, key_in, wanted_of, within_limit, wanted_in}
 use Rattle.contest_desk.specs.Wishes.{submit_as, submission_wish, wish_of, IsSound}
-use Rattle.contest_desk.specs.declared.offer.AllowedMethods.{AllowedMethods}
-use Rattle.contest_desk.specs.declared.offer.Operation.{Operation}
-use Rattle.contest_desk.specs.declared.offer.Operation.TheVariants.{Read as ToRead, PostSubmission}
+use Rattle.contest_desk.specs.declared.offer.Offer.{Offer}
+use Rattle.contest_desk.specs.declared.operation.Command.TheVariants.{Submit as ToSubmit}
+use Rattle.contest_desk.specs.declared.operation.Operation.{Operation}
+use Rattle.contest_desk.specs.declared.operation.Operation.TheVariants.{Read as ToRead, Do}
 use Rattle.contest_desk.specs.declared.reply.Reply.{Reply}
 use Rattle.contest_desk.specs.declared.request.Credential.{Credential}
 use Rattle.contest_desk.specs.declared.request.Method.{Method}
 use Rattle.contest_desk.specs.declared.request.Request.{Request}
-use Rattle.contest_desk.specs.declared.route.Route.{Route}
 use Rattle.contest_desk.specs.declared.wish.Wish.{Wish}
 use Rattle.contest_desk.specs.declared.wish.Wish.TheVariants.{Read, Submit}
 use Rattle.contest_desk.proofs.CallerLemmas.{caller_there}
@@ -89,7 +89,7 @@ submission_known f who (Some team) request is there = submit_known f who team (w
 
 pub wish_known : (f : FixedPart) (who : Caller) (operation : Operation) (request : Request) → IfSome (team_of who) (λ team. team < length f.settings.teams) → IfKnown f (Some who) (wish_of f who operation request)
 wish_known f who (ToRead reading) request there = record { sound = tt; speaks = refl }
-wish_known f who PostSubmission request there = submission_known f who (team_of who) request refl there
+wish_known f who (Do ToSubmit) request there = submission_known f who (team_of who) request refl there
 
 refused_known : (f : FixedPart) (o : Option Caller) (r : Result Wish Refusal) → IfKnown f o r → IfKnown f o (or_refused r)
 refused_known f o (Err e) h = tt
@@ -117,25 +117,24 @@ abbrev pub OrdinaryRefusal : {A : Type 0} → Result A Refusal → Type 0
 OrdinaryRefusal (Ok a) = Unit {0}
 OrdinaryRefusal (Err e) = (status_of e == 503) ≡ false
 
-offered_ordinary : (route : Route) (allowed : AllowedMethods) (o : Option Operation) → OrdinaryError (elim o as (λ _. Result Operation Reply) [ None ↦ Err (refused_method allowed) | (Some operation) ↦ Ok operation ])
-offered_ordinary route allowed None = refl
-offered_ordinary route allowed (Some operation) = tt
+allowed_ordinary : (offer : Offer) (o : Option Operation) → OrdinaryError (or_not_allowed offer o)
+allowed_ordinary offer None = refl
+allowed_ordinary offer (Some operation) = tt
 
-method_ordinary : (method : Method) (route : Route) (o : Option AllowedMethods) → OrdinaryError (offered method route o)
-method_ordinary method route None = refl
-method_ordinary method route (Some allowed) = offered_ordinary route allowed (operation_of route method)
+served_ordinary : (method : Method) (offer : Offer) (b : Bool) → OrdinaryError (if b then or_not_allowed offer (operation_of offer method) else Err (refused NotFound))
+served_ordinary method offer true = allowed_ordinary offer (operation_of offer method)
+served_ordinary method offer false = refl
 
-here_ordinary : (method : Method) (route : Route) (b : Bool) → OrdinaryError (if b then offered method route (allowed_on route) else Err (refused NotFound))
-here_ordinary method route true = method_ordinary method route (allowed_on route)
-here_ordinary method route false = refl
+here_ordinary : (method : Method) (offer : Offer) (b : Bool) → OrdinaryError (if b then offered method offer else Err (refused NotFound))
+here_ordinary method offer true = served_ordinary method offer (is_served offer)
+here_ordinary method offer false = refl
 
-route_ordinary : (contest path : List ℕ) (method : Method) (o : Option Route)
-    → OrdinaryError (elim o as (λ _. Result Operation Reply) [ None ↦ Err (refused NotFound) | (Some route) ↦ if is_here contest path route then offered method route (allowed_on route) else Err (refused NotFound) ])
-route_ordinary contest path method None = refl
-route_ordinary contest path method (Some route) = here_ordinary method route (is_here contest path route)
+there_ordinary : (contest path : List ℕ) (method : Method) (o : Option Offer) → OrdinaryError (asked_there contest path method o)
+there_ordinary contest path method None = refl
+there_ordinary contest path method (Some offer) = here_ordinary method offer (is_here contest path)
 
 asked_ordinary : (contest path : List ℕ) (method : Method) → OrdinaryError (asked contest path method)
-asked_ordinary contest path method = route_ordinary contest path method (route_of path)
+asked_ordinary contest path method = there_ordinary contest path method (offer_at path)
 
 submit_ordinary : (team : ℕ) (r : Result WantedSubmission Refusal) → IsSmall r → OrdinaryRefusal (submit_as team r)
 submit_ordinary team (Err e) h = h
@@ -147,7 +146,7 @@ submission_ordinary f (Some team) request = submit_ordinary team (wanted_in (tea
 
 pub wish_ordinary : (f : FixedPart) (who : Caller) (operation : Operation) (request : Request) → OrdinaryRefusal (wish_of f who operation request)
 wish_ordinary f who (ToRead reading) request = tt
-wish_ordinary f who PostSubmission request = submission_ordinary f (team_of who) request
+wish_ordinary f who (Do ToSubmit) request = submission_ordinary f (team_of who) request
 
 refused_ordinary : (r : Result Wish Refusal) → OrdinaryRefusal r → OrdinaryError (or_refused r)
 refused_ordinary (Err e) h = h
@@ -173,3 +172,16 @@ wished_sound x f h credential request r wish valid same again asks is =
     let known : IfKnown {E = Reply} f (caller_of f credential) (Ok wish) =
     subst (λ (q : Result Wish Reply). IfKnown f (caller_of f credential) q) (sym asks ∙ is) (subst (λ g. IfKnown g (caller_of g credential) (wish_or_reply g credential request)) same (wished_known x credential request valid)) in
     subst (λ g. IsSound g wish) again known.sound
+
+pub wished_refused : (f : FixedPart) (credential : Credential) (request : Request) (who : Caller) (operation : Operation) (refusal : Refusal) → caller_of f credential ≡ Some who
+    → asked f.settings.head.id request.path request.method ≡ Ok operation → wish_of f who operation request ≡ Err refusal → Err (refused refusal) ≡ wish_or_reply f credential request
+wished_refused f credential request who operation refusal calls asks wishes =
+    sym (ap (λ o. wish_or_reply_by f o request (asked f.settings.head.id request.path request.method)) calls ∙ (ap (wish_or_reply_by f (Some who) request) asks ∙ ap or_refused wishes))
+
+-- a path or a method that is refused is refused for no failure
+pub path_ordinary : (contest path : List ℕ) (method : Method) (reply : Reply) → asked contest path method ≡ Err reply → IsOrdinary reply
+path_ordinary contest path method reply is = subst OrdinaryError is (asked_ordinary contest path method)
+
+-- nor is a wish
+pub wish_refusal_ordinary : (f : FixedPart) (who : Caller) (operation : Operation) (request : Request) (refusal : Refusal) → wish_of f who operation request ≡ Err refusal → IsOrdinary (refused refusal)
+wish_refusal_ordinary f who operation request refusal is = subst OrdinaryRefusal is (wish_ordinary f who operation request)

@@ -1,5 +1,5 @@
 -- What holds of every step, in the subject's words. Each is the contract of a function of src/laws.rt.
-use Rattle.std.specs.Prelude.{◌≡◌, ◌+◌, ℕ, true, List, IfSome}
+use Rattle.std.specs.Prelude.{◌≡◌, ℕ, true, List, IfSome}
 use Rattle.contest_types.specs.Alike.{Alike, MayBeHeld}
 use Rattle.contest_types.specs.Masks.{audience_at}
 use Rattle.contest_types.specs.State.{FixedPart, ContestState, add_all}
@@ -12,7 +12,7 @@ use Rattle.contest_desk.specs.Readings.{read}
 use Rattle.contest_desk.specs.Serving.{IsStoreReply}
 use Rattle.contest_desk.specs.Step.{step}
 use Rattle.contest_desk.specs.Wishes.{IsSound}
-use Rattle.contest_desk.specs.declared.offer.Reading.{Reading}
+use Rattle.contest_desk.specs.declared.operation.Reading.{Reading}
 use Rattle.contest_desk.specs.declared.request.Credential.{Credential}
 use Rattle.contest_desk.specs.declared.request.Method.TheVariants.{Get, Head}
 use Rattle.contest_desk.specs.declared.request.Request.{Request}

@@ -1,6 +1,6 @@
 -- The pieces of a path between its slashes (RFC 3986, section 3.3).
-use Rattle.std.specs.Prelude.{ℕ, ◌+◌, ◌==◌, Option, Some, None, List, [], take, drop}
-use Rattle.std.specs.List.{position}
+use Rattle.std.specs.Prelude.{ℕ, ◌+◌, ◌==◌, Bool, Option, Some, None, List, [], take, drop, nat_eq, codes}
+use Rattle.std.specs.List.{position, starts_with}
 
 -- the code of a slash
 abbrev pub slash : ℕ
@@ -16,6 +16,10 @@ before_slash path = elim (slash_at path) [ None ↦ path | (Some at) ↦ take at
 -- what comes after it
 abbrev pub after_slash : List ℕ → List ℕ
 after_slash path = elim (slash_at path) [ None ↦ [] | (Some at) ↦ drop (at + 1) path ]
+
+-- the path is of a contest, or of something in it
+abbrev pub is_of_contest : List ℕ → Bool
+is_of_contest path = starts_with nat_eq path (codes "/contests/")
 
 -- `/contests/<this>/..`
 abbrev pub contest_piece : List ℕ → List ℕ

@@ -1,6 +1,6 @@
 -- A team submits (Contest API 2023-06, submissions). It is a function of the fixed part and of the team's
 -- own submissions, and of nothing else.
-use Rattle.std.specs.Prelude.{ℕ, ◌+◌, List, Option, Some, None, slice_get}
+use Rattle.std.specs.Prelude.{ℕ, List, Option, Some, None, slice_get}
 use Rattle.serde_json.specs.Data.{Data}
 use Rattle.contest_types.specs.Masks.{audience_at}
 use Rattle.contest_types.specs.State.{FixedPart, ContestState, submissions_of}

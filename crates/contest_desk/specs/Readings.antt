@@ -5,11 +5,24 @@ use Rattle.contest_types.specs.State.{ContestState}
 use Rattle.contest_types.specs.declared.audience.Audience.{Audience}
 use Rattle.contest_types.specs.declared.refusal.Refusal.TheVariants.{NotFound}
 use Rattle.contest_view.specs.Reads.{submissions_data, submission_found}
+use Rattle.contest_view.specs.SettingsObjects.{settings_data, setting_found}
 use Rattle.contest_desk.specs.Paths.{object_piece}
 use Rattle.contest_desk.specs.Replies.{refused, answer}
-use Rattle.contest_desk.specs.declared.offer.Reading.{Reading}
-use Rattle.contest_desk.specs.declared.offer.Reading.TheVariants.{Submissions, Submission}
+use Rattle.contest_desk.specs.declared.operation.Endpoint.{Endpoint}
+use Rattle.contest_desk.specs.declared.operation.Endpoint.TheVariants.{Settings, Submissions}
+use Rattle.contest_desk.specs.declared.operation.Reading.{Reading}
+use Rattle.contest_desk.specs.declared.operation.Reading.TheVariants.{List as All, Object}
 use Rattle.contest_desk.specs.declared.reply.Reply.{Reply}
+
+-- the array of an endpoint's objects that an audience sees
+abbrev pub all_data : Audience → ℕ → ContestState → Endpoint → Data
+all_data a now x (Settings endpoint) = settings_data endpoint x.fixed.settings
+all_data a now x Submissions = submissions_data a now x
+
+-- the one with this id, if the audience sees one
+abbrev pub object_found : Audience → ℕ → ContestState → Endpoint → (id : List ℕ) → Option Data
+object_found a now x (Settings endpoint) id = setting_found endpoint x.fixed.settings id
+object_found a now x Submissions id = submission_found a now x id
 
 -- what isn't seen is answered as what isn't there
 abbrev pub told : Option Data → Reply
@@ -18,5 +31,5 @@ told (Some d) = answer d
 
 -- what an audience that reads a path is answered
 abbrev pub read : Audience → ℕ → ContestState → Reading → (path : List ℕ) → Reply
-read a now x Submissions path = told (Some (submissions_data a now x))
-read a now x Submission path = told (submission_found a now x (object_piece path))
+read a now x (All endpoint) path = told (Some (all_data a now x endpoint))
+read a now x (Object endpoint) path = told (object_found a now x endpoint (object_piece path))

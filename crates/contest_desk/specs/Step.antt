@@ -6,36 +6,40 @@ use Rattle.contest_types.specs.State.{FixedPart, ContestState, add_all}
 use Rattle.contest_types.specs.declared.refusal.Refusal.{Refusal}
 use Rattle.contest_types.specs.declared.refusal.Refusal.TheVariants.{NotFound, UnknownToken}
 use Rattle.contest_desk.specs.Replies.{refused, refused_method}
-use Rattle.contest_desk.specs.Routes.{route_of}
-use Rattle.contest_desk.specs.Paths.{contest_piece}
-use Rattle.contest_desk.specs.Offers.{is_of_contest, allowed_on, operation_of}
+use Rattle.contest_desk.specs.Routes.{offer_at}
+use Rattle.contest_desk.specs.Paths.{contest_piece, is_of_contest}
+use Rattle.contest_desk.specs.Offers.{is_served, methods_of, operation_of}
 use Rattle.contest_desk.specs.Callers.{Caller, caller_of}
 use Rattle.contest_desk.specs.Outcomes.{Outcome, replying}
 use Rattle.contest_desk.specs.Wishes.{wish_of, wish_outcome, takes_memory}
-use Rattle.contest_desk.specs.declared.offer.AllowedMethods.{AllowedMethods}
-use Rattle.contest_desk.specs.declared.offer.Operation.{Operation}
+use Rattle.contest_desk.specs.declared.offer.Offer.{Offer}
+use Rattle.contest_desk.specs.declared.operation.Operation.{Operation}
 use Rattle.contest_desk.specs.declared.reply.Reply.{Reply}
 use Rattle.contest_desk.specs.declared.request.Credential.{Credential}
 use Rattle.contest_desk.specs.declared.request.Method.{Method}
 use Rattle.contest_desk.specs.declared.request.Request.{Request}
-use Rattle.contest_desk.specs.declared.route.Route.{Route}
 use Rattle.contest_desk.specs.declared.wish.Wish.{Wish}
 
 -- a path of a contest names this one
-abbrev pub is_here : (contest : List ℕ) → (path : List ℕ) → Route → Bool
-is_here contest path route = not (is_of_contest route) || bytes_eq (contest_piece path) contest
+abbrev pub is_here : (contest : List ℕ) → (path : List ℕ) → Bool
+is_here contest path = not (is_of_contest path) || bytes_eq (contest_piece path) contest
 
 -- what a method asks for on a route
-abbrev pub offered : Method → Route → Option AllowedMethods → Result Operation Reply
-offered method route None = Err (refused NotFound)
-offered method route (Some allowed) = elim (operation_of route method) [ None ↦ Err (refused_method allowed) | (Some operation) ↦ Ok operation ]
+abbrev pub or_not_allowed : Offer → Option Operation → Result Operation Reply
+or_not_allowed offer None = Err (refused_method (methods_of offer))
+or_not_allowed offer (Some operation) = Ok operation
+
+abbrev pub offered : Method → Offer → Result Operation Reply
+offered method offer = if is_served offer then or_not_allowed offer (operation_of offer method) else Err (refused NotFound)
+
+-- what a method asks for on a path, by what is offered there
+abbrev pub asked_there : (contest : List ℕ) → (path : List ℕ) → Method → Option Offer → Result Operation Reply
+asked_there contest path method None = Err (refused NotFound)
+asked_there contest path method (Some offer) = if is_here contest path then offered method offer else Err (refused NotFound)
 
 -- what a request asks for, or the reply that it can't be asked for: the route first, then the method
 abbrev pub asked : (contest : List ℕ) → (path : List ℕ) → Method → Result Operation Reply
-asked contest path method = elim (route_of path) [
-  | None ↦ Err (refused NotFound)
-  | (Some route) ↦ if is_here contest path route then offered method route (allowed_on route) else Err (refused NotFound)
-]
+asked contest path method = asked_there contest path method (offer_at path)
 
 abbrev pub or_refused : Result Wish Refusal → Result Wish Reply
 or_refused (Err refusal) = Err (refused refusal)

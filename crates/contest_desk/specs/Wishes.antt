@@ -16,8 +16,9 @@ use Rattle.contest_desk.specs.OwnSubmissions.{keyed_row}
 use Rattle.contest_desk.specs.PostSubmission.{submission_outcome}
 use Rattle.contest_desk.specs.Readings.{read}
 use Rattle.contest_desk.specs.SubmissionBodies.{wanted_in}
-use Rattle.contest_desk.specs.declared.offer.Operation.{Operation}
-use Rattle.contest_desk.specs.declared.offer.Operation.TheVariants.{Read as ToRead, PostSubmission}
+use Rattle.contest_desk.specs.declared.operation.Command.TheVariants.{Submit as ToSubmit}
+use Rattle.contest_desk.specs.declared.operation.Operation.{Operation}
+use Rattle.contest_desk.specs.declared.operation.Operation.TheVariants.{Read as ToRead, Do}
 use Rattle.contest_desk.specs.declared.request.Request.{Request}
 use Rattle.contest_desk.specs.declared.wish.Wish.{Wish}
 use Rattle.contest_desk.specs.declared.wish.Wish.TheVariants.{Read, Submit}
@@ -34,7 +35,7 @@ submission_wish f (Some team) request = submit_as team (wanted_in (team_id_at f.
 -- what a caller wishes by an operation: its role first, then its body
 abbrev pub wish_of : FixedPart → Caller → Operation → Request → Result Wish Refusal
 wish_of f who (ToRead reading) request = Ok (Read reading (audience_of who) request.path)
-wish_of f who PostSubmission request = submission_wish f (team_of who) request
+wish_of f who (Do ToSubmit) request = submission_wish f (team_of who) request
 
 -- what a wish comes to at a moment
 abbrev pub wish_outcome : (now : ℕ) → Wish → ContestState → Outcome
@@ -49,7 +50,7 @@ IsSound f (Submit team wanted) = (team < length f.settings.teams) × (length wan
 -- reading the body, or building the reply, may take memory: not where the caller's role forbids it
 abbrev pub takes_memory : Caller → Operation → Bool
 takes_memory who (ToRead reading) = true
-takes_memory who PostSubmission = is_some (team_of who)
+takes_memory who (Do ToSubmit) = is_some (team_of who)
 
 -- whose file is looked at, by its team and its number: files are large, and no more than one is
 abbrev pub file_needed : Wish → ContestState → Option (ℕ × ℕ)

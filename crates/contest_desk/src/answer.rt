@@ -5,12 +5,12 @@ ghost use Rattle.serde_json.specs.Written.{has_float};
 ghost use Rattle.contest_types.specs.State.{ContestState};
 ghost use Rattle.contest_types.specs.Valid.{is_valid};
 ghost use Rattle.contest_store.specs.Lists.{loaded};
-ghost use Rattle.contest_desk.specs.Readings.{read, told};
+ghost use Rattle.contest_desk.specs.Readings.{all_data, object_found, read, told};
 ghost use Rattle.contest_desk.specs.Serving.{IsOrdinary};
 ghost use Rattle.contest_desk.specs.Wishes.{IsSound, wish_outcome, file_for, file_needed};
 
 use crate::Reply;
-use crate::offer::Reading;
+use crate::operation::{Endpoint, Reading};
 use crate::outcome::Outcome;
 use crate::own_submissions::keyed_row;
 use crate::path::object_piece;
@@ -18,7 +18,7 @@ use crate::submit::submit;
 use crate::wish::Wish;
 use contest_store::Lists;
 use contest_types::{Audience, Moment, Refusal, Rows};
-use contest_view::{submission_by_id, submissions_value};
+use contest_view::{setting_by_id, settings_value, submission_by_id, submissions_value};
 use serde_json::Value;
 use std::alloc::{AllocError, Global};
 
@@ -69,17 +69,50 @@ fn read(
     ensures read { (now : ℕ) (x : ContestState) → is_valid x ≡ true → lists.now ≡ loaded x → IfOk result (λ reply. reply ≡ read audience now x reading path.now) }
     ensures ordinary { IfOk result IsOrdinary }
 {
-    let (fixed, submissions) = (lists.fixed(), lists.submissions());
     match reading {
-        Reading::Submissions => {
-            let value = submissions_value(alloc, fixed, audience, submissions)?;
+        Reading::List(endpoint) => {
+            let value = array(alloc, lists, audience, endpoint)?;
             tell(alloc, Some(value))
         }
-        Reading::Submission => {
-            let id = object_piece(path);
-            let found = submission_by_id(alloc, fixed, audience, submissions, id)?;
+        Reading::Object(endpoint) => {
+            let found = object(alloc, lists, audience, endpoint, object_piece(path))?;
             tell(alloc, found)
         }
+    }
+}
+
+// The objects of an endpoint that an audience sees.
+fn array(
+    alloc: Global,
+    lists: &Lists,
+    audience: Audience,
+    endpoint: Endpoint,
+) -> Result<Value, AllocError>
+    ensures seen { (now : ℕ) (x : ContestState) → is_valid x ≡ true → lists.now ≡ loaded x → IfOk result (λ v. view v ≡ all_data audience now x endpoint) }
+    ensures no_floats { IfOk result (λ v. has_float (view v) ≡ false) }
+{
+    let fixed = lists.fixed();
+    match endpoint {
+        Endpoint::Settings(endpoint) => settings_value(alloc, &fixed.settings, endpoint),
+        Endpoint::Submissions => submissions_value(alloc, fixed, audience, lists.submissions()),
+    }
+}
+
+// The one with an id, if the audience sees one.
+fn object(
+    alloc: Global,
+    lists: &Lists,
+    audience: Audience,
+    endpoint: Endpoint,
+    id: &[u8],
+) -> Result<Option<Value>, AllocError>
+    ensures seen { (now : ℕ) (x : ContestState) → is_valid x ≡ true → lists.now ≡ loaded x → IfOk result (λ found. option_map view found ≡ object_found audience now x endpoint id.now) }
+    ensures no_floats { IfOk result (λ found. IfSome found (λ v. has_float (view v) ≡ false)) }
+{
+    let fixed = lists.fixed();
+    match endpoint {
+        Endpoint::Settings(endpoint) => setting_by_id(alloc, &fixed.settings, endpoint, id),
+        Endpoint::Submissions => submission_by_id(alloc, fixed, audience, lists.submissions(), id),
     }
 }
 

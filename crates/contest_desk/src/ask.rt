@@ -11,9 +11,11 @@ ghost use Rattle.contest_desk.specs.Wishes.{submission_wish, takes_memory, wish_
 
 use crate::asked::asked;
 use crate::caller::{Caller, audience_of, caller_of, team_of};
+use crate::offer::Offer;
+use crate::operation::{Command, Operation};
 use crate::submission_body::read_submission;
 use crate::wish::Wish;
-use crate::{Credential, Operation, Reply, Request, Route};
+use crate::{Credential, Reply, Request};
 use contest_types::{Fixed, Refusal, Settings};
 use matchit::Router;
 use std::alloc::{AllocError, Global};
@@ -26,7 +28,7 @@ use std::alloc::{AllocError, Global};
 /// Want of memory alone.
 pub fn ask(
     alloc: Global,
-    table: &Router<Route>,
+    table: &Router<Offer>,
     fixed: &Fixed,
     credential: &Credential,
     request: Request,
@@ -65,7 +67,7 @@ fn wish_of(
 {
     match operation {
         Operation::Read(reading) => Ok(Wish::Read(reading, audience_of(caller), request.path)),
-        Operation::PostSubmission => submission_wish(alloc, fixed, team_of(caller), request),
+        Operation::Do(Command::Submit) => submission_wish(alloc, fixed, team_of(caller), request),
     }
 }
 

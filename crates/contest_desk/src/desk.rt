@@ -11,9 +11,10 @@ ghost use Rattle.contest_desk.specs.Laws.{HasSight};
 ghost use Rattle.contest_desk.specs.Serving.{IsSettled, IsStoreReply, commits_for};
 ghost use Rattle.contest_desk.specs.Step.{may_take_memory, outcome, step};
 
+use crate::offer::Offer;
 use crate::routes::routes;
 use crate::serve::serve;
-use crate::{Credential, Reply, Request, Route};
+use crate::{Credential, Reply, Request};
 use contest_store::ContestStore;
 use contest_types::{Moment, Refusal};
 use matchit::Router;
@@ -24,7 +25,7 @@ use std::marker::Model;
 #[derive(Drop)]
 pub struct Desk<S: ContestStore> {
     store: S,
-    table: Router<Route>,
+    table: Router<Offer>,
 }
 
 impl<S: ContestStore> Model for Desk<S> {

@@ -1,34 +1,62 @@
-//! What may be asked on each route.
+//! What is offered on a route.
 ghost use Rattle.std.specs.Prelude.{◌≡◌};
-ghost use Rattle.contest_desk.specs.Offers.{allowed_on, is_of_contest, methods_text, operation_of, posted_on, read_on};
+ghost use Rattle.contest_desk.specs.Offers.{is_served, methods_of, methods_text, operation_of};
 
-use crate::{Method, Route};
+use crate::Method;
+use crate::operation::{Command, Operation, Reading};
 
-/// What a request asks for.
-#[derive(Clone, Copy, PartialEq, Eq)]
-pub enum Operation {
-    /// To read.
-    Read(Reading),
-    /// To submit.
-    PostSubmission,
+/// What is offered on a route; nothing where nothing is served there yet.
+#[derive(Clone, Copy)]
+pub struct Offer {
+    /// By GET, and by HEAD.
+    pub get: Option<Reading>,
+    /// By POST.
+    pub post: Option<Command>,
+    /// By PATCH.
+    pub patch: Option<Command>,
 }
 
-/// What is read.
-#[derive(Clone, Copy, PartialEq, Eq)]
-pub enum Reading {
-    /// The submissions that the caller sees.
-    Submissions,
-    /// One of them.
-    Submission,
+impl Offer {
+    /// Whether anything is.
+    pub fn is_served(self) -> bool
+        ensures { result ≡ is_served self }
+    {
+        self.get.is_some() || self.post.is_some() || self.patch.is_some()
+    }
+
+    /// By which methods.
+    pub fn methods(self) -> AllowedMethods
+        ensures { result ≡ methods_of self }
+    {
+        AllowedMethods {
+            get: self.get.is_some(),
+            post: self.post.is_some(),
+            patch: self.patch.is_some(),
+        }
+    }
+
+    /// What a method asks for; none where it isn't offered.
+    pub fn operation(self, method: Method) -> Option<Operation>
+        ensures { result ≡ operation_of self method }
+    {
+        match method {
+            Method::Get | Method::Head => self.get.map(Operation::Read),
+            Method::Post => self.post.map(Operation::Do),
+            Method::Patch => self.patch.map(Operation::Do),
+            Method::Other => None,
+        }
+    }
 }
 
-/// The methods of a route, as an `Allow` field lists them.
+/// The methods of a route.
 #[derive(Clone, Copy, PartialEq, Eq)]
-pub enum AllowedMethods {
-    /// `GET, HEAD`.
-    Get,
-    /// `GET, HEAD, POST`.
-    GetPost,
+pub struct AllowedMethods {
+    /// GET and HEAD.
+    pub get: bool,
+    /// POST.
+    pub post: bool,
+    /// PATCH.
+    pub patch: bool,
 }
 
 impl AllowedMethods {
@@ -36,70 +64,15 @@ impl AllowedMethods {
     pub fn text(self) -> &'static str
         ensures { result.now ≡ methods_text self }
     {
-        match self {
-            AllowedMethods::Get => "GET, HEAD",
-            AllowedMethods::GetPost => "GET, HEAD, POST",
+        match (self.get, self.post, self.patch) {
+            (true, true, true) => "GET, HEAD, POST, PATCH",
+            (true, true, false) => "GET, HEAD, POST",
+            (true, false, true) => "GET, HEAD, PATCH",
+            (true, false, false) => "GET, HEAD",
+            (false, true, true) => "POST, PATCH",
+            (false, true, false) => "POST",
+            (false, false, true) => "PATCH",
+            (false, false, false) => "",
         }
-    }
-}
-
-/// Whether a route's paths name a contest.
-pub fn is_of_contest(route: Route) -> bool
-    ensures { result ≡ is_of_contest route }
-{
-    !matches!(
-        route,
-        Route::Contests
-            | Route::Proposals
-            | Route::Verifications
-            | Route::Rejudgings
-            | Route::Rejudging
-            | Route::RejudgingVerdicts
-            | Route::RejudgingApply
-            | Route::RejudgingCancel
-            | Route::Finalize
-    )
-}
-
-/// The methods that a route offers; none where nothing is served there yet.
-pub fn allowed_on(route: Route) -> Option<AllowedMethods>
-    ensures { result ≡ allowed_on route }
-{
-    match route {
-        Route::Submissions => Some(AllowedMethods::GetPost),
-        Route::Submission => Some(AllowedMethods::Get),
-        _ => None,
-    }
-}
-
-/// What is read on a route.
-fn read_on(route: Route) -> Option<Operation>
-    ensures { result ≡ read_on route }
-{
-    match route {
-        Route::Submissions => Some(Operation::Read(Reading::Submissions)),
-        Route::Submission => Some(Operation::Read(Reading::Submission)),
-        _ => None,
-    }
-}
-
-/// What is posted on a route.
-fn posted_on(route: Route) -> Option<Operation>
-    ensures { result ≡ posted_on route }
-{
-    match route {
-        Route::Submissions => Some(Operation::PostSubmission),
-        _ => None,
-    }
-}
-
-/// What a method asks for on a route; none where the route doesn't offer it.
-pub fn operation_of(route: Route, method: Method) -> Option<Operation>
-    ensures { result ≡ operation_of route method }
-{
-    match method {
-        Method::Get | Method::Head => read_on(route),
-        Method::Post => posted_on(route),
-        Method::Patch | Method::Other => None,
     }
 }

@@ -1,6 +1,13 @@
 //! The pieces of a path between its slashes.
 ghost use Rattle.std.specs.Prelude.{◌≡◌, ◌<◌, IfSome, length};
-ghost use Rattle.contest_desk.specs.Paths.{after_slash, before_slash, contest_piece, object_piece, slash_at};
+ghost use Rattle.contest_desk.specs.Paths.{after_slash, before_slash, contest_piece, is_of_contest, object_piece, slash_at};
+
+/// Whether a path is of a contest, or of something in it. It takes no memory.
+pub fn is_of_contest(path: &[u8]) -> bool
+    ensures { result ≡ is_of_contest path.now }
+{
+    path.starts_with(b"/contests/")
+}
 
 /// The piece of a path where the contest's id stands: `/contests/<this>/..`. It takes no memory.
 pub fn contest_piece(path: &[u8]) -> &[u8]

@@ -10,8 +10,9 @@ ghost use Rattle.contest_desk.specs.Wishes.{IsSound, wish_outcome, file_at};
 use crate::answer::{answer, file_needed};
 use crate::ask::ask;
 use crate::keep::keep;
+use crate::offer::Offer;
 use crate::wish::Wish;
-use crate::{Credential, Reply, Request, Route};
+use crate::{Credential, Reply, Request};
 use contest_store::{ContestStore, StoreError};
 use contest_types::{Moment, Rows};
 use matchit::Router;
@@ -26,7 +27,7 @@ use std::alloc::Global;
 pub fn serve<S: ContestStore>(
     alloc: Global,
     store: &mut S,
-    table: &Router<Route>,
+    table: &Router<Offer>,
     now: Moment,
     credential: &Credential,
     request: Request,

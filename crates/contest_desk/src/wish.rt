@@ -1,5 +1,5 @@
 //! What a known caller wishes, once its body is read.
-use crate::offer::Reading;
+use crate::operation::Reading;
 use contest_rules::WantedSubmission;
 use contest_types::{Audience, Rows};
 

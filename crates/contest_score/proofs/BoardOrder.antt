@@ -9,7 +9,7 @@ use Rattle.std.specs.declared.cmp.Ordering.TheVariants.{Less, Equal, Greater}
 use Rattle.std.proofs.lemmas.List.{length-map, get_or-map, take_more, map-append}
 use Rattle.std.proofs.lemmas.List.Sums.{sum_by-cons, sum_by-le-sum_by, length-filter, count_by-le-length}
 use Rattle.std.proofs.lemmas.List.FromFn.{length-range_with_len}
-use Rattle.contest_score.proofs.InOrder.{place_moved}
+use Rattle.contest_types.proofs.InOrder.{place_moved}
 use Rattle.std.proofs.lemmas.List.Sorted.{All-permutation, length_permutation}
 use Rattle.std.proofs.lemmas.List.Elements.{Contains-get_or}
 use Rattle.std.proofs.lemmas.List.Kept.{IsStrictlyIncreasing-filter}
@@ -25,9 +25,9 @@ use Rattle.contest_types.specs.declared.limits.TheConstants.{TEAMS}
 use Rattle.contest_types.specs.Setup.{Setup, IsValid}
 use Rattle.contest_score.specs.Keys.{TellsTeam, standing_cmp, rank_in, row_in, row_of_standing}
 use Rattle.contest_score.specs.Ranking.{in_order, place_in, row_cmp, row_of, rank_of, score_of_team, cells_of_team, beats, shown_teams, name_at, team_id_at, board_rows}
-use Rattle.contest_score.proofs.KeyOrder.{Follows, sorted_keys, range_rises}
+use Rattle.contest_types.proofs.KeyOrder.{Follows, sorted_keys, range_rises}
 use Rattle.contest_score.proofs.Ranks.{standing_cmp_total, place_tied, count_agree}
-use Rattle.contest_score.proofs.ProblemOrder.{then_less, then_equal}
+use Rattle.contest_types.proofs.ProblemOrder.{then_less, then_equal}
 use Rattle.contest_types.proofs.Different.{one_place}
 
 -- the order that the standings' derived `cmp` computes to

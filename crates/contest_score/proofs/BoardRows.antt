@@ -24,7 +24,7 @@ use Rattle.contest_score.specs.declared.row.Row.{Row}
 use Rattle.contest_score.specs.declared.score.Score.{Score}
 use Rattle.contest_score.specs.Ranking.{board_rows, shown_teams, row_cmp, row_of, rank_of, score_of_team, problem_cmp, problem_order, score_cmp, beats, last_minute}
 use Rattle.contest_score.specs.BoardLaws.{teams_of, stands_above}
-use Rattle.contest_score.proofs.ProblemOrder.{problem_cmp_total, then_equal}
+use Rattle.contest_types.proofs.ProblemOrder.{problem_cmp_total, then_equal}
 use Rattle.contest_score.proofs.BoardOrder.{row_cmp_total, count_by_map}
 use Rattle.contest_score.proofs.Ranks.{place_tied}
 use Rattle.contest_score.proofs.SameElements.{other, weaker_order, mapped_order, same_count, same_length, place_within, places_apart, all_apart, differ, has_place}

@@ -16,7 +16,7 @@ use Rattle.contest_types.proofs.Different.{one_place}
 use Rattle.contest_score.specs.declared.group_awards.GroupKey.{GroupKey}
 use Rattle.contest_score.specs.Keys.{TellsGroup}
 use Rattle.contest_score.specs.Awards.{group_order, group_id_at}
-use Rattle.contest_score.proofs.KeyOrder.{Follows, sorted_keys, range_rises}
+use Rattle.contest_types.proofs.KeyOrder.{Follows, sorted_keys, range_rises}
 
 -- the order that the keys' derived `cmp` computes to
 abbrev pub key_cmp : GroupKey → GroupKey → Ordering

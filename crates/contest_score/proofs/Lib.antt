@@ -2,11 +2,7 @@ pub mod Counted
 pub mod CellSteps
 pub mod Tables
 pub mod Sums
-pub mod InOrder
-pub mod KeyOrder
-pub mod ProblemOrder
 pub mod Ranks
-pub mod Placed
 pub mod BoardOrder
 pub mod AwardLists
 pub mod FirstSolves

@@ -13,7 +13,7 @@ use Rattle.std.proofs.lemmas.Cmp.{nat_cmp_total, then_total, on_total, back_tota
 use Rattle.contest_score.specs.declared.standings.Standing.{Standing}
 use Rattle.contest_score.specs.Keys.{standing_cmp, rank_in}
 use Rattle.contest_score.specs.Ranking.{place_in}
-use Rattle.contest_score.proofs.InOrder.{count_front}
+use Rattle.contest_types.proofs.InOrder.{count_front}
 
 pub standing_cmp_total : IsTotalOrder standing_cmp
 standing_cmp_total = then_total (back_total (on_total (λ (k : Standing). k.solved.0) nat_cmp_total)) (then_total (on_total (λ (k : Standing). k.total) nat_cmp_total) (on_total (λ (k : Standing). k.last) nat_cmp_total))

@@ -4,20 +4,12 @@ use Rattle.std.specs.Prelude.{◌≡◌, ℕ, ◌+◌, ◌<◌, List, [], ◌∷
 use Rattle.std.specs.Option.{option_map_or}
 use Rattle.std.specs.declared.cmp.Ordering.{Ordering}
 use Rattle.contest_types.specs.declared.objects.Group.{Group}
-use Rattle.contest_types.specs.declared.objects.Problem.{Problem}
 use Rattle.contest_types.specs.Setup.{Setup}
 use Rattle.contest_score.specs.declared.cell.Cell.{Cell}
 use Rattle.contest_score.specs.declared.group_awards.GroupKey.{GroupKey}
-use Rattle.contest_score.specs.declared.order.ProblemKey.{ProblemKey}
 use Rattle.contest_score.specs.declared.standings.Standing.{Standing}
 use Rattle.contest_score.specs.declared.row.Row.{Row}
-use Rattle.contest_score.specs.Ranking.{by_number, by_most, by_each, ordinal_at, problem_id_at, score_of_team, cells_of_team, last_minute, name_at, team_id_at, place_in}
-
--- the key is that of the problem at its place
-pub record TellsProblem (ps : List Problem) (k : ProblemKey) : Type 0 where
-  pub within : k.place < length ps
-  pub ordinal : k.ordinal ≡ ordinal_at ps k.place
-  pub id : k.id.now ≡ problem_id_at ps k.place
+use Rattle.contest_score.specs.Ranking.{by_number, by_most, by_each, score_of_team, cells_of_team, last_minute, name_at, team_id_at, place_in}
 
 -- the key is that of the group at its place
 pub record TellsGroup (gs : List Group) (k : GroupKey) : Type 0 where

@@ -6,28 +6,16 @@ use Rattle.std.specs.List.{range_with_len}
 use Rattle.std.specs.Option.{option_map_or}
 use Rattle.std.specs.Ordering.{is_lt}
 use Rattle.std.specs.declared.cmp.Ordering.{Ordering}
-use Rattle.contest_types.specs.declared.objects.Problem.{Problem}
 use Rattle.contest_types.specs.Setup.{Setup}
 pub use Rattle.contest_types.specs.Order.{by_number, by_most, by_text, by_each, place_in, in_order}
-pub use Rattle.contest_types.specs.ProblemPlaces.{problem_id_at}
+pub use Rattle.contest_types.specs.ProblemPlaces.{ordinal_at, problem_cmp, problem_id_at, problem_order}
 pub use Rattle.contest_types.specs.TeamPlaces.{team_places, name_at, team_id_at, is_public}
 use Rattle.contest_score.specs.declared.cell.Cell.{Cell}
 use Rattle.contest_score.specs.declared.score.Score.{Score}
 use Rattle.contest_score.specs.declared.row.Row.{Row}
 use Rattle.contest_score.specs.Scoring.{score_of_cells}
 
-abbrev pub ordinal_at : List Problem → ℕ → ℕ
-ordinal_at ps p = option_map_or (λ q. q.ordinal) (slice_get ps p) 0
-
--- by ordinal, then id
-abbrev pub problem_cmp : List Problem → ℕ → ℕ → Ordering
-problem_cmp ps = by_each (by_number (ordinal_at ps) ∷ by_text (problem_id_at ps) ∷ [])
-
--- the problems in the order of the board
-abbrev pub problem_order : Setup → List ℕ
-problem_order s = in_order (problem_cmp s.problems) (range_with_len 0 (length s.problems))
-
--- a team's cells in that order
+-- a team's cells in the order of the problems
 abbrev pub cells_of_team : Setup → (ℕ → ℕ → Cell) → ℕ → List Cell
 cells_of_team s cells u = map (cells u) (problem_order s)
 

@@ -9,10 +9,9 @@ ghost use Rattle.contest_score.specs.AwardSteps.{has_solve, with_solve};
 use crate::award::{Award, AwardText};
 use crate::award_list::Awards;
 use crate::criterion::{Criterion, award_to};
-use crate::order::problem_order;
 use crate::row::Row;
 use crate::solve::Solve;
-use contest_types::{Problem, Rows, Settings};
+use contest_types::{Problem, Rows, Settings, problem_order};
 use std::alloc::{AllocError, Global};
 
 /// Takes one more solve into the first ones of its problem: an earlier one takes their place, and

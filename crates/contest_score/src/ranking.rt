@@ -5,12 +5,11 @@ ghost use Rattle.contest_score.specs.Ranking.{problem_order as problems_in_order
 ghost use Rattle.contest_score.specs.Keys.{rank_in, row_in, row_of_standing};
 
 use crate::cells::Cells;
-use crate::order::problem_order;
 use crate::row::Row;
 use crate::scoreboard::Board;
 use crate::shown::{PublicTeams, Shown};
 use crate::standings::{Standing, cells_of_team, ranks, score_of_row, standings};
-use contest_types::{Refusal, Settings};
+use contest_types::{Refusal, Settings, problem_order};
 use std::alloc::{AllocError, Global};
 
 /// The row of a team.

@@ -10,10 +10,10 @@ ghost use Rattle.contest_text.specs.BoardText.{numbered_id, who_text, contest_ti
 
 use crate::cell_text::write_cell;
 use crate::padding::{push_left, push_right};
-use contest_score::{Board, Cell, Row, problem_order};
+use contest_score::{Board, Cell, Row};
 use contest_types::{
     Audience, Marks, Moment, Phase, Refusal, RelTime, Settings, freeze_of, is_finalized,
-    is_freezing, is_thawed, phase, print_reltime,
+    is_freezing, is_thawed, phase, print_reltime, problem_order,
 };
 use std::alloc::{AllocError, Global};
 use unicode_width::UnicodeWidthStr;

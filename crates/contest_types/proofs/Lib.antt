@@ -34,6 +34,10 @@ mod ExamplesSettings
 mod ExamplesAdding
 mod ExamplesLimits
 pub mod Different
+pub mod Placed
+pub mod InOrder
+pub mod KeyOrder
+pub mod ProblemOrder
 pub mod InOrderLemmas
 pub mod Rising
 pub mod SeenWhole

@@ -13,8 +13,9 @@ pub mod Setup
 pub mod Rows
 pub mod SetupAdditions
 pub mod TeamPlaces
-pub mod ProblemPlaces
 pub mod Order
+pub mod ProblemPlaces
+pub mod ProblemKeys
 pub mod Accounts
 pub mod Clock
 pub mod Masks

@@ -78,3 +78,8 @@ all_made sees item rows i ds end h =
     let none : drop i rows ≡ [] = drop_all i rows end in
     let all : objects sees item rows ≡ ds = h ∙ ap (λ xs. ds ++ objects sees item xs) none ∙ append-nil ds in
     ap (λ xs. array (items_of xs)) (sym all ∙ sym (map-map (λ (i : Item). i.object) item (filter sees rows)))
+
+-- where all rows pass, all are kept
+pub all_are_seen : {X : Type 0} (p : X → Bool) (xs : List X) → ((x : X) → p x ≡ true) → filter p xs ≡ xs
+all_are_seen p [] all = refl
+all_are_seen p (x ∷ xs) all = rw (all x) (ap (λ ys. x ∷ ys) (all_are_seen p xs all))

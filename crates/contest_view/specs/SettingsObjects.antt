@@ -1,8 +1,8 @@
 -- The rows of a contest's settings as they are served (Contest API 2023-06, the objects of these names; which
 -- members each has is this desk's choice).
-use Rattle.std.specs.Prelude.{ℕ, List, [], codes, map, slice_get}
+use Rattle.std.specs.Prelude.{ℕ, List, [], Option, codes, map, slice_get}
 use Rattle.std.specs.Option.{option_map_or}
-use Rattle.serde_json.specs.Data.{array, boolean, number, unsigned, string, object, member, no_members}
+use Rattle.serde_json.specs.Data.{Data, array, boolean, number, unsigned, string, object, member, no_members}
 use Rattle.serde_json.specs.View.{items_of}
 use Rattle.contest_types.specs.Setup.{Setup}
 use Rattle.contest_types.specs.declared.objects.Group.{Group}
@@ -10,7 +10,10 @@ use Rattle.contest_types.specs.declared.objects.JudgementType.{JudgementType}
 use Rattle.contest_types.specs.declared.objects.Language.{Language}
 use Rattle.contest_types.specs.declared.objects.Problem.{Problem}
 use Rattle.contest_types.specs.declared.objects.Team.{Team}
-use Rattle.contest_view.specs.Items.{Item}
+use Rattle.contest_types.specs.ProblemPlaces.{problem_order}
+use Rattle.contest_view.specs.Items.{Item, array_of, found_in, object_at}
+use Rattle.contest_view.specs.declared.settings_objects.SettingsEndpoint.{SettingsEndpoint}
+use Rattle.contest_view.specs.declared.settings_objects.SettingsEndpoint.TheVariants.{Problems, Teams}
 
 abbrev pub type_item : JudgementType → Item
 type_item t = record {
@@ -46,3 +49,17 @@ team_item s t = record {
   object = object (member (codes "group_ids") (array (items_of (map (λ g. string (group_id_at s g)) t.groups))) (member (codes "hidden") (boolean t.hidden)
       (member (codes "id") (string t.id) (member (codes "name") (string t.name) no_members))));
 }
+
+-- problems by ordinal, then id
+abbrev pub problems_data : Setup → Data
+problems_data s = array (items_of (map (object_at problem_item s.problems) (problem_order s)))
+
+-- all objects of an endpoint; all but problems in the order in which they were imported
+abbrev pub settings_data : SettingsEndpoint → Setup → Data
+settings_data Problems s = problems_data s
+settings_data Teams s = array_of (map (team_item s) s.teams)
+
+-- the one with this id
+abbrev pub setting_found : SettingsEndpoint → Setup → (id : List ℕ) → Option Data
+setting_found Problems s = found_in (map problem_item s.problems)
+setting_found Teams s = found_in (map (team_item s) s.teams)

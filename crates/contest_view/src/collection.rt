@@ -1,5 +1,5 @@
 //! Collections as they are served: listed, and looked up by id, whatever they hold.
-ghost use Rattle.std.specs.Prelude.{◌≡◌, ◌<◌, ◌&&◌, Bool, false, All, IfOk, IfSome, length, map, filter, find, option_map, bytes_eq};
+ghost use Rattle.std.specs.Prelude.{◌≡◌, ◌<◌, ◌&&◌, Bool, true, false, All, IfOk, IfSome, length, map, filter, find, option_map, bytes_eq};
 ghost use Rattle.serde_json.specs.Data.{array};
 ghost use Rattle.serde_json.specs.View.{view, items_of};
 ghost use Rattle.serde_json.specs.Written.{has_float};
@@ -123,4 +123,41 @@ pub fn value_by_id<C: Collection>(
         Some(row) => Ok(Some(collection.object(alloc, row)?)),
         None => Ok(None),
     }
+}
+
+/// The array of all rows of a collection that everybody sees, in their order.
+///
+/// # Errors
+///
+/// Want of memory alone.
+#[tactic(auto, using(crate::proofs::CollectionLemmas::all_are_seen))]
+pub(crate) fn whole_value<C: Collection>(
+    alloc: Global,
+    collection: &C,
+    rows: &[C::Row],
+) -> Result<Value, AllocError>
+    requires { (row : C.Row) → C.sees collection.now row ≡ true }
+    ensures value { IfOk result (λ v. view v ≡ array_of (map (C.item collection.now) rows.now)) }
+    ensures no_floats { IfOk result (λ v. has_float (view v) ≡ false) }
+{
+    array_value(alloc, collection, rows)
+}
+
+/// The object with an id, of a collection that everybody sees.
+///
+/// # Errors
+///
+/// Want of memory alone.
+#[tactic(auto, using(crate::proofs::CollectionLemmas::all_are_seen))]
+pub(crate) fn whole_by_id<C: Collection>(
+    alloc: Global,
+    collection: &C,
+    rows: &[C::Row],
+    id: &[u8],
+) -> Result<Option<Value>, AllocError>
+    requires { (row : C.Row) → C.sees collection.now row ≡ true }
+    ensures value { IfOk result (λ found. option_map view found ≡ found_in (map (C.item collection.now) rows.now) id.now) }
+    ensures no_floats { IfOk result (λ found. IfSome found (λ v. has_float (view v) ≡ false)) }
+{
+    value_by_id(alloc, collection, rows, id)
 }

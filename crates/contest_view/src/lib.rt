@@ -13,7 +13,10 @@ mod visibility;
 
 pub use collection::{Collection, array_value, value_by_id};
 pub use contest_types::{Audience, Phase, phase};
-pub use settings_objects::{Groups, JudgementTypes, Languages, Problems, Teams};
+pub use settings_objects::{
+    Groups, JudgementTypes, Languages, Problems, SettingsEndpoint, Teams, setting_by_id,
+    settings_value,
+};
 pub use submission_object::submission_value;
 pub use submissions::{submission_by_id, submissions_value};
 pub use visibility::{seen_verdict, sees_submission};

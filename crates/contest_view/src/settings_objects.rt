@@ -1,14 +1,72 @@
 //! The rows of a contest's settings as they are served: everybody is served all of them alike.
-ghost use Rattle.std.specs.Prelude.{◌≡◌, IfOk, map};
+ghost use Rattle.std.specs.Prelude.{◌≡◌, false, IfOk, IfSome, map, option_map};
 ghost use Rattle.serde_json.specs.Data.{string};
 ghost use Rattle.serde_json.specs.View.{view};
-ghost use Rattle.contest_view.specs.SettingsObjects.{group_id_at, team_item};
+ghost use Rattle.serde_json.specs.Written.{has_float};
+ghost use Rattle.contest_view.specs.SettingsObjects.{group_id_at, problems_data, setting_found, settings_data, team_item};
 
-use crate::collection::Collection;
+use crate::collection::{Collection, objects_at, whole_by_id, whole_value};
 use crate::members::{Member, object_of, put_all};
-use contest_types::{Group, JudgementType, Language, Problem, Settings, Team};
+use contest_types::{Group, JudgementType, Language, Problem, Settings, Team, problem_order};
 use serde_json::{Map, Value, put};
 use std::alloc::{AllocError, Global};
+
+/// A collection of the settings (Contest API 2023-06, endpoints).
+#[derive(Clone, Copy)]
+pub enum SettingsEndpoint {
+    /// By ordinal, then id.
+    Problems,
+    /// Hidden ones too, as they were imported.
+    Teams,
+}
+
+/// The array of an endpoint's objects.
+///
+/// # Errors
+///
+/// Want of memory alone.
+pub fn settings_value(
+    alloc: Global,
+    settings: &Settings,
+    endpoint: SettingsEndpoint,
+) -> Result<Value, AllocError>
+    ensures value { IfOk result (λ v. view v ≡ settings_data endpoint settings.now) }
+    ensures no_floats { IfOk result (λ v. has_float (view v) ≡ false) }
+{
+    match endpoint {
+        SettingsEndpoint::Problems => problems_value(alloc, settings),
+        SettingsEndpoint::Teams => whole_value(alloc, &Teams { settings }, settings.teams()),
+    }
+}
+
+/// The object of an endpoint with an id, if there is one.
+///
+/// # Errors
+///
+/// Want of memory alone.
+pub fn setting_by_id(
+    alloc: Global,
+    settings: &Settings,
+    endpoint: SettingsEndpoint,
+    id: &[u8],
+) -> Result<Option<Value>, AllocError>
+    ensures value { IfOk result (λ found. option_map view found ≡ setting_found endpoint settings.now id.now) }
+    ensures no_floats { IfOk result (λ found. IfSome found (λ v. has_float (view v) ≡ false)) }
+{
+    match endpoint {
+        SettingsEndpoint::Problems => whole_by_id(alloc, &Problems, settings.problems(), id),
+        SettingsEndpoint::Teams => whole_by_id(alloc, &Teams { settings }, settings.teams(), id),
+    }
+}
+
+fn problems_value(alloc: Global, settings: &Settings) -> Result<Value, AllocError>
+    ensures value { IfOk result (λ v. view v ≡ problems_data settings.now) }
+    ensures no_floats { IfOk result (λ v. has_float (view v) ≡ false) }
+{
+    let places = problem_order(alloc, settings)?;
+    let values = objects_at(alloc, &Problems, settings.problems(), &places)?;
+    Ok(Value::Array(values))
+}
 
 /// Judgement types (Contest API 2023-06, judgement-types): `id`, `name`, `penalty` and `solved`.
 #[derive(Clone, Copy)]

@@ -1,5 +1,5 @@
 //! A contest as the records of a replay build it up.
-ghost use Rattle.std.specs.Prelude.{◌≡◌, ◌<◌, ◌≤◌, Bool, true, Ok, IfOk, IfErr, OnOk, length};
+ghost use Rattle.std.specs.Prelude.{◌≡◌, ◌<◌, ◌≤◌, ◌∷◌, [], Bool, true, Ok, IfOk, IfErr, OnOk, length};
 ghost use Rattle.contest_types.specs.Additions.{IsFaultOf};
 ghost use Rattle.contest_types.specs.Valid.{is_valid};
 ghost use Rattle.contest_import.specs.ReplayLists.{any_language, lists_of_head, with_type_row, with_problem_row, with_team_row, with_submission, submission_addition, within};
@@ -59,6 +59,17 @@ fn any_language(alloc: Global) -> Result<Language, RowFault>
     })
 }
 
+// Settings in which nothing stands yet get it.
+fn add_any_language(alloc: Global, settings: &mut Settings) -> Result<(), RowFault>
+    requires { settings.old.languages ≡ [] }
+    ensures ok { OnOk result (settings.new ≡ record settings.old { languages = any_language ∷ [] }) }
+    ensures err { IfErr result (λ e. e ≡ RowFault.Memory) }
+{
+    let language = any_language(alloc)?;
+    settings.add_language(alloc, language)?;
+    Ok(())
+}
+
 /// Want of memory, as a row's fault.
 pub(crate) fn memory_of(refusal: Refusal) -> RowFault
     requires { refusal ≡ Refusal.Memory }
@@ -94,7 +105,7 @@ impl ReplayBuilder {
             Ok(settings) => settings,
             Err(cause) => return Err(RowFault::Fault(cause)),
         };
-        settings.add_language(alloc, any_language(alloc)?)?;
+        add_any_language(alloc, &mut settings)?;
         Ok(ReplayBuilder {
             settings,
             submissions: Vec::new(alloc),

@@ -63,20 +63,35 @@ impl Reading {
         Ok(())
     }
 
+    /// Judges the records to come, which are numbered from 1.
+    fn take_all(
+        &mut self,
+        alloc: Global,
+        records: &mut CsvRecords<'_>,
+        row: &mut ByteRecord,
+    ) -> Result<(), Refusal>
+        requires { length records.old ≤ 2 ^ 63 }
+        ensures ok { OnOk result ((n : ℕ) → result_from self.new.so_far self.new.fault self.new.named n [] ≡ result_from self.old.so_far self.old.fault self.old.named 1 records.old) }
+        ensures err { IfErr result (λ e. e ≡ Refusal.Memory) }
+    {
+        for n in 1..u64::MAX {
+            if !records.next(row)? {
+                break;
+            }
+            self.take(alloc, n, row)?;
+        }
+        Ok(())
+    }
+
     /// What a file comes to, once it has ended.
     fn finish(self) -> Result<ReplayBuilder, Refusal>
         ensures ok { (n : ℕ) → IfOk result (λ r. result_from self.so_far self.fault self.named n [] ≡ Ok r) }
         ensures err { (n : ℕ) → IfErr result (λ e. result_from self.so_far self.fault self.named n [] ≡ Err e) }
     {
-        if !self.named {
-            return Err(Refusal::Malformed);
-        }
-        if let Some((n, cause)) = self.fault {
-            return Err(Refusal::ImportRow(n, cause));
-        }
-        match self.so_far {
-            Some(builder) => Ok(builder),
-            None => Err(Refusal::Malformed),
+        match (self.named, self.fault, self.so_far) {
+            (true, Some((n, cause)), _) => Err(Refusal::ImportRow(n, cause)),
+            (true, None, Some(builder)) => Ok(builder),
+            _ => Err(Refusal::Malformed),
         }
     }
 }
@@ -112,28 +127,21 @@ fn is_header_text(fields: &ReplayRecord<'_>) -> bool
 }
 
 /// The contest of the records to come, which are numbered from 1.
-fn judge_all<'a>(
+fn judge_all(
     alloc: Global,
-    records: CsvRecords<'a>,
-    row: ByteRecord,
+    records: &mut CsvRecords<'_>,
+    row: &mut ByteRecord,
 ) -> Result<ReplayBuilder, Refusal>
-    requires { length records ≤ 2 ^ 63 }
-    ensures ok { IfOk result (λ r. result_from None None false 1 records.entry ≡ Ok r) }
-    ensures err { IfErr result (λ e. Refuses e (result_from None None false 1 records.entry)) }
+    requires { length records.old ≤ 2 ^ 63 }
+    ensures ok { IfOk result (λ r. result_from None None false 1 records.old ≡ Ok r) }
+    ensures err { IfErr result (λ e. Refuses e (result_from None None false 1 records.old)) }
 {
-    let mut records = records;
-    let mut row = row;
     let mut reading = Reading {
         so_far: None,
         fault: None,
         named: false,
     };
-    for n in 1..u64::MAX {
-        if !records.next(&mut row)? {
-            break;
-        }
-        reading.take(alloc, n, &row)?;
-    }
+    reading.take_all(alloc, records, row)?;
     reading.finish()
 }
 
@@ -156,6 +164,6 @@ pub fn read_replay_csv(alloc: Global, bytes: &[u8]) -> Result<ReplayContest, Ref
     if !is_header(&row) {
         return Err(Refusal::Malformed);
     }
-    let builder = judge_all(alloc, records, row)?;
+    let builder = judge_all(alloc, &mut records, &mut row)?;
     Ok(builder.into_contest())
 }

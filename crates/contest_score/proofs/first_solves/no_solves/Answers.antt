@@ -1,5 +1,5 @@
 use Rattle.std.proofs.Common.{refl}
-use Rattle.contest_score.proofs.Placed.{map_range_next}
+use Rattle.contest_types.proofs.Placed.{map_range_next}
 use Rattle.contest_score.proofs.first_solves.no_solves.Goals as goal
 
 pub loop-preserved : goal.loop-preserved

@@ -1,6 +1,6 @@
 use Rattle.contest_score.specs.declared.group_awards.GroupKey.{GroupKey}
 use Rattle.contest_score.specs.Keys.{TellsGroup}
-use Rattle.contest_score.proofs.Placed.{Listed-more}
+use Rattle.contest_types.proofs.Placed.{Listed-more}
 use Rattle.contest_score.proofs.group_awards.group_keys.Goals as goal
 
 pub loop-place-preserved : goal.loop-place-preserved

@@ -1,7 +1,7 @@
 use Rattle.std.proofs.Common.{◌∙◌, length}
 use Rattle.contest_score.specs.declared.group_awards.GroupKey.{GroupKey}
 use Rattle.contest_score.specs.Keys.{TellsGroup}
-use Rattle.contest_score.proofs.KeyOrder.{all_within}
+use Rattle.contest_types.proofs.KeyOrder.{all_within}
 use Rattle.contest_score.proofs.GroupOrder.{groups_sorted}
 use Rattle.contest_score.proofs.group_awards.group_order.Goals as goal
 

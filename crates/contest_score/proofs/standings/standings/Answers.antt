@@ -1,6 +1,6 @@
 use Rattle.contest_score.specs.declared.standings.Standing.{Standing}
 use Rattle.contest_score.specs.Keys.{TellsTeam}
-use Rattle.contest_score.proofs.Placed.{Placed-more, Placed-past}
+use Rattle.contest_types.proofs.Placed.{Placed-more, Placed-past}
 use Rattle.contest_score.proofs.standings.standings.Goals as goal
 use Rattle.contest_score.proofs.standings.standings.Goals.{then-is_shown+in_ok-standing_of+in_ok-push, else-is_shown}
 

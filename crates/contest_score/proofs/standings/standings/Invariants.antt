@@ -1,6 +1,6 @@
 use Rattle.contest_score.specs.declared.standings.Standing.{Standing}
 use Rattle.contest_score.specs.Keys.{TellsTeam}
-use Rattle.contest_score.proofs.Placed.{Placed}
+use Rattle.contest_types.proofs.Placed.{Placed}
 use Rattle.contest_score.proofs.standings.standings.Given as goal
 
 -- a standing for each shown team so far

@@ -1,9 +1,9 @@
 use Rattle.std.proofs.Common.{◌∙◌, length}
-use Rattle.contest_score.specs.declared.order.ProblemKey.{ProblemKey}
-use Rattle.contest_score.specs.Keys.{TellsProblem}
-use Rattle.contest_score.proofs.KeyOrder.{all_within}
-use Rattle.contest_score.proofs.ProblemOrder.{problems_sorted, few_problems}
-use Rattle.contest_score.proofs.order.problem_order.Goals as goal
+use Rattle.contest_types.specs.declared.problem_key.ProblemKey.{ProblemKey}
+use Rattle.contest_types.specs.ProblemKeys.{TellsProblem}
+use Rattle.contest_types.proofs.KeyOrder.{all_within}
+use Rattle.contest_types.proofs.ProblemOrder.{problems_sorted, few_problems}
+use Rattle.contest_types.proofs.problem_key.problem_order.Goals as goal
 
 pub returns-clause-order : goal.returns-clause-order
 returns-clause-order c =

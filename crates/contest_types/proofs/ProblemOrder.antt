@@ -12,14 +12,14 @@ use Rattle.std.proofs.lemmas.List.FromFn.{length-range_with_len}
 use Rattle.std.proofs.lemmas.Cmp.{nat_cmp_total, nat_list_cmp_total, then_total, on_total}
 use Rattle.std.proofs.lemmas.Map.Lookups.{exact_bytes}
 use Rattle.contest_types.specs.declared.objects.Problem.{Problem}
-use Rattle.contest_score.specs.declared.order.ProblemKey.{ProblemKey}
+use Rattle.contest_types.specs.declared.problem_key.ProblemKey.{ProblemKey}
 use Rattle.contest_types.specs.declared.limits.TheConstants.{PROBLEMS}
 use Rattle.contest_types.specs.Places.{are_different}
 use Rattle.contest_types.specs.Setup.{Setup, IsValid}
-use Rattle.contest_score.specs.Keys.{TellsProblem}
-use Rattle.contest_score.specs.Ranking.{problem_cmp, problem_order, ordinal_at, problem_id_at}
+use Rattle.contest_types.specs.ProblemKeys.{TellsProblem}
+use Rattle.contest_types.specs.ProblemPlaces.{problem_cmp, problem_order, ordinal_at, problem_id_at}
 use Rattle.contest_types.proofs.Different.{one_place}
-use Rattle.contest_score.proofs.KeyOrder.{Follows, sorted_keys, range_rises}
+use Rattle.contest_types.proofs.KeyOrder.{Follows, sorted_keys, range_rises}
 
 pub then_less : (x y z : Ordering) → ordering_then x y ≡ Less → ordering_then x (ordering_then y z) ≡ Less
 then_less Less y z h = refl

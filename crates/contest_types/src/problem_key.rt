@@ -1,11 +1,11 @@
-//! The problems in the order of the board.
+//! The problems in the order in which they are listed.
 ghost use Rattle.std.specs.Prelude.{◌≡◌, ◌<◌, ◌≤◌, length, IfOk, map, All};
 ghost use Rattle.std.specs.List.{range_with_len};
 ghost use Rattle.contest_types.specs.declared.limits.TheConstants.{PROBLEMS};
-ghost use Rattle.contest_score.specs.Ranking.{problem_order as problems_in_order};
-ghost use Rattle.contest_score.specs.Keys.{TellsProblem};
+ghost use Rattle.contest_types.specs.ProblemPlaces.{problem_order as problems_in_order};
+ghost use Rattle.contest_types.specs.ProblemKeys.{TellsProblem};
 
-use contest_types::{Problem, Settings};
+use crate::{Problem, Settings};
 use std::alloc::{AllocError, Global};
 
 /// What a problem is ordered by: its ordinal, and then its id. The place comes last and decides
@@ -44,8 +44,8 @@ fn problem_keys<'a>(
     Ok(keys)
 }
 
-/// The places of the problems, from 0, in the order in which a board's cells stand: by ordinal, and
-/// then by id (Contest API 2023-06, problems).
+/// The places of the problems, from 0, in the order in which they are listed, and in which a board's
+/// cells stand: by ordinal, and then by id (Contest API 2023-06, problems).
 pub fn problem_order(alloc: Global, settings: &Settings) -> Result<Vec<usize>, AllocError>
     ensures order { IfOk result (λ v. v.items ≡ problems_in_order settings.now) }
     ensures few { IfOk result (λ v. length v.items ≤ PROBLEMS) }

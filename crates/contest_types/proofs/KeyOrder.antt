@@ -12,8 +12,8 @@ use Rattle.std.proofs.lemmas.List.FromFn.{get_or-range_with_len, length-range_wi
 use Rattle.std.proofs.lemmas.Map.Keys.{IsDistinct-IsPermutation, IsDistinct-from_sorted, sorted_from_strictly_increasing, apart_from_distinct}
 use Rattle.std.proofs.lemmas.Cmp.{tied_itself, nat_cmp_total, eq_by_cmp_equiv}
 use Rattle.std.proofs.lemmas.Bool.{false≢true}
-use Rattle.contest_score.specs.Ranking.{in_order}
-use Rattle.contest_score.proofs.InOrder.{Ascends, in_order_is}
+use Rattle.contest_types.specs.Order.{in_order}
+use Rattle.contest_types.proofs.InOrder.{Ascends, in_order_is}
 
 -- c, the order of the keys, follows R, the order of the places, which tells places apart
 pub record Follows {K : Type 0} (c : K → K → Ordering) (place : K → ℕ) (good : K → Type 0) (R : ℕ → ℕ → Ordering) : Type 0 where

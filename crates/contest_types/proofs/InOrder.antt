@@ -11,7 +11,7 @@ use Rattle.std.proofs.lemmas.List.Elements.{Contains-get_or}
 use Rattle.std.proofs.lemmas.List.{get_or_default, get_or-take, get_or-drop}
 use Rattle.std.proofs.lemmas.Cmp.{tied_itself}
 use Rattle.std.proofs.lemmas.Bool.{false≢true, eqb-true, eq-eqb}
-use Rattle.contest_score.specs.Ranking.{place_in, in_order}
+use Rattle.contest_types.specs.Order.{place_in, in_order}
 
 -- where all pass, all are counted
 pub count_all : {X : Type 0} (p : X → Bool) (ys : List X) → ((i : ℕ) (d : X) → i < length ys → p (get_or ys i d) ≡ true) → count_by p ys ≡ length ys

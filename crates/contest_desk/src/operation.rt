@@ -1,0 +1,37 @@
+//! What may be asked of a contest.
+
+use contest_view::SettingsEndpoint;
+
+/// A collection of objects (Contest API 2023-06, endpoints).
+#[derive(Clone, Copy)]
+pub enum Endpoint {
+    /// Of the settings.
+    Settings(SettingsEndpoint),
+    /// The submissions that the caller sees, by time, team id and number.
+    Submissions,
+}
+
+/// What is read.
+#[derive(Clone, Copy)]
+pub enum Reading {
+    /// The objects of an endpoint that the caller sees, as an array.
+    List(Endpoint),
+    /// One of them, by its id.
+    Object(Endpoint),
+}
+
+/// What is done.
+#[derive(Clone, Copy)]
+pub enum Command {
+    /// A team submits.
+    Submit,
+}
+
+/// What a request asks for.
+#[derive(Clone, Copy)]
+pub enum Operation {
+    /// To read.
+    Read(Reading),
+    /// To do something.
+    Do(Command),
+}
