@@ -9,7 +9,7 @@ use Rattle.matchit.specs.Route.{Scan, parse_route}
 use Rattle.matchit.specs.Router.{RouteOf, route_from, nearest}
 use Rattle.matchit.specs.Seek.{first}
 use Rattle.matchit.specs.declared.error.InsertError.{InsertError}
-use Rattle.contest_view.specs.declared.settings_objects.SettingsEndpoint.TheVariants.{Problems, Teams}
+use Rattle.contest_view.specs.declared.settings_objects.SettingsEndpoint.TheVariants.{Languages, Problems, Teams}
 use Rattle.contest_desk.specs.Offers.{nothing, reads}
 use Rattle.contest_desk.specs.declared.offer.Offer.{Offer}
 use Rattle.contest_desk.specs.declared.operation.Command.TheVariants.{Submit}
@@ -25,8 +25,8 @@ route_rows =
     ∷ (codes "/contests/{contest}/scoreboard", nothing)
     ∷ (codes "/contests/{contest}/judgement-types", nothing)
     ∷ (codes "/contests/{contest}/judgement-types/{id}", nothing)
-    ∷ (codes "/contests/{contest}/languages", nothing)
-    ∷ (codes "/contests/{contest}/languages/{id}", nothing)
+    ∷ (codes "/contests/{contest}/languages", reads (All (Settings Languages)))
+    ∷ (codes "/contests/{contest}/languages/{id}", reads (Object (Settings Languages)))
     ∷ (codes "/contests/{contest}/problems", reads (All (Settings Problems)))
     ∷ (codes "/contests/{contest}/problems/{id}", reads (Object (Settings Problems)))
     ∷ (codes "/contests/{contest}/groups", nothing)

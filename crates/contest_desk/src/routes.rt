@@ -24,8 +24,20 @@ const ROUTES: [(&str, Offer); 31] = [
     ("/contests/{contest}/scoreboard", NOTHING),
     ("/contests/{contest}/judgement-types", NOTHING),
     ("/contests/{contest}/judgement-types/{id}", NOTHING),
-    ("/contests/{contest}/languages", NOTHING),
-    ("/contests/{contest}/languages/{id}", NOTHING),
+    (
+        "/contests/{contest}/languages",
+        Offer {
+            get: Some(Reading::List(Endpoint::Settings(SettingsEndpoint::Languages))),
+            ..NOTHING
+        },
+    ),
+    (
+        "/contests/{contest}/languages/{id}",
+        Offer {
+            get: Some(Reading::Object(Endpoint::Settings(SettingsEndpoint::Languages))),
+            ..NOTHING
+        },
+    ),
     (
         "/contests/{contest}/problems",
         Offer {

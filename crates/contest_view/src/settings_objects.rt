@@ -14,6 +14,8 @@ use std::alloc::{AllocError, Global};
 /// A collection of the settings (Contest API 2023-06, endpoints).
 #[derive(Clone, Copy)]
 pub enum SettingsEndpoint {
+    /// As they were imported.
+    Languages,
     /// By ordinal, then id.
     Problems,
     /// Hidden ones too, as they were imported.
@@ -34,6 +36,7 @@ pub fn settings_value(
     ensures no_floats { IfOk result (λ v. has_float (view v) ≡ false) }
 {
     match endpoint {
+        SettingsEndpoint::Languages => whole_value(alloc, &Languages, settings.languages()),
         SettingsEndpoint::Problems => problems_value(alloc, settings),
         SettingsEndpoint::Teams => whole_value(alloc, &Teams { settings }, settings.teams()),
     }
@@ -54,6 +57,7 @@ pub fn setting_by_id(
     ensures no_floats { IfOk result (λ found. IfSome found (λ v. has_float (view v) ≡ false)) }
 {
     match endpoint {
+        SettingsEndpoint::Languages => whole_by_id(alloc, &Languages, settings.languages(), id),
         SettingsEndpoint::Problems => whole_by_id(alloc, &Problems, settings.problems(), id),
         SettingsEndpoint::Teams => whole_by_id(alloc, &Teams { settings }, settings.teams(), id),
     }
