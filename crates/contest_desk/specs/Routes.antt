@@ -9,7 +9,7 @@ use Rattle.matchit.specs.Route.{Scan, parse_route}
 use Rattle.matchit.specs.Router.{RouteOf, route_from, nearest}
 use Rattle.matchit.specs.Seek.{first}
 use Rattle.matchit.specs.declared.error.InsertError.{InsertError}
-use Rattle.contest_view.specs.declared.settings_objects.SettingsEndpoint.TheVariants.{Languages, Problems, Teams}
+use Rattle.contest_view.specs.declared.settings_objects.SettingsEndpoint.TheVariants.{Groups, JudgementTypes, Languages, Problems, Teams}
 use Rattle.contest_desk.specs.Offers.{nothing, reads}
 use Rattle.contest_desk.specs.declared.offer.Offer.{Offer}
 use Rattle.contest_desk.specs.declared.operation.Command.TheVariants.{Submit}
@@ -23,14 +23,14 @@ route_rows =
     ∷ (codes "/contests/{contest}", nothing)
     ∷ (codes "/contests/{contest}/state", nothing)
     ∷ (codes "/contests/{contest}/scoreboard", nothing)
-    ∷ (codes "/contests/{contest}/judgement-types", nothing)
-    ∷ (codes "/contests/{contest}/judgement-types/{id}", nothing)
+    ∷ (codes "/contests/{contest}/judgement-types", reads (All (Settings JudgementTypes)))
+    ∷ (codes "/contests/{contest}/judgement-types/{id}", reads (Object (Settings JudgementTypes)))
     ∷ (codes "/contests/{contest}/languages", reads (All (Settings Languages)))
     ∷ (codes "/contests/{contest}/languages/{id}", reads (Object (Settings Languages)))
     ∷ (codes "/contests/{contest}/problems", reads (All (Settings Problems)))
     ∷ (codes "/contests/{contest}/problems/{id}", reads (Object (Settings Problems)))
-    ∷ (codes "/contests/{contest}/groups", nothing)
-    ∷ (codes "/contests/{contest}/groups/{id}", nothing)
+    ∷ (codes "/contests/{contest}/groups", reads (All (Settings Groups)))
+    ∷ (codes "/contests/{contest}/groups/{id}", reads (Object (Settings Groups)))
     ∷ (codes "/contests/{contest}/teams", reads (All (Settings Teams)))
     ∷ (codes "/contests/{contest}/teams/{id}", reads (Object (Settings Teams)))
     ∷ (codes "/contests/{contest}/judgements", nothing)

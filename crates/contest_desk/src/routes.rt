@@ -22,8 +22,20 @@ const ROUTES: [(&str, Offer); 31] = [
     ("/contests/{contest}", NOTHING),
     ("/contests/{contest}/state", NOTHING),
     ("/contests/{contest}/scoreboard", NOTHING),
-    ("/contests/{contest}/judgement-types", NOTHING),
-    ("/contests/{contest}/judgement-types/{id}", NOTHING),
+    (
+        "/contests/{contest}/judgement-types",
+        Offer {
+            get: Some(Reading::List(Endpoint::Settings(SettingsEndpoint::JudgementTypes))),
+            ..NOTHING
+        },
+    ),
+    (
+        "/contests/{contest}/judgement-types/{id}",
+        Offer {
+            get: Some(Reading::Object(Endpoint::Settings(SettingsEndpoint::JudgementTypes))),
+            ..NOTHING
+        },
+    ),
     (
         "/contests/{contest}/languages",
         Offer {
@@ -52,8 +64,20 @@ const ROUTES: [(&str, Offer); 31] = [
             ..NOTHING
         },
     ),
-    ("/contests/{contest}/groups", NOTHING),
-    ("/contests/{contest}/groups/{id}", NOTHING),
+    (
+        "/contests/{contest}/groups",
+        Offer {
+            get: Some(Reading::List(Endpoint::Settings(SettingsEndpoint::Groups))),
+            ..NOTHING
+        },
+    ),
+    (
+        "/contests/{contest}/groups/{id}",
+        Offer {
+            get: Some(Reading::Object(Endpoint::Settings(SettingsEndpoint::Groups))),
+            ..NOTHING
+        },
+    ),
     (
         "/contests/{contest}/teams",
         Offer {

@@ -13,7 +13,7 @@ use Rattle.contest_types.specs.declared.objects.Team.{Team}
 use Rattle.contest_types.specs.ProblemPlaces.{problem_order}
 use Rattle.contest_view.specs.Items.{Item, array_of, found_in, object_at}
 use Rattle.contest_view.specs.declared.settings_objects.SettingsEndpoint.{SettingsEndpoint}
-use Rattle.contest_view.specs.declared.settings_objects.SettingsEndpoint.TheVariants.{Languages, Problems, Teams}
+use Rattle.contest_view.specs.declared.settings_objects.SettingsEndpoint.TheVariants.{Groups, JudgementTypes, Languages, Problems, Teams}
 
 abbrev pub type_item : JudgementType → Item
 type_item t = record {
@@ -57,11 +57,15 @@ problems_data s = array (items_of (map (object_at problem_item s.problems) (prob
 -- all objects of an endpoint; all but problems in the order in which they were imported
 abbrev pub settings_data : SettingsEndpoint → Setup → Data
 settings_data Languages s = array_of (map language_item s.languages)
+settings_data JudgementTypes s = array_of (map type_item s.types)
+settings_data Groups s = array_of (map group_item s.groups)
 settings_data Problems s = problems_data s
 settings_data Teams s = array_of (map (team_item s) s.teams)
 
 -- the one with this id
 abbrev pub setting_found : SettingsEndpoint → Setup → (id : List ℕ) → Option Data
 setting_found Languages s = found_in (map language_item s.languages)
+setting_found JudgementTypes s = found_in (map type_item s.types)
+setting_found Groups s = found_in (map group_item s.groups)
 setting_found Problems s = found_in (map problem_item s.problems)
 setting_found Teams s = found_in (map (team_item s) s.teams)

@@ -15,6 +15,10 @@ use std::alloc::{AllocError, Global};
 #[derive(Clone, Copy)]
 pub enum SettingsEndpoint {
     /// As they were imported.
+    Groups,
+    /// As they were imported.
+    JudgementTypes,
+    /// As they were imported.
     Languages,
     /// By ordinal, then id.
     Problems,
@@ -37,6 +41,12 @@ pub fn settings_value(
 {
     match endpoint {
         SettingsEndpoint::Languages => whole_value(alloc, &Languages, settings.languages()),
+        SettingsEndpoint::JudgementTypes => whole_value(
+            alloc,
+            &JudgementTypes,
+            settings.judgement_types(),
+        ),
+        SettingsEndpoint::Groups => whole_value(alloc, &Groups, settings.groups()),
         SettingsEndpoint::Problems => problems_value(alloc, settings),
         SettingsEndpoint::Teams => whole_value(alloc, &Teams { settings }, settings.teams()),
     }
@@ -58,6 +68,13 @@ pub fn setting_by_id(
 {
     match endpoint {
         SettingsEndpoint::Languages => whole_by_id(alloc, &Languages, settings.languages(), id),
+        SettingsEndpoint::JudgementTypes => whole_by_id(
+            alloc,
+            &JudgementTypes,
+            settings.judgement_types(),
+            id,
+        ),
+        SettingsEndpoint::Groups => whole_by_id(alloc, &Groups, settings.groups(), id),
         SettingsEndpoint::Problems => whole_by_id(alloc, &Problems, settings.problems(), id),
         SettingsEndpoint::Teams => whole_by_id(alloc, &Teams { settings }, settings.teams(), id),
     }
