@@ -23,7 +23,7 @@ use Rattle.contest_desk.proofs.FileLemmas.{number_of, own_numbers}
 use Rattle.contest_rules.proofs.SubmittingLemmas.{own_sight, own_alike}
 
 -- a team's submissions with one more
-own_more : (team : ℕ) (ss : List Submission) (s : Submission) → (s.team == team) ≡ true → submissions_of team (ss ++ s ∷ []) ≡ submissions_of team ss ++ s ∷ []
+pub own_more : (team : ℕ) (ss : List Submission) (s : Submission) → (s.team == team) ≡ true → submissions_of team (ss ++ s ∷ []) ≡ submissions_of team ss ++ s ∷ []
 own_more team [] s is = rw is refl
 own_more team (t ∷ ss) s is =
     let go : (b : Bool) → (t.team == team) ≡ b → submissions_of team ((t ∷ ss) ++ s ∷ []) ≡ submissions_of team (t ∷ ss) ++ s ∷ [] = elim [
@@ -33,7 +33,7 @@ own_more team (t ∷ ss) s is =
     go (t.team == team) refl
 
 -- those of another team stay
-own_stay : (team : ℕ) (ss : List Submission) (s : Submission) → (s.team == team) ≡ false → submissions_of team (ss ++ s ∷ []) ≡ submissions_of team ss
+pub own_stay : (team : ℕ) (ss : List Submission) (s : Submission) → (s.team == team) ≡ false → submissions_of team (ss ++ s ∷ []) ≡ submissions_of team ss
 own_stay team [] s is = rw is refl
 own_stay team (t ∷ ss) s is =
     let go : (b : Bool) → (t.team == team) ≡ b → submissions_of team ((t ∷ ss) ++ s ∷ []) ≡ submissions_of team (t ∷ ss) = elim [
@@ -80,7 +80,7 @@ no_release x team n (v ∷ vs) none all =
     go ((v.team == team) && (v.number == n)) refl
 
 -- nothing is released yet on a team's next submission
-unjudged : (x : ContestState) (team n : ℕ) → is_valid x ≡ true → n ≡ length (submissions_of team x.submissions) + 1 → releases_on team n x.releases ≡ []
+pub unjudged : (x : ContestState) (team n : ℕ) → is_valid x ≡ true → n ≡ length (submissions_of team x.submissions) + 1 → releases_on team n x.releases ≡ []
 unjudged x team n valid next =
     let own = submissions_of team x.submissions in
     let past : list_any (λ s. s.number == n) own ≡ false = past_last own 1 n (length (map number_of own)) (own_numbers x team valid) (omega (arith, next)) in
@@ -107,7 +107,7 @@ unfolding records_of
 whole_same rs qs e = ap records_of e
 
 -- what is known of another team stays
-other_stays : (a : Audience) (x : ContestState) (team : ℕ) (s : Submission) → (s.team == team) ≡ false → sight_of a (add x (NewSubmission s)) team ≡ sight_of a x team
+pub other_stays : (a : Audience) (x : ContestState) (team : ℕ) (s : Submission) → (s.team == team) ≡ false → sight_of a (add x (NewSubmission s)) team ≡ sight_of a x team
 other_stays a x team s other =
     let same = own_stay team x.submissions s other in
     λ i. if owns a team then Whole (map (own_record x) (same i)) else (if is_public x.fixed.settings team then Open (map (open_record x) (same i)) else Nothing)

@@ -23,6 +23,8 @@ use Rattle.contest_desk.specs.Wishes.{wish_outcome, IsSound}
 use Rattle.contest_desk.specs.declared.operation.Endpoint.TheVariants.{Settings, Submissions}
 use Rattle.contest_desk.specs.declared.operation.Reading.TheVariants.{List as All, Object}
 use Rattle.contest_desk.specs.declared.reply.Reply.{Reply}
+use Rattle.contest_desk.specs.declared.request.Credential.{Credential}
+use Rattle.contest_desk.specs.declared.request.Request.{Request}
 use Rattle.contest_desk.specs.declared.wish.Wish.{Wish}
 use Rattle.contest_desk.specs.declared.wish.Wish.TheVariants.{Read, Submit}
 use Rattle.contest_desk.proofs.AddedAlike.{added_alike}
@@ -73,9 +75,13 @@ pub come_addable : (x : ContestState) (now : ℕ) (wish : Wish) → is_valid x �
 come_addable x now (Read reading a path) valid sound = refl
 come_addable x now (Submit team wanted) valid sound = adds_addable x team _ (deciding_adds x now team wanted valid sound)
 
-of_valid : (x : ContestState) (now : ℕ) (o : Option Caller) (r : Result Wish Reply) → is_valid x ≡ true → IfKnown x.fixed o r → is_valid (add_all x (outcome_of x now r).entries) ≡ true
-of_valid x now o (Err reply) valid known = valid
-of_valid x now o (Ok wish) valid known = adding_all x (wish_outcome now wish x).entries valid (come_addable x now wish valid known.sound)
+of_addable : (x : ContestState) (now : ℕ) (o : Option Caller) (r : Result Wish Reply) → is_valid x ≡ true → IfKnown x.fixed o r → are_addable x (outcome_of x now r).entries ≡ true
+of_addable x now o (Err reply) valid known = refl
+of_addable x now o (Ok wish) valid known = come_addable x now wish valid known.sound
+
+-- what a request adds may be added
+pub outcome_addable : (x : ContestState) (now : ℕ) (credential : Credential) (request : Request) → is_valid x ≡ true → are_addable x (outcome x now credential request).entries ≡ true
+outcome_addable x now credential request valid = of_addable x now (caller_of x.fixed credential) (wish_or_reply x.fixed credential request) valid (wished_known x credential request valid)
 
 pub steps_keep_valid : StepsKeepValid
-steps_keep_valid now credential request x valid = of_valid x now (caller_of x.fixed credential) (wish_or_reply x.fixed credential request) valid (wished_known x credential request valid)
+steps_keep_valid now credential request x valid = adding_all x (outcome x now credential request).entries valid (outcome_addable x now credential request valid)

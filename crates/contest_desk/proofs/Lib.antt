@@ -18,3 +18,5 @@ pub mod LawLemmas
 pub mod NeverFails
 pub mod FaultLemmas
 pub mod RunLemmas
+pub mod MovesAlike
+pub mod TwoRunLemmas

@@ -30,8 +30,10 @@ use Rattle.contest_desk.specs.declared.wish.Wish.TheVariants.{Read, Submit}
 use Rattle.contest_desk.proofs.WishLemmas.{OrdinaryError, wished_ordinary}
 use Rattle.contest_desk.specs.Replies.{refused}
 use Rattle.contest_desk.specs.Serving.{IsOrdinary}
-use Rattle.contest_desk.specs.Step.{wish_or_reply, outcome_of}
+use Rattle.contest_desk.specs.Step.{wish_or_reply, outcome_of, step}
 use Rattle.contest_desk.specs.declared.reply.Reply.{Reply}
+use Rattle.contest_desk.specs.declared.request.Credential.{Credential}
+use Rattle.contest_desk.specs.declared.request.Request.{Request}
 
 abbrev OrdinaryDecision : Decision Submission → Type 0
 OrdinaryDecision (Add s) = Unit {0}
@@ -95,9 +97,12 @@ of_ordinary : (x : ContestState) (now : ℕ) (r : Result Wish Reply) → Ordinar
 of_ordinary x now (Err reply) ordinary = ordinary
 of_ordinary x now (Ok wish) ordinary = come_ordinary x now wish
 
+pub step_ordinary : (x : ContestState) (now : ℕ) (credential : Credential) (request : Request) → IsOrdinary (step x now credential request).0
+step_ordinary x now credential request = of_ordinary x now (wish_or_reply x.fixed credential request) (wished_ordinary x.fixed credential request)
+
 pub steps_never_fail : StepsNeverFail
 steps_never_fail now credential request x fails =
-    let ordinary = of_ordinary x now (wish_or_reply x.fixed credential request) (wished_ordinary x.fixed credential request) in
+    let ordinary = step_ordinary x now credential request in
     elim fails [ inl e ↦ false≢true (sym ordinary ∙ ap (λ (r : Reply). r.status == 503) e) | inr e ↦ false≢true (sym ordinary ∙ ap (λ (r : Reply). r.status == 503) e) ]
 
 -- nor does a refusal that is decided

@@ -16,3 +16,5 @@ pub mod Unseen
 pub mod UnseenLaws
 pub mod Laws
 pub mod Runs
+pub mod Moves
+pub mod TwoRuns

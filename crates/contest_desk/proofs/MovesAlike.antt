@@ -1,0 +1,115 @@
+-- What others add, entry by entry.
+use Rattle.std.proofs.Common.{◌≡◌, ◌∙◌, ◌+◌, ℕ, Bool, true, false, List, [], ◌∷◌, ◌++◌, length, map, refl, sym, ap, subst}
+use Rattle.std.specs.Prelude.{◌==◌, if◌then◌else◌}
+use Rattle.std.proofs.lemmas.Bool.{eq-eqb, eqb-true}
+use Rattle.std.proofs.lemmas.List.{map-append}
+use Rattle.contest_types.specs.Addable.{is_addable, are_addable, is_next_submission}
+use Rattle.contest_types.specs.Alike.{OpenRecord, open_record, TeamSight, Whole, Open, Nothing, sight_of, Alike}
+use Rattle.contest_types.specs.Clock.{is_frozen}
+use Rattle.contest_types.specs.Masks.{owns}
+use Rattle.contest_types.specs.TeamPlaces.{is_public}
+use Rattle.contest_types.specs.Sight.{Judgement, judgement_of, judgements_on}
+use Rattle.contest_types.specs.State.{ContestState, submissions_of, releases_on, add}
+use Rattle.contest_types.specs.Valid.{is_valid}
+use Rattle.contest_types.specs.ValidSubmissions.{is_valid_submission}
+use Rattle.contest_types.specs.declared.entry.Entry.{Entry}
+use Rattle.contest_types.specs.declared.entry.Entry.TheVariants.{NewSubmission}
+use Rattle.contest_types.specs.declared.audience.Audience.{Audience}
+use Rattle.contest_types.specs.declared.submission.Submission.{Submission}
+use Rattle.contest_types.proofs.AddEntry.{adding}
+use Rattle.contest_types.proofs.PlaceLemmas.{and_left, and_right}
+use Rattle.contest_desk.specs.Moves.{ShowTheSame, ShowsLike, AreSame, InFirst, InSecond, InBoth, first_entries, second_entries, MovesStayAlike}
+use Rattle.contest_desk.proofs.AddedAlike.{own_more, unjudged, other_stays}
+use Rattle.contest_desk.proofs.UnseenLemmas.{alike_onward, unseen_entry}
+
+pub turned : (a : Audience) (x y : ContestState) → Alike a x y → Alike a y x
+turned a x y h = record { fixed = sym h.fixed; teams = λ team. sym (h.teams team); told = λ to. sym (h.told to) }
+
+open_sight : (a : Audience) (x : ContestState) (team : ℕ) → owns a team ≡ false → is_public x.fixed.settings team ≡ true → sight_of a x team ≡ Open (map (open_record x) (submissions_of team x.submissions))
+open_sight a x team other shown = rw (other, shown) refl
+
+records_of : TeamSight → List OpenRecord
+records_of (Whole rs) = []
+records_of (Open rs) = rs
+records_of Nothing = []
+
+open_same : (rs qs : List OpenRecord) → Open rs ≡ Open qs → rs ≡ qs
+unfolding records_of
+open_same rs qs e = ap records_of e
+
+-- what is open of a submission on which nothing was released
+abbrev fresh_record : Submission → OpenRecord
+fresh_record s = record { number = s.number; problem = s.problem; language = s.language; time = s.time; judgements = [] }
+
+none_held : (b : Bool) (js : List Judgement) → js ≡ [] → (if b then [] else js) ≡ []
+none_held true js e = refl
+none_held false js e = e
+
+is_fresh : (x : ContestState) (s : Submission) → judgements_on x s ≡ [] → open_record x s ≡ fresh_record s
+is_fresh x s none =
+    let held : (if is_frozen x.fixed.settings x.fixed.marks s.time then [] else judgements_on x s) ≡ [] = none_held (is_frozen x.fixed.settings x.fixed.marks s.time) (judgements_on x s) none in
+    λ i. record { number = s.number; problem = s.problem; language = s.language; time = s.time; judgements = held i }
+
+open_grows : (a : Audience) (x : ContestState) (team : ℕ) (s : Submission) → is_valid x ≡ true → owns a team ≡ false → is_public x.fixed.settings team ≡ true
+    → s.team ≡ team → s.number ≡ length (submissions_of team x.submissions) + 1
+    → sight_of a (add x (NewSubmission s)) team ≡ Open (map (open_record x) (submissions_of team x.submissions) ++ fresh_record s ∷ [])
+open_grows a x team s valid other shown own next =
+    let is : (s.team == team) ≡ true = eq-eqb s.team team own in
+    let none : judgements_on x s ≡ [] = ap (λ u. map judgement_of (releases_on u s.number x.releases)) own ∙ ap (map judgement_of) (unjudged x team s.number valid next) in
+    let last : open_record x s ∷ [] ≡ fresh_record s ∷ [] = ap (λ r. r ∷ []) (is_fresh x s none) in
+    open_sight a (add x (NewSubmission s)) team other shown
+    ∙ (ap (λ ss. Open (map (open_record x) ss)) (own_more team x.submissions s is)
+    ∙ (ap Open (map-append (open_record x) (submissions_of team x.submissions) (s ∷ [])) ∙ ap (λ rs. Open (map (open_record x) (submissions_of team x.submissions) ++ rs)) last))
+
+fresh_same : (a : Audience) (x : ContestState) (s t : Submission) → ShowTheSame a x s t → fresh_record s ≡ fresh_record t
+fresh_same a x s t h = λ i. record { number = h.number i; problem = h.problem i; language = h.language i; time = h.time i; judgements = [] }
+
+next_number : (x : ContestState) (s : Submission) → is_addable x (NewSubmission s) ≡ true → s.number ≡ length (submissions_of s.team x.submissions) + 1
+next_number x s can =
+    let own = submissions_of s.team x.submissions in
+    let next = and_right (is_valid_submission x.fixed s) (is_next_submission own s) can in
+    eqb-true s.number (length own + 1) (and_left _ _ (and_left _ _ (and_left _ _ next)))
+
+paired_submission : (a : Audience) (x y : ContestState) (s t : Submission) → is_valid x ≡ true → is_valid y ≡ true → Alike a x y → is_addable x (NewSubmission s) ≡ true → is_addable y (NewSubmission t) ≡ true
+    → ShowTheSame a x s t → Alike a (add x (NewSubmission s)) (add y (NewSubmission t))
+paired_submission a x y s t valid_x valid_y h can can_too same =
+    let team = s.team in
+    let shown_y : is_public y.fixed.settings team ≡ true = sym (ap (λ f. is_public f.settings team) h.fixed) ∙ same.shown in
+    let known : map (open_record x) (submissions_of team x.submissions) ≡ map (open_record y) (submissions_of team y.submissions) =
+    open_same _ _ (sym (open_sight a x team same.other same.shown) ∙ (h.teams team ∙ open_sight a y team same.other shown_y)) in
+    let next_t : t.number ≡ length (submissions_of team y.submissions) + 1 = next_number y t can_too ∙ ap (λ u. length (submissions_of u y.submissions) + 1) (sym same.team) in
+    let theirs : sight_of a (add x (NewSubmission s)) team ≡ sight_of a (add y (NewSubmission t)) team =
+    open_grows a x team s valid_x same.other same.shown refl (next_number x s can) ∙ (ap (λ rs. Open (rs ++ fresh_record s ∷ [])) known
+    ∙ (ap (λ r. Open (map (open_record y) (submissions_of team y.submissions) ++ r ∷ [])) (fresh_same a x s t same) ∙ sym (open_grows a y team t valid_y same.other shown_y (sym same.team) next_t))) in
+    let each : (u : ℕ) (b : Bool) → (s.team == u) ≡ b → sight_of a (add x (NewSubmission s)) u ≡ sight_of a (add y (NewSubmission t)) u = λ u. elim [
+      | true ↦ λ e. subst (λ v. sight_of a (add x (NewSubmission s)) v ≡ sight_of a (add y (NewSubmission t)) v) (eqb-true _ _ e) theirs
+      | false ↦ λ e. other_stays a x u s e ∙ (h.teams u ∙ sym (other_stays a y u t (ap (λ w. w == u) (sym same.team) ∙ e)))
+    ] in
+    record { fixed = h.fixed; teams = λ u. each u (s.team == u) refl; told = h.told }
+
+shown_alike : (a : Audience) (x y : ContestState) (s : Submission) (f : Entry) → is_valid x ≡ true → is_valid y ≡ true → Alike a x y → is_addable x (NewSubmission s) ≡ true → is_addable y f ≡ true
+    → ShowsLike a x s f → Alike a (add x (NewSubmission s)) (add y f)
+shown_alike a x y s (NewSubmission t) valid_x valid_y h can can_too same = paired_submission a x y s t valid_x valid_y h can can_too same
+shown_alike a x y s _ valid_x valid_y h can can_too same = absurd same
+
+-- two entries that show the same
+same_alike : (a : Audience) (x y : ContestState) (e f : Entry) → is_valid x ≡ true → is_valid y ≡ true → Alike a x y → is_addable x e ≡ true → is_addable y f ≡ true → AreSame a x e f → Alike a (add x e) (add y f)
+same_alike a x y (NewSubmission s) f valid_x valid_y h can can_too same = shown_alike a x y s f valid_x valid_y h can can_too same
+same_alike a x y _ f valid_x valid_y h can can_too same = absurd same
+
+pub moves_stay_alike : MovesStayAlike
+moves_stay_alike a x y [] valid_x valid_y h can can_too moves = h
+moves_stay_alike a x y (InFirst e ∷ ms) valid_x valid_y h can can_too moves =
+    let one = and_left (is_addable x e) (are_addable (add x e) (first_entries ms)) can in
+    let rest = and_right (is_addable x e) (are_addable (add x e) (first_entries ms)) can in
+    moves_stay_alike a (add x e) y ms (adding x e valid_x one) valid_y (alike_onward a (add x e) x y (unseen_entry a x e moves.0) h) rest can_too moves.1
+moves_stay_alike a x y (InSecond f ∷ ms) valid_x valid_y h can can_too moves =
+    let one = and_left (is_addable y f) (are_addable (add y f) (second_entries ms)) can_too in
+    let rest = and_right (is_addable y f) (are_addable (add y f) (second_entries ms)) can_too in
+    moves_stay_alike a x (add y f) ms valid_x (adding y f valid_y one) (alike_onward a x y (add y f) h (turned a (add y f) y (unseen_entry a y f moves.0))) can rest moves.1
+moves_stay_alike a x y (InBoth e f ∷ ms) valid_x valid_y h can can_too moves =
+    let one = and_left (is_addable x e) (are_addable (add x e) (first_entries ms)) can in
+    let rest = and_right (is_addable x e) (are_addable (add x e) (first_entries ms)) can in
+    let one_too = and_left (is_addable y f) (are_addable (add y f) (second_entries ms)) can_too in
+    let rest_too = and_right (is_addable y f) (are_addable (add y f) (second_entries ms)) can_too in
+    moves_stay_alike a (add x e) (add y f) ms (adding x e valid_x one) (adding y f valid_y one_too) (same_alike a x y e f valid_x valid_y h one one_too moves.0) rest rest_too moves.1

@@ -1,0 +1,67 @@
+-- What others add to two contests that are alike for an audience (own).
+use Rattle.std.specs.Prelude.{◌≡◌, true, false, List, [], ◌∷◌}
+use Rattle.contest_types.specs.Addable.{are_addable}
+use Rattle.contest_types.specs.Alike.{Alike}
+use Rattle.contest_types.specs.Masks.{owns}
+use Rattle.contest_types.specs.TeamPlaces.{is_public}
+use Rattle.contest_types.specs.State.{ContestState, add, add_all}
+use Rattle.contest_types.specs.Valid.{is_valid}
+use Rattle.contest_types.specs.declared.entry.Entry.{Entry}
+use Rattle.contest_types.specs.declared.entry.Entry.TheVariants.{NewSubmission}
+use Rattle.contest_types.specs.declared.audience.Audience.{Audience}
+use Rattle.contest_types.specs.declared.submission.Submission.{Submission}
+use Rattle.contest_desk.specs.Unseen.{IsUnseen}
+
+-- submissions of one other team, which isn't hidden, that show the audience the same: whatever their files, entry
+-- points and keys
+pub record ShowTheSame (a : Audience) (x : ContestState) (s t : Submission) : Type 0 where
+  pub other : owns a s.team ≡ false
+  pub shown : is_public x.fixed.settings s.team ≡ true
+  pub team : s.team ≡ t.team
+  pub number : s.number ≡ t.number
+  pub problem : s.problem ≡ t.problem
+  pub language : s.language ≡ t.language
+  pub time : s.time ≡ t.time
+
+abbrev pub ShowsLike : Audience → ContestState → Submission → Entry → Type 0
+ShowsLike a x s (NewSubmission t) = ShowTheSame a x s t
+ShowsLike a x s _ = ⊥
+
+-- two entries that show an audience the same. No command adds other entries that are seen yet
+abbrev pub AreSame : Audience → ContestState → Entry → Entry → Type 0
+AreSame a x (NewSubmission s) f = ShowsLike a x s f
+AreSame a x _ f = ⊥
+
+-- an entry that is added to the first of two contests, to the second, or one to each
+pub data Move : Type 0 where
+  InFirst : Entry → Move
+  InSecond : Entry → Move
+  InBoth : Entry → Entry → Move
+
+-- what is added to the first
+abbrev pub first_entries : List Move → List Entry
+first_entries [] = []
+first_entries (InFirst e ∷ moves) = e ∷ first_entries moves
+first_entries (InSecond f ∷ moves) = first_entries moves
+first_entries (InBoth e f ∷ moves) = e ∷ first_entries moves
+
+-- and to the second
+abbrev pub second_entries : List Move → List Entry
+second_entries [] = []
+second_entries (InFirst e ∷ moves) = second_entries moves
+second_entries (InSecond f ∷ moves) = f ∷ second_entries moves
+second_entries (InBoth e f ∷ moves) = f ∷ second_entries moves
+
+-- what is added to one of them alone can't be noticed, and what is added to both shows the same
+abbrev pub AreAlikeMoves : Audience → (x y : ContestState) → List Move → Type 0
+AreAlikeMoves a x y [] = Unit {0}
+AreAlikeMoves a x y (InFirst e ∷ moves) = IsUnseen a x e × AreAlikeMoves a (add x e) y moves
+AreAlikeMoves a x y (InSecond f ∷ moves) = IsUnseen a y f × AreAlikeMoves a x (add y f) moves
+AreAlikeMoves a x y (InBoth e f ∷ moves) = AreSame a x e f × AreAlikeMoves a (add x e) (add y f) moves
+
+-- such moves leave alike contests alike
+abbrev pub MovesStayAlike : Type 0
+MovesStayAlike =
+    (a : Audience) (x y : ContestState) (moves : List Move) → is_valid x ≡ true → is_valid y ≡ true → Alike a x y
+    → are_addable x (first_entries moves) ≡ true → are_addable y (second_entries moves) ≡ true → AreAlikeMoves a x y moves
+    → Alike a (add_all x (first_entries moves)) (add_all y (second_entries moves))
