@@ -147,7 +147,7 @@ fn cells_of(alloc: Global, fixed: &Fixed, case: &Case) -> Result<[Cell; 2], Fail
 
 fn assert_counts(rt: &(impl Abort + AllocGlobal), fixed: &Fixed, case: &Case) -> Result<(), Fail> {
     let cells = cells_of(rt.alloc(), fixed, case)?;
-    assert!(rt; cells == case.cells, "{}: {cells:?}", case.name);
+    assert!(rt; cells == case.cells, "{}", case.name);
     Ok(())
 }
 
