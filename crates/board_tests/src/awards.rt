@@ -1,6 +1,6 @@
 //! Awards of small boards, as they are listed.
 
-use contest_fixtures::{SettingRow, demo_head, fill, moment};
+use contest_fixtures::{SettingRow, demo_settings, moment};
 use contest_score::{Awards, Board, CellRow, Row, Score, Solve, awards};
 use contest_types::{Medals, Minute, Settings};
 use std::alloc::Global;
@@ -87,14 +87,6 @@ group-winner-west: Winner of group West [3]
     },
 ];
 
-fn settings(alloc: Global, medals: Medals) -> Result<Settings, Fail> {
-    let mut head = demo_head(alloc)?;
-    head.medals = medals;
-    let mut settings = Settings::new(alloc, head)?;
-    fill(alloc, &mut settings, &ROWS)?;
-    Ok(settings)
-}
-
 fn row(alloc: Global, team: usize, rank: u32, solved: u32) -> Row {
     Row {
         team,
@@ -149,7 +141,7 @@ fn listed_in(alloc: Global, settings: &Settings, awarded: &Awarded) -> Result<St
 }
 
 fn listed(alloc: Global, awarded: &Awarded) -> Result<String, Fail> {
-    let settings = settings(alloc, awarded.medals)?;
+    let settings = demo_settings(alloc, awarded.medals, &ROWS)?;
     listed_in(alloc, &settings, awarded)
 }
 

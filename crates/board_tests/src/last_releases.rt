@@ -1,8 +1,8 @@
 //! Cells of a contest's own lists: which release on a submission counts.
 
-use contest_fixtures::{SettingRow, demo_settings, moment};
+use contest_fixtures::{SettingRow, after, demo};
 use contest_score::{Cell, Cells, can_be_scored, contest_cells};
-use contest_types::{Audience, Fixed, Marks, Minute, Release, Rows, Submission};
+use contest_types::{Audience, Fixed, Minute, Release, Rows, Submission};
 use std::alloc::Global;
 use std::process::Abort;
 use std::test::Fail;
@@ -16,7 +16,7 @@ static ROWS: [SettingRow; 5] = [
 ];
 
 /// Team, number and milliseconds of each submission, all at the first problem.
-static SENT: [(usize, usize, u64); 4] = [
+static SENT: [(usize, usize, u32); 4] = [
     (0, 1, 60_000),
     (1, 1, 120_000),
     (0, 2, 300_000),
@@ -95,7 +95,7 @@ fn sent(alloc: Global) -> Result<Vec<Submission>, Fail> {
         submissions.push(Submission {
             team: *team,
             number: *number,
-            time: moment(*milliseconds)?,
+            time: after(*milliseconds)?,
             problem: 0,
             language: 0,
             entry_point: None,
@@ -114,23 +114,10 @@ fn released(alloc: Global, rows: &[(usize, usize, usize, usize)]) -> Result<Vec<
             number: *number,
             round: *round,
             verdict: *verdict,
-            time: moment(700_000)?,
+            time: after(700_000)?,
         })?;
     }
     Ok(releases)
-}
-
-fn fixed(alloc: Global) -> Result<Fixed, Fail> {
-    let start = moment(0)?;
-    Ok(Fixed {
-        settings: demo_settings(alloc, &ROWS)?,
-        accounts: Rows::new(alloc),
-        marks: Marks {
-            start: Some(start),
-            thaw: None,
-            finalized: None,
-        },
-    })
 }
 
 /// The two teams' cells, to the public.
@@ -140,14 +127,14 @@ fn cells_of(alloc: Global, fixed: &Fixed, case: &Case) -> Result<[Cell; 2], Fail
     if !can_be_scored(fixed, &submissions, &releases) {
         return Err(Fail::from("can't be scored"));
     }
-    let now = moment(700_000)?;
+    let now = after(700_000)?;
     let cells = contest_cells(alloc, fixed, Audience::Public, now, &submissions, &releases)?;
     Ok([cells.cell(0, 0), cells.cell(1, 0)])
 }
 
 fn assert_counts(rt: &(impl Abort + AllocGlobal), fixed: &Fixed, case: &Case) -> Result<(), Fail> {
     let cells = cells_of(rt.alloc(), fixed, case)?;
-    assert!(rt; cells == case.cells, "{}: {cells:?}", case.name);
+    assert!(rt; cells == case.cells, "{}", case.name);
     Ok(())
 }
 
@@ -160,6 +147,6 @@ fn assert_all_count(rt: &(impl Abort + AllocGlobal), fixed: &Fixed) -> Result<()
 
 #[test]
 fn the_last_release_counts(rt: HostRuntime) -> Result<(), Fail> {
-    let fixed = fixed(rt.alloc())?;
+    let fixed = demo(rt.alloc(), &ROWS, Rows::new(rt.alloc()))?;
     assert_all_count(&rt, &fixed)
 }

@@ -1,14 +1,8 @@
-//! Tests of boards and awards: contests made from a seed and scored twice, which release counts, and the
-//! awards of small ones. The expected values come from counting by hand and by a plain program.
+//! Tests of boards and awards: which release of a submission counts, and the awards of small boards. The
+//! expected values come from counting by hand.
 #![tactic(auto)]
 
 #[cfg(test)]
 mod awards;
 #[cfg(test)]
 mod last_releases;
-#[cfg(test)]
-mod made_contest;
-#[cfg(test)]
-mod plain_scoring;
-#[cfg(test)]
-mod scored_twice;

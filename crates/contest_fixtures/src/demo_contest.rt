@@ -2,8 +2,9 @@
 
 use crate::setting_rows::{SettingRow, fill};
 use crate::values::{id, moment, name, span};
-use contest_types::{ContestHead, Fixed, Marks, Medals, Moment, Rows, Settings};
+use contest_types::{Account, ContestHead, Fixed, Marks, Medals, Moment, Rows, Settings};
 use std::alloc::Global;
+use std::rc::Rc;
 use std::test::Fail;
 
 /// 2024-03-02T09:00:00Z.
@@ -16,7 +17,7 @@ const MEDALS: Medals = Medals {
 };
 
 /// Five hours, the last of them frozen, with twenty minutes for a penalty.
-pub fn demo_head(alloc: Global) -> Result<ContestHead, Fail> {
+fn demo_head(alloc: Global, medals: Medals) -> Result<ContestHead, Fail> {
     Ok(ContestHead {
         id: id(alloc, "demo")?,
         name: name(alloc, "Demo Cup")?,
@@ -24,15 +25,23 @@ pub fn demo_head(alloc: Global) -> Result<ContestHead, Fail> {
         freeze: Some(span(3_600_000)?),
         penalty_time: 20,
         verification: false,
-        medals: MEDALS,
+        medals,
     })
 }
 
-/// The settings of the demo contest with these rows.
-pub fn demo_settings(alloc: Global, rows: &[SettingRow]) -> Result<Settings, Fail> {
-    let mut settings = Settings::new(alloc, demo_head(alloc)?)?;
+fn settings_of(alloc: Global, medals: Medals, rows: &[SettingRow]) -> Result<Settings, Fail> {
+    let mut settings = Settings::new(alloc, demo_head(alloc, medals)?)?;
     fill(alloc, &mut settings, rows)?;
     Ok(settings)
+}
+
+/// The settings of the demo contest with these medals and rows.
+pub fn demo_settings(
+    alloc: Global,
+    medals: Medals,
+    rows: &[SettingRow],
+) -> Result<Rc<Settings>, Fail> {
+    Ok(Rc::new(alloc, settings_of(alloc, medals, rows)?)?)
 }
 
 /// So many milliseconds after nine o'clock.
@@ -48,12 +57,18 @@ fn marks() -> Result<Marks, Fail> {
     })
 }
 
-/// The demo contest with these rows and no account, where nothing stands yet.
-pub fn demo(alloc: Global, rows: &[SettingRow]) -> Result<Fixed, Fail> {
+/// The demo contest with these rows and accounts, where nothing stands yet.
+pub fn demo(
+    alloc: Global,
+    rows: &[SettingRow],
+    accounts: Rows<Account>,
+) -> Result<Rc<Fixed>, Fail> {
     let marks = marks()?;
-    Ok(Fixed {
-        settings: demo_settings(alloc, rows)?,
-        accounts: Rows::new(alloc),
+    let settings = settings_of(alloc, MEDALS, rows)?;
+    let fixed = Fixed {
+        settings,
+        accounts,
         marks,
-    })
+    };
+    Ok(Rc::new(alloc, fixed)?)
 }

@@ -98,8 +98,7 @@ fn team(
     })
 }
 
-/// Adds a row, and answers as the settings do.
-pub fn add_row(alloc: Global, settings: &mut Settings, row: SettingRow) -> Result<bool, RowFault> {
+fn add_row(alloc: Global, settings: &mut Settings, row: SettingRow) -> Result<bool, RowFault> {
     match row {
         SettingRow::Type(id, solved, penalty) => {
             settings.add_judgement_type(alloc, judgement_type(alloc, id, solved, penalty)?)

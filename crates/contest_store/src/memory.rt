@@ -72,7 +72,7 @@ impl MemoryStore {
     }
 
     /// Lets so many more calls go on, and the one after them fail. That it then fails is shown by tests
-    /// (`kept_in_memory` of submission_tests): the clauses of the calls are those of any store.
+    /// (store_tests and desk_walks): the clauses of the calls are those of any store.
     pub fn fail_after(&mut self, calls: u32)
         ensures { self.new ≡ record self.old { calls_left = Some calls } }
     {

@@ -1,10 +1,12 @@
 -- Worked examples of what is served: which submissions are listed for whom, and which is found by an id.
-use Rattle.std.proofs.Common.{◌≡◌, ℕ, List, [], ◌∷◌, None, true, refl}
+use Rattle.std.proofs.Common.{◌≡◌, ℕ, List, [], ◌∷◌, Option, Some, None, true, refl}
 use Rattle.std.specs.Prelude.{codes, map, is_some}
 use Rattle.std.specs.Fmt.{digits}
+use Rattle.contest_types.specs.Sight.{seen_verdict}
+use Rattle.contest_types.specs.State.{ContestState}
 use Rattle.contest_types.specs.declared.audience.Audience.{Audience}
 use Rattle.contest_types.specs.declared.audience.Audience.TheVariants as audience
-use Rattle.contest_types.proofs.ExampleContest.{hours}
+use Rattle.contest_types.proofs.ExampleContest.{hours, accepted, submitted, released}
 use Rattle.contest_types.proofs.ExampleTalk.{base}
 use Rattle.contest_view.specs.Items.{Item}
 use Rattle.contest_view.specs.Reads.{submission_items, submission_found}
@@ -37,3 +39,23 @@ found_by_itself = refl
 other_text : submission_found audience.Jury (hours 5) base (codes "s4-01") ≡ None
 unfolding digits
 other_text = refl
+
+-- verdicts on the hidden team's submissions, before the freeze and in it, are seen by itself and the jury alone;
+-- in the freeze it learns no other team's
+abbrev judged : ContestState
+judged = record base { releases = released 3 1 1 accepted (hours 4) ∷ released 3 2 1 accepted (hours 4) ∷ released 0 2 1 accepted (hours 4) ∷ [] }
+
+abbrev verdicts_for : Audience → List (Option ℕ)
+verdicts_for a = map (seen_verdict a (hours 4) judged) (submitted 3 1 (hours 3) 0 ∷ submitted 3 2 (hours 4) 0 ∷ submitted 0 2 (hours 4) 0 ∷ [])
+
+hidden_verdicts_public : verdicts_for audience.Public ≡ None ∷ None ∷ None ∷ []
+hidden_verdicts_public = refl
+
+hidden_verdicts_other : verdicts_for (audience.Team 2) ≡ None ∷ None ∷ None ∷ []
+hidden_verdicts_other = refl
+
+hidden_verdicts_own : verdicts_for (audience.Team 4) ≡ Some accepted ∷ Some accepted ∷ None ∷ []
+hidden_verdicts_own = refl
+
+hidden_verdicts_jury : verdicts_for audience.Jury ≡ Some accepted ∷ Some accepted ∷ Some accepted ∷ []
+hidden_verdicts_jury = refl

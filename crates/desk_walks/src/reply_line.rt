@@ -1,0 +1,35 @@
+//! Replies as walks show them: `405 Allow: GET, HEAD {"code":405,"message":"Method"}`.
+
+use contest_desk::{ContentType, ExtraField, Reply};
+use contest_fixtures::text_of;
+use std::alloc::{AllocError, Global};
+
+/// Whether a line of a walk is a reply.
+pub fn is_reply(line: &str) -> bool {
+    line.starts_with(|first: char| first.is_ascii_digit())
+}
+
+/// The line of a reply. Where the content is JSON that isn't told.
+pub fn reply_line(alloc: Global, reply: &Reply) -> Result<String, AllocError> {
+    let status = reply.status;
+    let content = content_text(reply.content);
+    let (field, value) = field_texts(reply.extra);
+    let body = text_of(reply.body.as_bytes());
+    format!(in alloc; "{status}{content}{field}{value} {body}\n")
+}
+
+fn content_text(content: ContentType) -> &'static str {
+    match content {
+        ContentType::Json => "",
+        ContentType::Zip => " application/zip",
+    }
+}
+
+/// The name of the field that only some replies have, and what it says.
+fn field_texts(extra: ExtraField) -> (&'static str, &'static str) {
+    match extra {
+        ExtraField::Nothing => ("", ""),
+        ExtraField::Allow(methods) => (" Allow: ", methods.text()),
+        ExtraField::WwwAuthenticate => (" WWW-Authenticate: ", "Bearer"),
+    }
+}
