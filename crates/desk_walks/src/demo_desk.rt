@@ -22,16 +22,21 @@ static ACCOUNTS: [(&str, Role); 6] = [
     ("j1", Role::Judge),
 ];
 
-/// Two languages, two problems and four teams. The third is hidden, and its id is the last.
-static ROWS: [SettingRow; 8] = [
+/// Two judgement types, two languages, three problems, a group and four teams. The problems come out of
+/// order, and two have one ordinal. The third team is hidden, and its id is the last.
+static ROWS: [SettingRow; 12] = [
+    SettingRow::Type("AC", true, false),
+    SettingRow::Type("WA", false, true),
     SettingRow::Language("cpp", false),
     SettingRow::Language("java", true),
-    SettingRow::Problem("a", "A", 0),
     SettingRow::Problem("b", "B", 1),
+    SettingRow::Problem("c", "C", 0),
+    SettingRow::Problem("a", "A", 0),
+    SettingRow::Group("north", "North"),
     SettingRow::Team("t1", "Alpha", None, false),
     SettingRow::Team("t2", "Beta", None, false),
     SettingRow::Team("t9", "Staff", None, true),
-    SettingRow::Team("t3", "Gamma", None, false),
+    SettingRow::Team("t3", "Gamma", Some(0), false),
 ];
 
 fn account(alloc: Global, text: &str, role: Role) -> Result<Account, Fail> {
