@@ -21,7 +21,7 @@ use Rattle.contest_desk.specs.Readings.{read, told}
 use Rattle.contest_desk.specs.Step.{wish_or_reply, outcome_of, outcome}
 use Rattle.contest_desk.specs.Wishes.{wish_outcome, IsSound}
 use Rattle.contest_desk.specs.declared.operation.Endpoint.TheVariants.{Settings, Submissions}
-use Rattle.contest_desk.specs.declared.operation.Reading.TheVariants.{List as All, Object}
+use Rattle.contest_desk.specs.declared.operation.Reading.TheVariants.{List as AllOf, Object}
 use Rattle.contest_desk.specs.declared.reply.Reply.{Reply}
 use Rattle.contest_desk.specs.declared.request.Credential.{Credential}
 use Rattle.contest_desk.specs.declared.request.Request.{Request}
@@ -32,8 +32,8 @@ use Rattle.contest_desk.proofs.PostAdds.{AddsAtMost, adds_addable, deciding_adds
 use Rattle.contest_desk.proofs.WishLemmas.{speaker, SpeaksFor, IfKnown, wished_known}
 
 pub reads_alike : ReadsAlike
-reads_alike a now x y (All (Settings endpoint)) path held h = ap (λ (f : FixedPart). told (Some (settings_data endpoint f.settings))) h.fixed
-reads_alike a now x y (All Submissions) path held h = ap (λ d. told (Some d)) (alike_read a now x y held h).0
+reads_alike a now x y (AllOf (Settings endpoint)) path held h = ap (λ (f : FixedPart). told (Some (settings_data endpoint f.settings))) h.fixed
+reads_alike a now x y (AllOf Submissions) path held h = ap (λ d. told (Some d)) (alike_read a now x y held h).0
 reads_alike a now x y (Object (Settings endpoint)) path held h = ap (λ (f : FixedPart). told (setting_found endpoint f.settings (object_piece path))) h.fixed
 reads_alike a now x y (Object Submissions) path held h = ap told ((alike_read a now x y held h).1 (object_piece path))
 

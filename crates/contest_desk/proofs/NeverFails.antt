@@ -22,7 +22,7 @@ use Rattle.contest_desk.specs.PostSubmission.{repeat_outcome, decision_outcome}
 use Rattle.contest_types.specs.declared.audience.Audience.{Audience}
 use Rattle.contest_desk.specs.Paths.{object_piece}
 use Rattle.contest_desk.specs.declared.operation.Reading.{Reading}
-use Rattle.contest_desk.specs.declared.operation.Reading.TheVariants.{List as All, Object}
+use Rattle.contest_desk.specs.declared.operation.Reading.TheVariants.{List as AllOf, Object}
 use Rattle.contest_desk.specs.Readings.{object_found, read, told}
 use Rattle.contest_desk.specs.Wishes.{wish_outcome}
 use Rattle.contest_desk.specs.declared.wish.Wish.{Wish}
@@ -86,7 +86,7 @@ found_ordinary None = refl
 found_ordinary (Some d) = refl
 
 read_ordinary : (a : Audience) (now : ℕ) (x : ContestState) (reading : Reading) (path : List ℕ) → IsOrdinary (read a now x reading path)
-read_ordinary a now x (All endpoint) path = refl
+read_ordinary a now x (AllOf endpoint) path = refl
 read_ordinary a now x (Object endpoint) path = found_ordinary (object_found a now x endpoint (object_piece path))
 
 come_ordinary : (x : ContestState) (now : ℕ) (wish : Wish) → IsOrdinary (wish_outcome now wish x).reply

@@ -11,7 +11,7 @@ use Rattle.contest_desk.specs.Replies.{refused, answer}
 use Rattle.contest_desk.specs.declared.operation.Endpoint.{Endpoint}
 use Rattle.contest_desk.specs.declared.operation.Endpoint.TheVariants.{Settings, Submissions}
 use Rattle.contest_desk.specs.declared.operation.Reading.{Reading}
-use Rattle.contest_desk.specs.declared.operation.Reading.TheVariants.{List as All, Object}
+use Rattle.contest_desk.specs.declared.operation.Reading.TheVariants.{List as AllOf, Object}
 use Rattle.contest_desk.specs.declared.reply.Reply.{Reply}
 
 -- the array of an endpoint's objects that an audience sees
@@ -31,5 +31,5 @@ told (Some d) = answer d
 
 -- what an audience that reads a path is answered
 abbrev pub read : Audience → ℕ → ContestState → Reading → (path : List ℕ) → Reply
-read a now x (All endpoint) path = told (Some (all_data a now x endpoint))
+read a now x (AllOf endpoint) path = told (Some (all_data a now x endpoint))
 read a now x (Object endpoint) path = told (object_found a now x endpoint (object_piece path))

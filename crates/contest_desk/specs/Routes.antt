@@ -14,7 +14,7 @@ use Rattle.contest_desk.specs.Offers.{nothing, reads}
 use Rattle.contest_desk.specs.declared.offer.Offer.{Offer}
 use Rattle.contest_desk.specs.declared.operation.Command.TheVariants.{Submit}
 use Rattle.contest_desk.specs.declared.operation.Endpoint.TheVariants.{Settings, Submissions}
-use Rattle.contest_desk.specs.declared.operation.Reading.TheVariants.{List as All, Object}
+use Rattle.contest_desk.specs.declared.operation.Reading.TheVariants.{List as AllOf, Object}
 
 -- each route's text, and what is offered there
 abbrev pub route_rows : List (List ℕ × Offer)
@@ -23,21 +23,21 @@ route_rows =
     ∷ (codes "/contests/{contest}", nothing)
     ∷ (codes "/contests/{contest}/state", nothing)
     ∷ (codes "/contests/{contest}/scoreboard", nothing)
-    ∷ (codes "/contests/{contest}/judgement-types", reads (All (Settings JudgementTypes)))
+    ∷ (codes "/contests/{contest}/judgement-types", reads (AllOf (Settings JudgementTypes)))
     ∷ (codes "/contests/{contest}/judgement-types/{id}", reads (Object (Settings JudgementTypes)))
-    ∷ (codes "/contests/{contest}/languages", reads (All (Settings Languages)))
+    ∷ (codes "/contests/{contest}/languages", reads (AllOf (Settings Languages)))
     ∷ (codes "/contests/{contest}/languages/{id}", reads (Object (Settings Languages)))
-    ∷ (codes "/contests/{contest}/problems", reads (All (Settings Problems)))
+    ∷ (codes "/contests/{contest}/problems", reads (AllOf (Settings Problems)))
     ∷ (codes "/contests/{contest}/problems/{id}", reads (Object (Settings Problems)))
-    ∷ (codes "/contests/{contest}/groups", reads (All (Settings Groups)))
+    ∷ (codes "/contests/{contest}/groups", reads (AllOf (Settings Groups)))
     ∷ (codes "/contests/{contest}/groups/{id}", reads (Object (Settings Groups)))
-    ∷ (codes "/contests/{contest}/teams", reads (All (Settings Teams)))
+    ∷ (codes "/contests/{contest}/teams", reads (AllOf (Settings Teams)))
     ∷ (codes "/contests/{contest}/teams/{id}", reads (Object (Settings Teams)))
     ∷ (codes "/contests/{contest}/judgements", nothing)
     ∷ (codes "/contests/{contest}/judgements/{id}", nothing)
     ∷ (codes "/contests/{contest}/awards", nothing)
     ∷ (codes "/contests/{contest}/awards/{id}", nothing)
-    ∷ (codes "/contests/{contest}/submissions", record (reads (All Submissions)) { post = Some Submit })
+    ∷ (codes "/contests/{contest}/submissions", record (reads (AllOf Submissions)) { post = Some Submit })
     ∷ (codes "/contests/{contest}/submissions/{id}", reads (Object Submissions))
     ∷ (codes "/contests/{contest}/submissions/{id}/files", nothing)
     ∷ (codes "/contests/{contest}/clarifications", nothing)
