@@ -20,3 +20,4 @@ pub mod FaultLemmas
 pub mod RunLemmas
 pub mod MovesAlike
 pub mod TwoRunLemmas
+pub mod RepeatLemmas

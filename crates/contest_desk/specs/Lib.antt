@@ -18,3 +18,4 @@ pub mod Laws
 pub mod Runs
 pub mod Moves
 pub mod TwoRuns
+pub mod Repeats

@@ -16,6 +16,7 @@ mod outcome;
 mod own_submissions;
 mod path;
 mod refusal_text;
+pub mod repeats;
 mod reply;
 mod request;
 mod routes;

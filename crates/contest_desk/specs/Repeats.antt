@@ -1,0 +1,48 @@
+-- A post that is repeated (own; idempotency keys).
+use Rattle.std.specs.Prelude.{◌≡◌, ℕ, true, false, List, [], ◌∷◌, ◌++◌, Some, map}
+use Rattle.contest_types.specs.Places.{place_of}
+use Rattle.contest_types.specs.State.{FixedPart, ContestState, submissions_of, add}
+use Rattle.contest_types.specs.Valid.{is_valid}
+use Rattle.contest_types.specs.declared.entry.Entry.TheVariants.{NewSubmission}
+use Rattle.contest_types.specs.declared.objects.Language.{Language}
+use Rattle.contest_types.specs.declared.objects.Problem.{Problem}
+use Rattle.contest_types.specs.declared.refusal.Refusal.TheVariants.{KeyReused}
+use Rattle.contest_types.specs.declared.submission.Submission.{Submission}
+use Rattle.contest_rules.specs.Submitting.{asks_the_same, lacks_entry_point}
+use Rattle.contest_rules.specs.declared.submitting.WantedSubmission.{WantedSubmission}
+use Rattle.contest_desk.specs.Outcomes.{replying, refusing}
+use Rattle.contest_desk.specs.PostSubmission.{submission_outcome}
+use Rattle.contest_desk.specs.Runs.{IsRun}
+use Rattle.contest_desk.specs.Wishes.{IsSound}
+use Rattle.contest_desk.specs.declared.reply.Reply.{Reply}
+use Rattle.contest_desk.specs.declared.run.Item.{Item}
+use Rattle.contest_desk.specs.declared.wish.Wish.TheVariants.{Submit}
+
+-- the second has the settings, accounts and marks of the first, and each team's submissions with more behind them
+pub record Continues (x y : ContestState) : Type 0 where
+  pub fixed : y.fixed ≡ x.fixed
+  pub more : (team : ℕ) → List Submission
+  pub own : (team : ℕ) → submissions_of team y.submissions ≡ submissions_of team x.submissions ++ more team
+
+-- a run leads to what continues the contest before it
+abbrev pub RunsContinue : Type 0
+RunsContinue = (x : ContestState) (items : List Item) (replies : List Reply) (y : ContestState) → is_valid x ≡ true → IsRun x items replies y → Continues x y
+
+-- the problem and the language are there, and an entry point is given where one is required
+pub record NamesWhatIsThere (f : FixedPart) (w : WantedSubmission) (problem language : ℕ) : Type 0 where
+  pub has_problem : place_of w.problem (map (λ (p : Problem). p.id) f.settings.problems) ≡ Some problem
+  pub has_language : place_of w.language (map (λ (l : Language). l.id) f.settings.languages) ≡ Some language
+  pub complete : lacks_entry_point f language w.entry_point ≡ false
+
+-- once a team's post under a key is taken, then whatever is asked afterwards and whenever: the same post gets the same
+-- reply and adds nothing, and so does another under that key that asks for the same; one that asks for something else
+-- is refused
+abbrev pub RepeatsOnce : Type 0
+RepeatsOnce =
+    (x y : ContestState) (now later team : ℕ) (key : List ℕ) (first : WantedSubmission) (s : Submission) (items : List Item) (replies : List Reply)
+    → is_valid x ≡ true → IsSound x.fixed (Submit team first) → first.key ≡ Some key
+    → (submission_outcome now team first x).entries ≡ NewSubmission s ∷ [] → IsRun (add x (NewSubmission s)) items replies y
+    → (submission_outcome later team first y ≡ replying (submission_outcome now team first x).reply)
+    × ((again : WantedSubmission) (problem language : ℕ) → again.key ≡ Some key → NamesWhatIsThere x.fixed again problem language
+    → (asks_the_same s problem language again ≡ true → submission_outcome later team again y ≡ replying (submission_outcome now team first x).reply)
+    × (asks_the_same s problem language again ≡ false → submission_outcome later team again y ≡ refusing KeyReused))
