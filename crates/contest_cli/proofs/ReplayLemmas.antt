@@ -11,11 +11,11 @@ use Rattle.contest_cli.specs.Commands.{Shows}
 use Rattle.contest_cli.specs.Input.{ReadsAll, TakesFront}
 use Rattle.contest_cli.specs.Replay.{replay_of, Gives, StopsBy, Replays, stop_of, exit_status_of, line_of}
 use Rattle.contest_types.specs.Streams.{Stream, Fails, Tells}
-use Rattle.contest_cli.specs.Text.{board_of}
+use Rattle.contest_cli.specs.ReplayText.{board_of}
 use Rattle.contest_cli.specs.declared.input.InputFault.{InputFault}
 use Rattle.contest_cli.specs.declared.input.InputFault.TheVariants as fault
-use Rattle.contest_cli.specs.declared.stop.Stop.{Stop}
-use Rattle.contest_cli.specs.declared.stop.Stop.TheVariants.{Words, Refused, File}
+use Rattle.contest_cli.specs.declared.command_error.CommandError.{CommandError}
+use Rattle.contest_cli.specs.declared.command_error.CommandError.TheVariants.{Usage, Refused, File}
 
 not_over : (m n : ℕ) → n ≤ m → nat_lt m n ≡ false
 not_over m n h = grind (arith, nat_tests)
@@ -74,10 +74,10 @@ keeps_same None = tt
 keeps_same (Some bytes) = refl
 
 -- where there is no text
-pub stopped : (words : List Text) (in_old in_new out err_old err_new : Stream) (stop : Stop) (status : ℕ)
+pub stopped : (words : List Text) (in_old in_new out err_old err_new : Stream) (stop : CommandError) (status : ℕ)
     → StopsBy words in_old in_new stop → status ≡ exit_status_of stop → Tells err_old err_new (line_of stop)
     → Replays words in_old in_new out out err_old err_new status
-stopped words in_old in_new out err_old err_new (Words text) status stops is told = record {
+stopped words in_old in_new out err_old err_new (Usage text) status stops is told = record {
   statuses = omega (arith, is);
   done = λ e. absurd (omega (arith, is, e));
   refused = λ e. absurd (omega (arith, is, e));

@@ -2,7 +2,7 @@
 use Rattle.std.specs.Prelude.{◌≡◌, ℤ, pos, ◌≤ℤ◌, List, [], Bool, Option, Some, None, IsTrue, ◌↔◌, codes}
 use Rattle.contest_types.specs.RelTimeText.{IsRelTimeText}
 use Rattle.clap.specs.Walk.{Text}
-use Rattle.contest_cli.specs.Words.{faults_in, HasFlag, value_of}
+use Rattle.contest_cli.specs.Arguments.{faults_in, HasFlag, value_of}
 
 -- the text shows a contest time, which isn't below zero
 abbrev pub IsContestTime : Text → ℤ → Type 0

@@ -6,7 +6,7 @@ use Rattle.std.specs.Str.{bytes_eq}
 use Rattle.clap.specs.Walk.{Text}
 use Rattle.contest_types.specs.Streams.{Stream, Fails, Tells, AppendsFront}
 use Rattle.contest_types.specs.declared.refusal.Refusal.TheVariants.{Memory}
-use Rattle.contest_cli.specs.Lines.{refusal_line}
+use Rattle.contest_cli.specs.RefusalLine.{refusal_line}
 
 abbrev pub is_help : Text → Bool
 is_help word = bytes_eq word (codes "--help") || bytes_eq word (codes "-h")

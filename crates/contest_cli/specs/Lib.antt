@@ -1,7 +1,7 @@
-pub mod Words
+pub mod Arguments
 pub mod Input
-pub mod Lines
+pub mod RefusalLine
 pub mod Asked
-pub mod Text
+pub mod ReplayText
 pub mod Replay
 pub mod Commands

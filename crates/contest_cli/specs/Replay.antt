@@ -6,13 +6,13 @@ use Rattle.contest_types.specs.declared.refusal.Refusal.{Refusal}
 use Rattle.contest_types.specs.declared.refusal.Refusal.TheVariants.{BodyTooLarge, Memory}
 use Rattle.contest_cli.specs.Asked.{Asks, HasFault}
 use Rattle.contest_types.specs.Streams.{Stream, Fails, Tells, AppendsFront}
-use Rattle.contest_cli.specs.Lines.{refusal_line}
-use Rattle.contest_cli.specs.Text.{board_of}
+use Rattle.contest_cli.specs.RefusalLine.{refusal_line}
+use Rattle.contest_cli.specs.ReplayText.{board_of}
 use Rattle.contest_types.specs.declared.limits.TheConstants.{IMPORTED_FILE}
 use Rattle.contest_cli.specs.declared.input.InputFault.{InputFault}
 use Rattle.contest_cli.specs.declared.input.InputFault.TheVariants as fault
-use Rattle.contest_cli.specs.declared.stop.Stop.{Stop}
-use Rattle.contest_cli.specs.declared.stop.Stop.TheVariants.{Words, Refused, File}
+use Rattle.contest_cli.specs.declared.command_error.CommandError.{CommandError}
+use Rattle.contest_cli.specs.declared.command_error.CommandError.TheVariants.{Usage, Refused, File}
 
 -- the board's text of a whole input, or the first fault
 abbrev pub replay_of : Bool → Bool → Option ℤ → List ℕ → Result (List ℕ) Refusal
@@ -30,35 +30,35 @@ abbrev pub Faultless : List Text → Type 0
 Faultless words = (jury : Bool) × (thawed : Bool) × (at : Option ℤ) × Asks words jury thawed at
 
 -- why there is no text: the words, memory or what the input holds is refused, or the reader failed
-abbrev pub StopsBy : List Text → Stream → Stream → Stop → Type 0
-StopsBy words old new (Words text) = HasFault words
+abbrev pub StopsBy : List Text → Stream → Stream → CommandError → Type 0
+StopsBy words old new (Usage text) = HasFault words
 StopsBy words old new (Refused r) = (r ≡ Memory) ⊎ Gives words old.bytes (Err r)
 StopsBy words old new File = Faultless words × Fails old new
 
 -- the line that tells of it
-abbrev pub line_of : Stop → List ℕ
-line_of (Words text) = string_bytes text
+abbrev pub line_of : CommandError → List ℕ
+line_of (Usage text) = string_bytes text
 line_of (Refused r) = refusal_line r
 line_of File = codes "refused: File\n"
 
 -- the program's exit status
-abbrev pub exit_status_of : Stop → ℕ
-exit_status_of (Words text) = 2
+abbrev pub exit_status_of : CommandError → ℕ
+exit_status_of (Usage text) = 2
 exit_status_of (Refused r) = 1
 exit_status_of File = 1
 
 -- memory was refused
-abbrev pub IsMemory : Stop → Type 0
+abbrev pub IsMemory : CommandError → Type 0
 IsMemory stop = stop ≡ Refused Memory
 
 -- the words are refused
-abbrev pub IsWords : Stop → Type 0
-IsWords (Words text) = Unit {0}
+abbrev pub IsWords : CommandError → Type 0
+IsWords (Usage text) = Unit {0}
 IsWords (Refused r) = ⊥
 IsWords File = ⊥
 
 -- the words are refused, or memory was while that was told
-abbrev pub IsWordsOrMemory : Stop → Type 0
+abbrev pub IsWordsOrMemory : CommandError → Type 0
 IsWordsOrMemory stop = IsMemory stop ⊎ IsWords stop
 
 -- there is a text, and a front of it is out, for `out` failed
@@ -72,14 +72,14 @@ pub record Replays (words : List Text) (in_old in_new out_old out_new err_old er
   pub statuses : status ≤ 2
   pub done : status ≡ 0 → (text : List ℕ) × Gives words in_old.bytes (Ok text)
       × Appends out_old.bytes out_new.bytes text × Keeps err_old.bytes err_new.bytes
-  pub refused : status ≡ 1 → (stop : Stop) × (exit_status_of stop ≡ 1) × Tells err_old err_new (line_of stop)
+  pub refused : status ≡ 1 → (stop : CommandError) × (exit_status_of stop ≡ 1) × Tells err_old err_new (line_of stop)
       × ((StopsBy words in_old in_new stop × Keeps out_old.bytes out_new.bytes)
       ⊎ ((stop ≡ File) × CutsOff words in_old.bytes out_old out_new))
   pub faulty : status ≡ 2 → HasFault words × Keeps out_old.bytes out_new.bytes
       × (text : List ℕ) × Tells err_old err_new text
 
 -- what a fault of the input stops by
-abbrev pub stop_of : InputFault → Stop
+abbrev pub stop_of : InputFault → CommandError
 stop_of fault.File = File
 stop_of fault.TooLarge = Refused BodyTooLarge
 stop_of fault.Memory = Refused Memory

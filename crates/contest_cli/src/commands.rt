@@ -5,11 +5,11 @@ ghost use Rattle.contest_types.specs.Streams.{Tells, stream};
 ghost use Rattle.contest_cli.specs.Commands.{AsksHelp, IsReplay, NamesNone, ShowsSome, TellsNone, TellsWords, is_help, unknown_command};
 ghost use Rattle.contest_cli.specs.Replay.{Replays};
 
+use crate::arguments::clap_command;
+use crate::command_error::CommandError;
 use crate::output::write_whole;
-use crate::replaying::replay;
+use crate::replay_command::replay;
 use crate::show::show;
-use crate::stop::Stop;
-use crate::words::replay_command;
 use contest_types::{Counted, Refusal};
 use std::alloc::{AllocError, Global};
 use std::env::Args;
@@ -48,7 +48,7 @@ pub fn start<R: Read + Drop, O: Write + Drop, E: Write + Drop>(
     match args {
         Ok(args) => match args.skip(1).collect::<Vec<String>>(alloc) {
             Ok(words) => run_owned(alloc, &words, &mut reader, &mut out, &mut err),
-            Err(AllocError) => Stop::Refused(Refusal::Memory).refuse(&mut err),
+            Err(AllocError) => CommandError::Refused(Refusal::Memory).refuse(&mut err),
         },
         Err(error) => refuse_arguments(&error, &mut err),
     }
@@ -72,7 +72,7 @@ fn run_owned<R: Read, O: Write, E: Write>(
 {
     match borrowed(alloc, words) {
         Ok(words) => run(alloc, &words, reader, out, err),
-        Err(AllocError) => Stop::Refused(Refusal::Memory).refuse(err),
+        Err(AllocError) => CommandError::Refused(Refusal::Memory).refuse(err),
     }
 }
 
@@ -93,7 +93,7 @@ fn refuse_arguments<E: Write>(error: &io::Error, err: &mut Counted<E>) -> u8
     ensures refused { 1 ≤ result }
 {
     if error.kind() == ErrorKind::OutOfMemory {
-        return Stop::Refused(Refusal::Memory).refuse(err);
+        return CommandError::Refused(Refusal::Memory).refuse(err);
     }
     tell(b"error: an argument isn't UTF-8\n", err);
     2
@@ -171,13 +171,13 @@ fn show_replay_help<O: Write, E: Write>(
 {
     match replay_help(alloc) {
         Ok(text) => show(text.as_str(), out, err),
-        Err(AllocError) => Stop::Refused(Refusal::Memory).refuse(err),
+        Err(AllocError) => CommandError::Refused(Refusal::Memory).refuse(err),
     }
 }
 
 // The help of `replay`.
 fn replay_help(alloc: Global) -> Result<String, AllocError> {
-    let mut command = replay_command(alloc)?;
+    let mut command = clap_command(alloc)?;
     command.render_help()
 }
 
@@ -196,6 +196,6 @@ fn refuse_command<E: Write>(alloc: Global, name: &str, err: &mut Counted<E>) -> 
             tell(text.as_bytes(), err);
             2
         }
-        Err(AllocError) => Stop::Refused(Refusal::Memory).refuse(err),
+        Err(AllocError) => CommandError::Refused(Refusal::Memory).refuse(err),
     }
 }

@@ -1,16 +1,16 @@
 //! The commands of the program `desk`, over any reader and writers.
 #![tactic(auto)]
 
+mod arguments;
+mod command_error;
 mod commands;
 mod input;
-mod lines;
 mod output;
-mod replaying;
+mod refusal_line;
+mod replay_command;
+mod replay_text;
 mod show;
-mod stop;
-mod text;
-mod words;
 
 pub use commands::{run, start};
 pub use contest_types::Counted;
-pub use replaying::replay;
+pub use replay_command::replay;

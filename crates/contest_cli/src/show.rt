@@ -2,8 +2,8 @@
 ghost use Rattle.contest_types.specs.Streams.{stream};
 ghost use Rattle.contest_cli.specs.Commands.{Shows};
 
+use crate::command_error::CommandError;
 use crate::output::write_whole;
-use crate::stop::Stop;
 use contest_types::Counted;
 use std::io::Write;
 
@@ -16,6 +16,6 @@ pub(crate) fn show<O: Write, E: Write>(text: &str, out: &mut Counted<O>, err: &m
 {
     match write_whole(out, text.as_bytes()) {
         Ok(()) => 0,
-        Err(_) => Stop::File.refuse(err),
+        Err(_) => CommandError::File.refuse(err),
     }
 }

@@ -1,6 +1,6 @@
 use Rattle.std.proofs.Common.{map, string_bytes, inl, refl}
 use Rattle.contest_types.specs.declared.refusal.Refusal.TheVariants.{Memory}
-use Rattle.contest_cli.specs.declared.stop.Stop.TheVariants.{Refused}
+use Rattle.contest_cli.specs.declared.command_error.CommandError.TheVariants.{Refused}
 use Rattle.contest_cli.proofs.ReplayLemmas.{stopped}
 use Rattle.contest_cli.proofs.commands.run_owned.Goals as goal
 

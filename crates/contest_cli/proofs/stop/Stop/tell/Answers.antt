@@ -1,4 +1,0 @@
-use Rattle.contest_cli.proofs.stop.Stop.tell.Goals as goal
-
-pub returns-in-File-clause-err : goal.returns-in-File-clause-err
-returns-in-File-clause-err g c = rw c.in-File.is c.write_whole-in-File.ensures.err
