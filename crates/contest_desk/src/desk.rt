@@ -68,7 +68,7 @@ impl<S: ContestStore> Desk<S> {
 
     /// It does nothing: its contract says that the contest is valid, and that no change stands which isn't
     /// committed, while the store is open and read right.
-    pub fn is_settled(&self)
+    pub fn stays_settled(&self)
         ensures { IsSettled (S.kept self.now) }
     {
         let _ = &self.store;

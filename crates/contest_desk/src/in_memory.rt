@@ -53,8 +53,8 @@ pub fn run_two_in_memory(
         → AreAlikeTurns a (contest_of first.old) (contest_of second.old) turns
         → (first_told turns ≡ second_told turns) × Alike a (contest_of first.new) (contest_of second.new)) }
 {
-    first.is_settled();
-    second.is_settled();
+    first.stays_settled();
+    second.stays_settled();
     let replies = first.run(alloc, requests)?;
     let other_replies = second.run(alloc, others)?;
     Ok((replies, other_replies))

@@ -15,6 +15,6 @@ returns c = record {
       let two = c.in_ok-other_replies.ensures.run tt in
       let runs_x : IsRun x (first_items turns) (first_replies turns) one.0 = rw (asked, told) one.1 in
       let runs_y : IsRun y (second_items turns) (second_replies turns) two.0 = rw (asked_too, told_too) two.1 in
-      let both = runs_alike a x y turns one.0 two.0 other (c.is_settled.ensures tt refl).1 (c.is_settled-2.ensures tt refl).1 alike runs_x runs_y turn in
+      let both = runs_alike a x y turns one.0 two.0 other (c.stays_settled.ensures tt refl).1 (c.stays_settled-2.ensures tt refl).1 alike runs_x runs_y turn in
       (both.0, subst (λ z. Alike a z (contest_of c.run-2.new.self)) (sym (one.2 refl)) (subst (λ z. Alike a one.0 z) (sym (two.2 refl)) both.1));
 }
