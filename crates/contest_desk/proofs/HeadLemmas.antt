@@ -2,34 +2,30 @@
 use Rattle.std.proofs.Common.{◌≡◌, ℕ, List, Option, Some, None, refl, ap, ◌∙◌}
 use Rattle.std.specs.Prelude.{Result, Ok, Err}
 use Rattle.contest_types.specs.State.{FixedPart, ContestState, add_all}
-use Rattle.contest_desk.specs.Callers.{Caller, caller_of, team_of}
+use Rattle.contest_desk.specs.Callers.{Caller, caller_of}
 use Rattle.contest_desk.specs.Outcomes.{Outcome}
 use Rattle.contest_desk.specs.Routes.{offer_at}
 use Rattle.contest_desk.specs.Step.{asked_there, asked, or_refused, wish_or_reply_by, outcome_of}
-use Rattle.contest_desk.specs.Wishes.{submission_wish}
+use Rattle.contest_desk.specs.Wishes.{wish_to_do}
 use Rattle.contest_desk.specs.Laws.{HeadIsGet}
 use Rattle.contest_desk.specs.declared.offer.Offer.{Offer}
-use Rattle.contest_desk.specs.declared.operation.Command.TheVariants.{Submit}
 use Rattle.contest_desk.specs.declared.operation.Operation.{Operation}
 use Rattle.contest_desk.specs.declared.operation.Operation.TheVariants.{Read, Do}
 use Rattle.contest_desk.specs.declared.reply.Reply.{Reply}
 use Rattle.contest_desk.specs.declared.request.Method.TheVariants.{Get, Head}
 use Rattle.contest_desk.specs.declared.request.Request.{Request}
+use Rattle.contest_desk.proofs.CommandLemmas.{post_unmoved}
 
 there_alike : (contest path : List ℕ) (o : Option Offer) → asked_there contest path Head o ≡ asked_there contest path Get o
 there_alike contest path None = refl
 there_alike contest path (Some offer) = refl
-
-wish_alike : (f : FixedPart) (team : Option ℕ) (request : Request) → submission_wish f team (record request { method = Head }) ≡ submission_wish f team (record request { method = Get })
-wish_alike f None request = refl
-wish_alike f (Some team) request = refl
 
 -- what is wished doesn't go by the method
 wished_alike : (f : FixedPart) (who : Option Caller) (request : Request) (asks : Result Operation Reply) → wish_or_reply_by f who (record request { method = Head }) asks ≡ wish_or_reply_by f who (record request { method = Get }) asks
 wished_alike f who request (Err reply) = refl
 wished_alike f None request (Ok operation) = refl
 wished_alike f (Some who) request (Ok (Read reading)) = refl
-wished_alike f (Some who) request (Ok (Do Submit)) = ap or_refused (wish_alike f (team_of who) request)
+wished_alike f (Some who) request (Ok (Do command)) = ap (λ r. or_refused (wish_to_do r)) (post_unmoved f who command request)
 
 abbrev stepped : ContestState → Outcome → Reply × ContestState
 stepped x o = (o.reply, add_all x o.entries)

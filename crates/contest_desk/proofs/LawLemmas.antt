@@ -1,22 +1,19 @@
 -- The laws of the desk's steps.
-use Rattle.std.proofs.Common.{◌≡◌, ◌∙◌, ◌+◌, ℕ, true, Option, Some, None, Result, Ok, Err, refl, sym, ap, subst, inl, inr}
+use Rattle.std.proofs.Common.{◌≡◌, ◌∙◌, ℕ, true, Option, Some, None, Result, Ok, Err, refl, sym, ap, subst}
 use Rattle.std.specs.Prelude.{IfSome}
 use Rattle.contest_types.specs.Addable.{are_addable}
 use Rattle.contest_types.specs.Alike.{Alike, MayBeHeld}
-use Rattle.contest_types.specs.State.{FixedPart, ContestState, add_all}
+use Rattle.contest_types.specs.State.{FixedPart, ContestState}
 use Rattle.contest_types.specs.Valid.{is_valid}
 use Rattle.contest_types.specs.declared.audience.Audience.{Audience}
-use Rattle.contest_types.specs.declared.audience.Audience.TheVariants as audience
 use Rattle.contest_types.proofs.AddEntry.{adding_all}
 use Rattle.contest_view.specs.SettingsObjects.{settings_data, setting_found}
 use Rattle.contest_view.proofs.ReadLaws.{alike_read}
-use Rattle.contest_rules.specs.Submitting.{submit}
-use Rattle.contest_rules.proofs.SubmittingLemmas.{own_alike}
 use Rattle.contest_desk.specs.Callers.{Caller, caller_of, audience_of}
-use Rattle.contest_desk.specs.Laws.{StayAlike, ReadsAlike, PostsAlike, StepsAlike, StepsKeepValid}
-use Rattle.contest_desk.specs.Outcomes.{Outcome, replying}
+use Rattle.contest_desk.specs.Laws.{StayAlike, ReadsAlike, StepsAlike, StepsKeepValid}
+use Rattle.contest_desk.specs.Outcomes.{replying}
 use Rattle.contest_desk.specs.Paths.{object_piece}
-use Rattle.contest_desk.specs.PostSubmission.{decision_outcome, submission_outcome}
+use Rattle.contest_desk.specs.Commands.{post_outcome}
 use Rattle.contest_desk.specs.Readings.{read, told}
 use Rattle.contest_desk.specs.Step.{wish_or_reply, outcome_of, outcome}
 use Rattle.contest_desk.specs.Wishes.{wish_outcome, IsSound}
@@ -26,9 +23,8 @@ use Rattle.contest_desk.specs.declared.reply.Reply.{Reply}
 use Rattle.contest_desk.specs.declared.request.Credential.{Credential}
 use Rattle.contest_desk.specs.declared.request.Request.{Request}
 use Rattle.contest_desk.specs.declared.wish.Wish.{Wish}
-use Rattle.contest_desk.specs.declared.wish.Wish.TheVariants.{Read, Submit}
-use Rattle.contest_desk.proofs.AddedAlike.{added_alike}
-use Rattle.contest_desk.proofs.PostAdds.{AddsAtMost, adds_addable, deciding_adds}
+use Rattle.contest_desk.specs.declared.wish.Wish.TheVariants.{Read, Do}
+use Rattle.contest_desk.proofs.CommandLemmas.{post_addable, posts_alike}
 use Rattle.contest_desk.proofs.WishLemmas.{speaker, SpeaksFor, IfKnown, wished_known}
 
 pub reads_alike : ReadsAlike
@@ -37,24 +33,12 @@ reads_alike a now x y (AllOf Submissions) path held h = ap (λ d. told (Some d))
 reads_alike a now x y (Object (Settings endpoint)) path held h = ap (λ (f : FixedPart). told (setting_found endpoint f.settings (object_piece path))) h.fixed
 reads_alike a now x y (Object Submissions) path held h = ap told ((alike_read a now x y held h).1 (object_piece path))
 
-pub posts_alike : PostsAlike
-posts_alike now team wanted x y valid_x valid_y sound h =
-    let a = audience.Team (team + 1) in
-    let p = submission_outcome now team wanted x in
-    let q = submission_outcome now team wanted y in
-    let same : p ≡ q = (λ i. decision_outcome (h.fixed i) team (own_alike x y team h i) (submit (h.fixed i) now team (own_alike x y team h i) wanted)) in
-    let go : AddsAtMost x team p.entries → Alike a (add_all x p.entries) (add_all y p.entries) = elim [
-      | inl none ↦ subst (λ es. Alike a (add_all x es) (add_all y es)) (sym none) h
-      | inr adds ↦ subst (λ es. Alike a (add_all x es) (add_all y es)) (sym adds.are) (added_alike x y team adds.submission valid_x valid_y h adds.own adds.next)
-    ] in
-    (ap (λ (o : Outcome). o.reply) same, subst (λ (o : Outcome). Alike a (add_all x p.entries) (add_all y o.entries)) same (go (deciding_adds x now team wanted valid_x sound)))
-
 come_alike : (a : Audience) (now : ℕ) (wish : Wish) (x y : ContestState) → is_valid x ≡ true → is_valid y ≡ true → IsSound x.fixed wish → speaker wish ≡ a → MayBeHeld a now x → Alike a x y
     → StayAlike a x y (wish_outcome now wish x) (wish_outcome now wish y)
 come_alike a now (Read reading b path) x y valid_x valid_y sound speaks held h =
     subst (λ c. StayAlike a x y (replying (read c now x reading path)) (replying (read c now y reading path))) (sym speaks) (reads_alike a now x y reading path held h, h)
-come_alike a now (Submit team wanted) x y valid_x valid_y sound speaks held h =
-    subst (λ b. StayAlike b x y (submission_outcome now team wanted x) (submission_outcome now team wanted y)) speaks (posts_alike now team wanted x y valid_x valid_y sound (subst (λ b. Alike b x y) (sym speaks) h))
+come_alike a now (Do posted) x y valid_x valid_y sound speaks held h =
+    subst (λ b. StayAlike b x y (post_outcome now posted x) (post_outcome now posted y)) speaks (posts_alike now posted x y valid_x valid_y sound (subst (λ b. Alike b x y) (sym speaks) h))
 
 speaks_as : (a : Audience) (o : Option Caller) (wish : Wish) → SpeaksFor o wish → IfSome o (λ who. audience_of who ≡ a) → speaker wish ≡ a
 speaks_as a None wish speaks sight = absurd speaks
@@ -73,7 +57,7 @@ steps_alike a now credential request x y valid_x valid_y sight held h =
 -- what a wish adds may be added
 pub come_addable : (x : ContestState) (now : ℕ) (wish : Wish) → is_valid x ≡ true → IsSound x.fixed wish → are_addable x (wish_outcome now wish x).entries ≡ true
 come_addable x now (Read reading a path) valid sound = refl
-come_addable x now (Submit team wanted) valid sound = adds_addable x team _ (deciding_adds x now team wanted valid sound)
+come_addable x now (Do posted) valid sound = post_addable now posted x valid sound
 
 of_addable : (x : ContestState) (now : ℕ) (o : Option Caller) (r : Result Wish Reply) → is_valid x ≡ true → IfKnown x.fixed o r → are_addable x (outcome_of x now r).entries ≡ true
 of_addable x now o (Err reply) valid known = refl

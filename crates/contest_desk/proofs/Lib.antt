@@ -7,6 +7,10 @@ pub mod PostLemmas
 pub mod ServingLemmas
 pub mod KeepLemmas
 pub mod CallerLemmas
+pub mod ContinueLemmas
+pub mod PostedFacts
+pub mod SubmitLaws
+pub mod CommandLemmas
 pub mod WishLemmas
 pub mod UnseenLemmas
 pub mod QuietSteps

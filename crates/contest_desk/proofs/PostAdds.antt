@@ -12,9 +12,7 @@ use Rattle.contest_rules.specs.declared.decision.Decision.{Decision}
 use Rattle.contest_rules.specs.declared.decision.Decision.TheVariants.{Add, Stands, Refused}
 use Rattle.contest_rules.specs.declared.submitting.WantedSubmission.{WantedSubmission}
 use Rattle.contest_rules.proofs.TakenLemmas.{taken, submitted_is_addable}
-use Rattle.contest_desk.specs.Wishes.{IsSound}
-use Rattle.contest_desk.specs.PostSubmission.{repeat_outcome, decision_outcome, submission_outcome}
-use Rattle.contest_desk.specs.declared.wish.Wish.TheVariants.{Submit}
+use Rattle.contest_desk.specs.PostSubmission.{IsSoundSubmission, repeat_outcome, decision_outcome, submission_outcome}
 
 -- nothing, or a team's next submission, which may be added
 pub record Adds (x : ContestState) (team : ℕ) (es : List Entry) : Type 0 where
@@ -31,7 +29,7 @@ repeating_adds : (x : ContestState) (team : ℕ) (o : Option Submission) → Add
 repeating_adds x team None = inl refl
 repeating_adds x team (Some s) = inl refl
 
-decided_adds : (x : ContestState) (now team : ℕ) (w : WantedSubmission) (d : Decision Submission) → is_valid x ≡ true → IsSound x.fixed (Submit team w)
+decided_adds : (x : ContestState) (now team : ℕ) (w : WantedSubmission) (d : Decision Submission) → is_valid x ≡ true → IsSoundSubmission x.fixed team w
     → submit x.fixed now team (submissions_of team x.submissions) w ≡ d → AddsAtMost x team (decision_outcome x.fixed team (submissions_of team x.submissions) d).entries
 decided_adds x now team w (Add s) valid sound is =
     let t = taken x.fixed now team (submissions_of team x.submissions) w s is in
@@ -39,7 +37,7 @@ decided_adds x now team w (Add s) valid sound is =
 decided_adds x now team w (Stands place) valid sound is = repeating_adds x team (slice_get (submissions_of team x.submissions) place)
 decided_adds x now team w (Refused refusal) valid sound is = inl refl
 
-pub deciding_adds : (x : ContestState) (now team : ℕ) (w : WantedSubmission) → is_valid x ≡ true → IsSound x.fixed (Submit team w) → AddsAtMost x team (submission_outcome now team w x).entries
+pub deciding_adds : (x : ContestState) (now team : ℕ) (w : WantedSubmission) → is_valid x ≡ true → IsSoundSubmission x.fixed team w → AddsAtMost x team (submission_outcome now team w x).entries
 deciding_adds x now team w valid sound = decided_adds x now team w (submit x.fixed now team (submissions_of team x.submissions) w) valid sound refl
 
 pub adds_addable : (x : ContestState) (team : ℕ) (es : List Entry) → AddsAtMost x team es → are_addable x es ≡ true

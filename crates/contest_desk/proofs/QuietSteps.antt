@@ -1,54 +1,37 @@
 -- A step adds nothing unless it is answered as done, and nothing where it reads.
 use Rattle.std.proofs.Common.{◌≡◌, ℕ, List, [], Option, Some, None, Result, Ok, Err, refl, sym, ap, subst, inl, inr, if◌then◌else◌}
-use Rattle.std.specs.Prelude.{◌≢◌, ◌⊎◌, Bool, true, false, slice_get}
+use Rattle.std.specs.Prelude.{◌≢◌, Bool, true, false}
 use Rattle.std.specs.Option.{option_map}
 use Rattle.std.proofs.lemmas.Bool.{false≢true}
 use Rattle.contest_types.specs.Alike.{Alike}
-use Rattle.contest_types.specs.State.{ContestState, FixedPart, submissions_of, add_all}
+use Rattle.contest_types.specs.State.{ContestState, FixedPart, add_all}
 use Rattle.contest_types.specs.declared.audience.Audience.{Audience}
 use Rattle.contest_types.specs.declared.refusal.Refusal.TheVariants.{NotFound}
-use Rattle.contest_types.specs.declared.submission.Submission.{Submission}
-use Rattle.contest_rules.specs.Submitting.{submit}
-use Rattle.contest_rules.specs.declared.decision.Decision.{Decision}
-use Rattle.contest_rules.specs.declared.decision.Decision.TheVariants.{Add, Stands, Refused}
 use Rattle.contest_desk.specs.Callers.{Caller, caller_of}
 use Rattle.contest_desk.specs.Offers.{is_read, is_served, operation_of}
-use Rattle.contest_desk.specs.Outcomes.{Outcome}
-use Rattle.contest_desk.specs.PostSubmission.{repeat_outcome, decision_outcome}
 use Rattle.contest_desk.specs.Replies.{refused}
 use Rattle.contest_desk.specs.Routes.{offer_at}
 use Rattle.contest_desk.specs.Step.{is_here, or_not_allowed, offered, asked_there, asked, wish_or_reply_by, wish_or_reply, outcome_of, outcome, step}
 use Rattle.contest_desk.specs.Wishes.{wish_outcome}
 use Rattle.contest_desk.specs.declared.wish.Wish.{Wish}
-use Rattle.contest_desk.specs.declared.wish.Wish.TheVariants.{Read, Submit}
+use Rattle.contest_desk.specs.declared.wish.Wish.TheVariants.{Read, Do}
 use Rattle.contest_desk.specs.UnseenLaws.{IsUnnoticed}
 use Rattle.contest_desk.specs.declared.offer.Offer.{Offer}
 use Rattle.contest_desk.specs.declared.operation.Operation.{Operation}
-use Rattle.contest_desk.specs.declared.operation.Operation.TheVariants.{Read as ToRead, Do}
+use Rattle.contest_desk.specs.declared.operation.Operation.TheVariants.{Read as ToRead, Do as ToDo}
 use Rattle.contest_desk.specs.declared.operation.Reading.{Reading}
 use Rattle.contest_desk.specs.declared.reply.Reply.{Reply}
 use Rattle.contest_desk.specs.declared.request.Credential.{Credential}
 use Rattle.contest_desk.specs.declared.request.Method.{Method}
 use Rattle.contest_desk.specs.declared.request.Method.TheVariants.{Get, Head, Post, Patch, Other}
 use Rattle.contest_desk.specs.declared.request.Request.{Request}
+use Rattle.contest_desk.proofs.CommandLemmas.{post_quiet}
+use Rattle.contest_desk.proofs.PostedFacts.{IsQuiet}
 use Rattle.contest_desk.proofs.UnseenLemmas.{unseen_entries}
-
--- it adds nothing, or it is answered as done
-abbrev IsQuiet : Outcome → Type 0
-IsQuiet o = (o.entries ≡ []) ⊎ (o.reply.status ≡ 200)
-
-repeating_quiet : (f : FixedPart) (team : ℕ) (standing : Option Submission) → IsQuiet (repeat_outcome f team standing)
-repeating_quiet f team None = inl refl
-repeating_quiet f team (Some s) = inl refl
-
-decided_quiet : (f : FixedPart) (team : ℕ) (own : List Submission) (d : Decision Submission) → IsQuiet (decision_outcome f team own d)
-decided_quiet f team own (Add s) = inr refl
-decided_quiet f team own (Stands place) = repeating_quiet f team (slice_get own place)
-decided_quiet f team own (Refused r) = inl refl
 
 come_quiet : (x : ContestState) (now : ℕ) (wish : Wish) → IsQuiet (wish_outcome now wish x)
 come_quiet x now (Read reading a path) = inl refl
-come_quiet x now (Submit team w) = decided_quiet x.fixed team (submissions_of team x.submissions) (submit x.fixed now team (submissions_of team x.submissions) w)
+come_quiet x now (Do posted) = post_quiet now posted x
 
 wished_quiet : (x : ContestState) (now : ℕ) (r : Result Wish Reply) → IsQuiet (outcome_of x now r)
 wished_quiet x now (Err reply) = inl refl
@@ -64,7 +47,7 @@ refused_adds_nothing x now credential request fails =
 -- it asks to read, or for nothing that is there
 abbrev Reads : Operation → Type 0
 Reads (ToRead reading) = Unit {0}
-Reads (Do command) = ⊥
+Reads (ToDo command) = ⊥
 
 abbrev MayRead : Option Operation → Type 0
 MayRead None = Unit {0}
@@ -107,18 +90,18 @@ asked_reads contest path method h = there_reads contest path method (offer_at pa
 abbrev WishesToRead : Result Wish Reply → Type 0
 WishesToRead (Err reply) = Unit {0}
 WishesToRead (Ok (Read reading a path)) = Unit {0}
-WishesToRead (Ok (Submit team w)) = ⊥
+WishesToRead (Ok (Do posted)) = ⊥
 
 wished_reads : (f : FixedPart) (who : Option Caller) (request : Request) (r : Result Operation Reply) → AsksToRead r → WishesToRead (wish_or_reply_by f who request r)
 wished_reads f who request (Err reply) h = tt
 wished_reads f None request (Ok operation) h = tt
 wished_reads f (Some who) request (Ok (ToRead reading)) h = tt
-wished_reads f (Some who) request (Ok (Do command)) h = absurd h
+wished_reads f (Some who) request (Ok (ToDo command)) h = absurd h
 
 reads_add_nothing : (x : ContestState) (now : ℕ) (r : Result Wish Reply) → WishesToRead r → (outcome_of x now r).entries ≡ []
 reads_add_nothing x now (Err reply) h = refl
 reads_add_nothing x now (Ok (Read reading a path)) h = refl
-reads_add_nothing x now (Ok (Submit team w)) h = absurd h
+reads_add_nothing x now (Ok (Do posted)) h = absurd h
 
 pub read_adds_nothing : (x : ContestState) (now : ℕ) (credential : Credential) (request : Request) → is_read request.method ≡ true → (step x now credential request).1 ≡ x
 read_adds_nothing x now credential request e =

@@ -1,5 +1,5 @@
 -- A post that is repeated.
-use Rattle.std.proofs.Common.{◌≡◌, ◌∙◌, ◌+◌, ℕ, suc, Bool, true, false, List, [], ◌∷◌, ◌++◌, append-nil, length, map, Option, Some, None, Result, Ok, Err, refl, sym, ap, subst, arith, inl, inr}
+use Rattle.std.proofs.Common.{◌≡◌, ◌∙◌, ◌+◌, ℕ, suc, Bool, true, false, List, [], ◌∷◌, ◌++◌, length, map, Option, Some, None, Result, Ok, Err, refl, sym, ap, subst, arith, inl, inr}
 use Rattle.std.specs.Prelude.{◌==◌, slice_get, bytes_eq, if◌then◌else◌}
 use Rattle.std.specs.List.{position, position_from}
 use Rattle.std.specs.Option.{option_map_or}
@@ -33,42 +33,17 @@ use Rattle.contest_desk.specs.declared.request.Credential.{Credential}
 use Rattle.contest_desk.specs.declared.request.Request.{Request}
 use Rattle.contest_desk.specs.declared.run.Item.{Item}
 use Rattle.contest_desk.specs.declared.wish.Wish.{Wish}
-use Rattle.contest_desk.specs.declared.wish.Wish.TheVariants.{Read, Submit}
-use Rattle.contest_desk.proofs.AddedAlike.{own_more, own_stay}
-use Rattle.contest_desk.proofs.LawLemmas.{come_addable, steps_keep_valid}
-use Rattle.contest_desk.proofs.PostAdds.{AddsAtMost, deciding_adds}
+use Rattle.contest_desk.specs.declared.wish.Wish.TheVariants.{Read, Do}
+use Rattle.contest_desk.proofs.AddedAlike.{own_more}
+use Rattle.contest_desk.proofs.CommandLemmas.{post_continues}
+use Rattle.contest_desk.proofs.ContinueLemmas.{itself, onward}
+use Rattle.contest_desk.proofs.LawLemmas.{steps_keep_valid}
+use Rattle.contest_desk.proofs.SubmitLaws.{submission_addable}
 use Rattle.contest_desk.proofs.WishLemmas.{IfKnown, wished_known}
-
-itself : (x : ContestState) → Continues x x
-itself x = record { fixed = refl; more = λ team. []; own = λ team. sym (append-nil _) }
-
-onward : (x y z : ContestState) → Continues x y → Continues y z → Continues x z
-onward x y z h g = record {
-  fixed = g.fixed ∙ h.fixed;
-  more = λ team. h.more team ++ g.more team;
-  own = λ team. g.own team ∙ (ap (λ ss. ss ++ g.more team) (h.own team) ∙ append_assoc (submissions_of team x.submissions) (h.more team) (g.more team));
-}
-
--- what one more submission adds to a team's own
-more_of : Submission → (team : ℕ) → (b : Bool) → List Submission
-more_of s team true = s ∷ []
-more_of s team false = []
-
-own_of : (x : ContestState) (s : Submission) (team : ℕ) (b : Bool) → (s.team == team) ≡ b → submissions_of team (x.submissions ++ s ∷ []) ≡ submissions_of team x.submissions ++ more_of s team b
-unfolding more_of
-own_of x s team true e = own_more team x.submissions s e
-own_of x s team false e = own_stay team x.submissions s e ∙ sym (append-nil _)
-
-pub added_continues : (x : ContestState) (s : Submission) → Continues x (add x (NewSubmission s))
-added_continues x s = record { fixed = refl; more = λ team. more_of s team (s.team == team); own = λ team. own_of x s team (s.team == team) refl }
-
-most_continues : (x : ContestState) (team : ℕ) (es : List Entry) → AddsAtMost x team es → Continues x (add_all x es)
-most_continues x team es (inl none) = subst (λ fs. Continues x (add_all x fs)) (sym none) (itself x)
-most_continues x team es (inr adds) = subst (λ fs. Continues x (add_all x fs)) (sym adds.are) (added_continues x adds.submission)
 
 come_continues : (x : ContestState) (now : ℕ) (wish : Wish) → is_valid x ≡ true → IsSound x.fixed wish → Continues x (add_all x (wish_outcome now wish x).entries)
 come_continues x now (Read reading a path) valid sound = itself x
-come_continues x now (Submit team w) valid sound = most_continues x team _ (deciding_adds x now team w valid sound)
+come_continues x now (Do posted) valid sound = post_continues now posted x valid sound
 
 of_continues : (x : ContestState) (now : ℕ) (credential : Credential) (r : Result Wish Reply) → is_valid x ≡ true → IfKnown x.fixed (caller_of x.fixed credential) r → Continues x (add_all x (outcome_of x now r).entries)
 of_continues x now credential (Err reply) valid known = itself x
@@ -200,7 +175,7 @@ repeats_once x y now later team key first s items replies valid sound keyed adds
     let was = decided f team own (submit f now team own first) s adds in
     let t = taken f now team own first s was.0 in
     let able : is_valid (add x (NewSubmission s)) ≡ true =
-    subst (λ es. is_valid (add_all x es) ≡ true) adds (adding_all x (submission_outcome now team first x).entries valid (come_addable x now (Submit team first) valid sound)) in
+    subst (λ es. is_valid (add_all x es) ≡ true) adds (adding_all x (submission_outcome now team first x).entries valid (submission_addable now team first x valid sound)) in
     let on = runs_continue (add x (NewSubmission s)) items replies y able run in
     let mine : (s.team == team) ≡ true = eq-eqb s.team team (ap (λ (r : Submission). r.team) t.is) in
     let grown : submissions_of team y.submissions ≡ own ++ s ∷ on.more team =

@@ -1,23 +1,20 @@
 -- What holds of every step, in the subject's words. Each is the contract of a function of src/laws.rt.
 use Rattle.std.specs.Prelude.{◌≡◌, ℕ, true, List, IfSome}
 use Rattle.contest_types.specs.Alike.{Alike, MayBeHeld}
-use Rattle.contest_types.specs.Masks.{audience_at}
 use Rattle.contest_types.specs.State.{FixedPart, ContestState, add_all}
 use Rattle.contest_types.specs.Valid.{is_valid}
 use Rattle.contest_types.specs.declared.audience.Audience.{Audience}
 use Rattle.contest_desk.specs.Callers.{caller_of, audience_of}
 use Rattle.contest_desk.specs.Outcomes.{Outcome}
-use Rattle.contest_desk.specs.PostSubmission.{submission_outcome}
+use Rattle.contest_desk.specs.Commands.{IsSoundPost, post_outcome, poster}
 use Rattle.contest_desk.specs.Readings.{read}
 use Rattle.contest_desk.specs.Serving.{IsStoreReply}
 use Rattle.contest_desk.specs.Step.{step}
-use Rattle.contest_desk.specs.Wishes.{IsSound}
 use Rattle.contest_desk.specs.declared.operation.Reading.{Reading}
 use Rattle.contest_desk.specs.declared.request.Credential.{Credential}
 use Rattle.contest_desk.specs.declared.request.Method.TheVariants.{Get, Head}
 use Rattle.contest_desk.specs.declared.request.Request.{Request}
-use Rattle.contest_desk.specs.declared.wish.Wish.TheVariants.{Submit}
-use Rattle.contest_rules.specs.declared.submitting.WantedSubmission.{WantedSubmission}
+use Rattle.contest_desk.specs.declared.command.Posted.{Posted}
 
 -- whoever has this credential, if anyone, has the sight of this audience
 abbrev pub HasSight : FixedPart → Credential → Audience → Type 0
@@ -33,11 +30,11 @@ ReadsAlike =
     (a : Audience) (now : ℕ) (x y : ContestState) (reading : Reading) (path : List ℕ) → MayBeHeld a now x → Alike a x y
     → read a now x reading path ≡ read a now y reading path
 
--- nor does what becomes of its own post
+-- nor does what becomes of what it posts
 abbrev pub PostsAlike : Type 0
 PostsAlike =
-    (now team : ℕ) (wanted : WantedSubmission) (x y : ContestState) → is_valid x ≡ true → is_valid y ≡ true → IsSound x.fixed (Submit team wanted)
-    → Alike (audience_at team) x y → StayAlike (audience_at team) x y (submission_outcome now team wanted x) (submission_outcome now team wanted y)
+    (now : ℕ) (posted : Posted) (x y : ContestState) → is_valid x ≡ true → is_valid y ≡ true → IsSoundPost x.fixed posted
+    → Alike (poster posted) x y → StayAlike (poster posted) x y (post_outcome now posted x) (post_outcome now posted y)
 
 -- until the thaw, valid contests that are alike for a caller answer each of its requests alike, and are
 -- alike for it afterwards

@@ -8,6 +8,7 @@ pub mod SubmissionBodies
 pub mod Outcomes
 pub mod PostSubmission
 pub mod Readings
+pub mod Commands
 pub mod Wishes
 pub mod OwnSubmissions
 pub mod Step

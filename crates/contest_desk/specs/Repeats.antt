@@ -11,12 +11,10 @@ use Rattle.contest_types.specs.declared.submission.Submission.{Submission}
 use Rattle.contest_rules.specs.Submitting.{asks_the_same, lacks_entry_point}
 use Rattle.contest_rules.specs.declared.submitting.WantedSubmission.{WantedSubmission}
 use Rattle.contest_desk.specs.Outcomes.{replying, refusing}
-use Rattle.contest_desk.specs.PostSubmission.{submission_outcome}
+use Rattle.contest_desk.specs.PostSubmission.{IsSoundSubmission, submission_outcome}
 use Rattle.contest_desk.specs.Runs.{IsRun}
-use Rattle.contest_desk.specs.Wishes.{IsSound}
 use Rattle.contest_desk.specs.declared.reply.Reply.{Reply}
 use Rattle.contest_desk.specs.declared.run.Item.{Item}
-use Rattle.contest_desk.specs.declared.wish.Wish.TheVariants.{Submit}
 
 -- the second has the settings, accounts and marks of the first, and each team's submissions with more behind them
 pub record Continues (x y : ContestState) : Type 0 where
@@ -40,7 +38,7 @@ pub record NamesWhatIsThere (f : FixedPart) (w : WantedSubmission) (problem lang
 abbrev pub RepeatsOnce : Type 0
 RepeatsOnce =
     (x y : ContestState) (now later team : ℕ) (key : List ℕ) (first : WantedSubmission) (s : Submission) (items : List Item) (replies : List Reply)
-    → is_valid x ≡ true → IsSound x.fixed (Submit team first) → first.key ≡ Some key
+    → is_valid x ≡ true → IsSoundSubmission x.fixed team first → first.key ≡ Some key
     → (submission_outcome now team first x).entries ≡ NewSubmission s ∷ [] → IsRun (add x (NewSubmission s)) items replies y
     → (submission_outcome later team first y ≡ replying (submission_outcome now team first x).reply)
     × ((again : WantedSubmission) (problem language : ℕ) → again.key ≡ Some key → NamesWhatIsThere x.fixed again problem language

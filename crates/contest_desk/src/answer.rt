@@ -10,11 +10,10 @@ ghost use Rattle.contest_desk.specs.Serving.{IsOrdinary};
 ghost use Rattle.contest_desk.specs.Wishes.{IsSound, wish_outcome, file_for, file_needed};
 
 use crate::Reply;
+use crate::command::{perform, post_file};
 use crate::operation::{Endpoint, Reading};
 use crate::outcome::Outcome;
-use crate::own_submissions::keyed_row;
 use crate::path::object_piece;
-use crate::submit::submit;
 use crate::wish::Wish;
 use contest_store::Lists;
 use contest_types::{Audience, Moment, Refusal, Rows};
@@ -22,13 +21,12 @@ use contest_view::{setting_by_id, settings_value, submission_by_id, submissions_
 use serde_json::Value;
 use std::alloc::{AllocError, Global};
 
-/// Whose file a wish needs: by the place of its team, from 0, and its number, from 1. Files are
-/// large, and no more than one is read.
+/// Whose file a wish needs: by the place of its team, from 0, and its number, from 1.
 pub fn file_needed(wish: &Wish, lists: &Lists) -> Option<(usize, usize)>
     ensures { result ≡ file_needed wish.now lists.now }
 {
     match wish {
-        Wish::Submit(team, wanted) => keyed_row(*team, &wanted.key, lists.submissions()),
+        Wish::Do(posted) => post_file(posted, lists),
         Wish::Read(_, _, _) => None,
     }
 }
@@ -54,7 +52,7 @@ pub fn answer(
             let reply = read(alloc, lists, audience, reading, path.as_slice())?;
             Ok(Outcome::replying(alloc, reply))
         }
-        Wish::Submit(team, wanted) => submit(alloc, lists, now, team, wanted, file),
+        Wish::Do(posted) => perform(alloc, lists, now, posted, file),
     }
 }
 

@@ -1,22 +1,21 @@
 //! What a request asks of the desk.
-ghost use Rattle.std.specs.Prelude.{◌≡◌, ◌⊎◌, ◌+◌, ◌<◌, ◌^◌, Ok, Err, true, IfOk, IfErr, IfSome, OnErr, is_some};
+ghost use Rattle.std.specs.Prelude.{◌≡◌, ◌⊎◌, ◌+◌, ◌<◌, ◌^◌, Ok, Err, true, IfOk, IfErr, IfSome, OnErr};
 ghost use Rattle.contest_types.specs.State.{ContestState};
-ghost use Rattle.contest_types.specs.TeamPlaces.{team_id_at};
 ghost use Rattle.contest_types.specs.Valid.{is_valid};
 ghost use Rattle.contest_desk.specs.Callers.{team_of};
 ghost use Rattle.contest_desk.specs.Routes.{routes};
 ghost use Rattle.contest_desk.specs.Serving.{IsOrdinary};
 ghost use Rattle.contest_desk.specs.Step.{may_take_memory, wish_or_reply};
-ghost use Rattle.contest_desk.specs.Wishes.{submission_wish, takes_memory, wish_of};
+ghost use Rattle.contest_desk.specs.Wishes.{takes_memory, wish_of};
 
 use crate::asked::asked;
-use crate::caller::{Caller, audience_of, caller_of, team_of};
+use crate::caller::{Caller, audience_of, caller_of};
+use crate::command::post;
 use crate::offer::Offer;
-use crate::operation::{Command, Operation};
-use crate::submission_body::read_submission;
+use crate::operation::Operation;
 use crate::wish::Wish;
 use crate::{Credential, Reply, Request};
-use contest_types::{Fixed, Refusal, Settings};
+use contest_types::{Fixed, Refusal};
 use matchit::Router;
 use std::alloc::{AllocError, Global};
 
@@ -53,7 +52,7 @@ pub fn ask(
     }
 }
 
-// What a caller wishes by an operation: its role first, then its body.
+// What a caller wishes by an operation.
 fn wish_of(
     alloc: Global,
     fixed: &Fixed,
@@ -67,35 +66,6 @@ fn wish_of(
 {
     match operation {
         Operation::Read(reading) => Ok(Wish::Read(reading, audience_of(caller), request.path)),
-        Operation::Do(Command::Submit) => submission_wish(alloc, fixed, team_of(caller), request),
-    }
-}
-
-// Only a team submits.
-fn submission_wish(
-    alloc: Global,
-    fixed: &Fixed,
-    team: Option<usize>,
-    request: Request,
-) -> Result<Wish, Refusal>
-    ensures ok { IfOk result (λ wish. submission_wish fixed.now team request ≡ Ok wish) }
-    ensures err { IfErr result (λ e. (e ≡ Refusal.Memory) ⊎ (submission_wish fixed.now team request ≡ Err e)) }
-    ensures forbids { IfErr result (λ e. e ≡ Refusal.Memory → is_some team ≡ true) }
-{
-    let Some(team) = team else {
-        return Err(Refusal::RoleForbids);
-    };
-    let id = team_id(&fixed.settings, team);
-    let wanted = read_submission(alloc, id, request.key, request.body.as_slice())?;
-    Ok(Wish::Submit(team, wanted))
-}
-
-// The id of the team at a place.
-fn team_id(settings: &Settings, team: usize) -> &[u8]
-    ensures { result.now ≡ team_id_at settings.now team }
-{
-    match settings.teams().get(team) {
-        Some(team) => team.id.as_bytes(),
-        None => &[],
+        Operation::Do(command) => Ok(Wish::Do(post(alloc, fixed, caller, command, request)?)),
     }
 }

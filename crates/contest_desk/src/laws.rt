@@ -14,8 +14,8 @@ pub fn reads_alike()
     ensures { ReadsAlike }
 {}
 
-/// Nor does what becomes of a team's own post: its number, its time, its repeats and its refusals
-/// depend on that team's submissions alone.
+/// Nor does what becomes of what a caller posts: a submission's number, its time, its repeats and its
+/// refusals depend on that team's submissions alone.
 pub fn posts_alike()
     ensures { PostsAlike }
 {}

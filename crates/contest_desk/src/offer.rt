@@ -3,7 +3,8 @@ ghost use Rattle.std.specs.Prelude.{◌≡◌};
 ghost use Rattle.contest_desk.specs.Offers.{is_served, methods_of, methods_text, operation_of};
 
 use crate::Method;
-use crate::operation::{Command, Operation, Reading};
+use crate::command::Command;
+use crate::operation::{Operation, Reading};
 
 /// What is offered on a route; nothing where nothing is served there yet.
 #[derive(Clone, Copy)]

@@ -1,5 +1,5 @@
 //! What may be asked of a contest.
-
+use crate::command::Command;
 use contest_view::SettingsEndpoint;
 
 /// A collection of objects (Contest API 2023-06, endpoints).
@@ -18,13 +18,6 @@ pub enum Reading {
     List(Endpoint),
     /// One of them, by its id.
     Object(Endpoint),
-}
-
-/// What is done.
-#[derive(Clone, Copy)]
-pub enum Command {
-    /// A team submits.
-    Submit,
 }
 
 /// What a request asks for.

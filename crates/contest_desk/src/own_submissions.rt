@@ -6,7 +6,7 @@ ghost use Rattle.contest_types.specs.Valid.{is_valid};
 ghost use Rattle.contest_types.specs.declared.submission.Submission.{Submission};
 ghost use Rattle.contest_rules.specs.Submitting.{has_key};
 ghost use Rattle.contest_desk.specs.OwnSubmissions.{keyed_row, loaded_for, with_file};
-ghost use Rattle.contest_desk.specs.Wishes.{file_at};
+ghost use Rattle.contest_desk.specs.Commands.{file_at};
 
 use contest_rules::place_of_key;
 use contest_store::CopyRow;

@@ -3,8 +3,9 @@ ghost use Rattle.std.specs.Prelude.{◌≡◌, true, [], IfOk, OnOk, map, option
 ghost use Rattle.matchit.specs.Seek.{first};
 ghost use Rattle.contest_desk.specs.Routes.{offer_in, route_rows, routes, takes_route, with_route};
 
+use crate::command::Command;
 use crate::offer::Offer;
-use crate::operation::{Command, Endpoint, Reading};
+use crate::operation::{Endpoint, Reading};
 use contest_view::SettingsEndpoint;
 use matchit::{InsertError, Router};
 use std::alloc::{AllocError, Global};

@@ -2,15 +2,18 @@
 //! kept.
 ghost use Rattle.std.specs.Prelude.{◌≡◌, IfOk, IsTrue, true};
 ghost use Rattle.contest_store.specs.Keeping.{Reads};
+ghost use Rattle.contest_types.specs.Addable.{are_addable};
+ghost use Rattle.contest_desk.specs.Commands.{file_at};
 ghost use Rattle.contest_desk.specs.Routes.{routes};
-ghost use Rattle.contest_desk.specs.Serving.{IsOrdinary, IsReady, IsSettled, Serves};
+ghost use Rattle.contest_desk.specs.Serving.{IsOrdinary, IsReady, IsSettled, Keeps, Serves};
 ghost use Rattle.contest_desk.specs.Step.{may_take_memory, outcome};
-ghost use Rattle.contest_desk.specs.Wishes.{IsSound, wish_outcome, file_at};
+ghost use Rattle.contest_desk.specs.Wishes.{IsSound, wish_outcome};
 
 use crate::answer::{answer, file_needed};
 use crate::ask::ask;
 use crate::keep::keep;
 use crate::offer::Offer;
+use crate::outcome::Outcome;
 use crate::wish::Wish;
 use crate::{Credential, Reply, Request};
 use contest_store::{ContestStore, StoreError};
@@ -63,6 +66,22 @@ fn carry_out<S: ContestStore>(
     let needed = file_needed(&wish, store.lists());
     let file = file_at(alloc, store, needed)?;
     let outcome = answer(alloc, store.lists(), now, wish, file)?;
+    conclude(alloc, store, outcome)
+}
+
+// What is added is kept, and then answered.
+fn conclude<S: ContestStore>(
+    alloc: Global,
+    store: &mut S,
+    outcome: Outcome,
+) -> Result<Reply, StoreError>
+    requires loaded { IsTrue (S.kept store.old).is_loaded }
+    requires up { (S.kept store.old).is_clean → IsTrue (S.kept store.old).is_open }
+    requires settled { (S.kept store.old).is_clean → (S.kept store.old).contest ≡ (S.kept store.old).committed }
+    requires addable { (S.kept store.old).is_clean → are_addable (S.kept store.old).contest outcome.entries ≡ true }
+    ensures reply { IfOk result (λ reply. reply ≡ outcome.reply) }
+    ensures leaves { Keeps result (S.kept store.old) (S.kept store.new) outcome.entries ⊥ }
+{
     keep(alloc, store, outcome.entries)?;
     Ok(outcome.reply)
 }

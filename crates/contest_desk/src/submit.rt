@@ -1,25 +1,62 @@
 //! A team submits.
-ghost use Rattle.std.specs.Prelude.{◌≡◌, ◌+◌, ◌<◌, ◌^◌, true, option_map, length, slice_get, IfOk};
+ghost use Rattle.std.specs.Prelude.{◌≡◌, ◌⊎◌, ◌+◌, ◌<◌, ◌^◌, Ok, Err, true, is_some, option_map, length, slice_get, IfOk, IfErr};
 ghost use Rattle.contest_types.specs.State.{ContestState};
+ghost use Rattle.contest_types.specs.TeamPlaces.{team_id_at};
 ghost use Rattle.contest_types.specs.Valid.{is_valid};
 ghost use Rattle.contest_types.specs.declared.entry.Entry.TheVariants.{NewSubmission};
 ghost use Rattle.contest_store.specs.Lists.{loaded};
+ghost use Rattle.contest_desk.specs.Commands.{file_at};
 ghost use Rattle.contest_desk.specs.Outcomes.{adding};
-ghost use Rattle.contest_desk.specs.PostSubmission.{submission_outcome, own_submission, repeat_outcome};
+ghost use Rattle.contest_desk.specs.OwnSubmissions.{keyed_row};
+ghost use Rattle.contest_desk.specs.PostSubmission.{posted_submission, submission_outcome, own_submission, repeat_outcome};
 ghost use Rattle.contest_desk.specs.Replies.{answer};
 ghost use Rattle.contest_desk.specs.Serving.{IsOrdinary};
-ghost use Rattle.contest_desk.specs.Wishes.{file_for};
-ghost use Rattle.contest_desk.specs.declared.wish.Wish.TheVariants.{Submit};
 
-use crate::Reply;
 use crate::caller::audience_at;
+use crate::command::Posted;
 use crate::outcome::Outcome;
 use crate::own_submissions::own_submissions;
+use crate::submission_body::read_submission;
+use crate::{Reply, Request};
 use contest_rules::{Decision, WantedSubmission, decide_submission};
 use contest_store::Lists;
-use contest_types::{Entry, Fixed, Moment, Refusal, Rows, Submission};
+use contest_types::{Entry, Fixed, Moment, Refusal, Rows, Settings, Submission};
 use contest_view::submission_value;
 use std::alloc::{AllocError, Global};
+
+/// What the team at a place, from 0, posts, if the caller is one: only a team submits.
+///
+/// # Errors
+///
+/// `RoleForbids`, then `Malformed` and `BodyTooLarge` as `read_submission` gives them; else want of
+/// memory.
+pub fn post_submission(
+    alloc: Global,
+    fixed: &Fixed,
+    team: Option<usize>,
+    request: Request,
+) -> Result<Posted, Refusal>
+    ensures ok { IfOk result (λ posted. posted_submission fixed.now team request ≡ Ok posted) }
+    ensures err { IfErr result (λ e. (e ≡ Refusal.Memory) ⊎ (posted_submission fixed.now team request ≡ Err e)) }
+    ensures forbids { IfErr result (λ e. e ≡ Refusal.Memory → is_some team ≡ true) }
+{
+    let Some(team) = team else {
+        return Err(Refusal::RoleForbids);
+    };
+    let id = team_id(&fixed.settings, team);
+    let wanted = read_submission(alloc, id, request.key, request.body.as_slice())?;
+    Ok(Posted::Submission(team, wanted))
+}
+
+// The id of the team at a place.
+fn team_id(settings: &Settings, team: usize) -> &[u8]
+    ensures { result.now ≡ team_id_at settings.now team }
+{
+    match settings.teams().get(team) {
+        Some(team) => team.id.as_bytes(),
+        None => &[],
+    }
+}
 
 /// What becomes of what the team at a place, from 0, asks for.
 ///
@@ -34,7 +71,7 @@ pub fn submit(
     wanted: WantedSubmission,
     file: Option<Rows<u8>>,
 ) -> Result<Outcome, AllocError>
-    ensures outcome { (x : ContestState) → is_valid x ≡ true → lists.now ≡ loaded x → team < length x.fixed.settings.teams → file ≡ file_for (Submit team wanted) x
+    ensures outcome { (x : ContestState) → is_valid x ≡ true → lists.now ≡ loaded x → team < length x.fixed.settings.teams → file ≡ file_at x (keyed_row team wanted.key (loaded x).submissions)
         → IfOk result (λ o. o ≡ submission_outcome now team wanted x) }
     ensures ordinary { IfOk result (λ o. IsOrdinary o.reply) }
 {

@@ -1,6 +1,6 @@
 //! What a known caller wishes, once its body is read.
+use crate::command::Posted;
 use crate::operation::Reading;
-use contest_rules::WantedSubmission;
 use contest_types::{Audience, Rows};
 
 /// What a known caller wishes, once its body is read.
@@ -8,6 +8,6 @@ use contest_types::{Audience, Rows};
 pub enum Wish {
     /// To read, as an audience, what a path names.
     Read(Reading, Audience, Rows<u8>),
-    /// To submit, as the team at a place, from 0.
-    Submit(usize, WantedSubmission),
+    /// That what it posts is done.
+    Do(Posted),
 }

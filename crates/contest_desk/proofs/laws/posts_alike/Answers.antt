@@ -1,4 +1,4 @@
-use Rattle.contest_desk.proofs.LawLemmas as lemmas
+use Rattle.contest_desk.proofs.CommandLemmas as lemmas
 use Rattle.contest_desk.proofs.laws.posts_alike.Goals as goal
 
 pub returns : goal.returns

@@ -2,7 +2,7 @@ use Rattle.std.proofs.Common.{◌∙◌, ap, sym, subst, length}
 use Rattle.std.specs.Prelude.{◌<◌}
 use Rattle.contest_types.specs.State.{submissions_of}
 use Rattle.contest_rules.specs.Submitting.{place_of_key}
-use Rattle.contest_desk.specs.Wishes.{file_at}
+use Rattle.contest_desk.specs.Commands.{file_at}
 use Rattle.contest_desk.proofs.OwnLemmas.{own_loaded, keyed, keyed_found, unkeyed}
 use Rattle.contest_desk.proofs.own_submissions.own_submissions.Goals as goal
 

@@ -1,13 +1,14 @@
 use Rattle.std.proofs.Common.{◌∙◌, ap}
 use Rattle.contest_types.specs.Addable.{are_addable}
 use Rattle.contest_store.specs.Lists.{loaded}
+use Rattle.contest_desk.specs.Commands.{file_at}
 use Rattle.contest_desk.specs.Outcomes.{Outcome}
-use Rattle.contest_desk.specs.Wishes.{file_at, file_needed}
+use Rattle.contest_desk.specs.Wishes.{file_needed}
 use Rattle.contest_desk.proofs.LawLemmas.{come_addable}
 use Rattle.contest_desk.proofs.serve.carry_out.Goals as goal
 
-pub keep-requires-clause-addable : goal.keep-requires-clause-addable
-keep-requires-clause-addable g c = λ clean.
+pub conclude-requires-clause-addable : goal.conclude-requires-clause-addable
+conclude-requires-clause-addable g c = λ clean.
     let before = c.file_at.ensures.leaves.clean clean in
     let ready = c.requires.ready before in
     let sound = c.requires.sound before in

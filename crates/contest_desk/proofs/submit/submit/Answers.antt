@@ -5,8 +5,8 @@ use Rattle.contest_types.specs.declared.entry.Entry.TheVariants.{NewSubmission}
 use Rattle.contest_desk.specs.Outcomes.{Outcome, adding}
 use Rattle.contest_desk.specs.OwnSubmissions.{keyed_row}
 use Rattle.contest_desk.specs.PostSubmission.{own_submission}
-use Rattle.contest_desk.specs.Wishes.{file_at}
-use Rattle.contest_desk.proofs.NeverFails.{refusal_ordinary}
+use Rattle.contest_desk.specs.Commands.{file_at}
+use Rattle.contest_desk.proofs.SubmitLaws.{refusal_ordinary}
 use Rattle.contest_desk.proofs.PostLemmas.{number_fits, deciding_is, repeating_is}
 use Rattle.contest_desk.proofs.submit.submit.Goals as goal
 

@@ -1,0 +1,41 @@
+-- What every command keeps to.
+use Rattle.std.proofs.Common.{◌≡◌, ◌+◌, ℕ, false, [], Some, None, Result, Ok, Err, ap}
+use Rattle.std.specs.Prelude.{◌⊎◌, ◌==◌}
+use Rattle.contest_types.specs.Refusals.{status_of}
+use Rattle.contest_types.specs.State.{FixedPart}
+use Rattle.contest_types.specs.declared.account.Role.{Role}
+use Rattle.contest_types.specs.declared.account.Role.TheVariants as role
+use Rattle.contest_types.specs.declared.audience.Audience.TheVariants as audience
+use Rattle.contest_types.specs.declared.refusal.Refusal.{Refusal}
+use Rattle.contest_desk.specs.Callers.{Caller, audience_for, audience_of, team_for, team_of}
+use Rattle.contest_desk.specs.Commands.{IsSoundPost, poster}
+use Rattle.contest_desk.specs.Outcomes.{Outcome}
+use Rattle.contest_desk.specs.declared.command.Posted.{Posted}
+
+-- what is posted is its caller's, and is sound
+pub record IsKnownPost (f : FixedPart) (who : Caller) (posted : Posted) : Type 0 where
+  pub sound : IsSoundPost f posted
+  pub speaks : poster posted ≡ audience_of who
+
+abbrev pub IfKnownPost : FixedPart → Caller → Result Posted Refusal → Type 0
+IfKnownPost f who (Err e) = Unit {0}
+IfKnownPost f who (Ok posted) = IsKnownPost f who posted
+
+-- what refuses it is no failure
+abbrev pub OrdinaryRefusal : {A : Type 0} → Result A Refusal → Type 0
+OrdinaryRefusal (Ok a) = Unit {0}
+OrdinaryRefusal (Err e) = (status_of e == 503) ≡ false
+
+-- it adds nothing, or it is answered as done
+abbrev pub IsQuiet : Outcome → Type 0
+IsQuiet o = (o.entries ≡ []) ⊎ (o.reply.status ≡ 200)
+
+-- an audience that a caller speaks for, if it is a team
+role_sight : (r : Role) (team : ℕ) → team_for r ≡ Some team → audience_for r ≡ audience.Team (team + 1)
+role_sight (role.Team t) team is = let e : t ≡ team = cc is in ap (λ u. audience.Team (u + 1)) e
+role_sight role.Judge team is = absurd (cc is)
+role_sight role.Admin team is = absurd (cc is)
+
+pub team_sight : (who : Caller) (team : ℕ) → team_of who ≡ Some team → audience_of who ≡ audience.Team (team + 1)
+team_sight None team is = absurd (cc is)
+team_sight (Some account) team is = role_sight account.role team is
