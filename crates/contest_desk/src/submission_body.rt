@@ -5,7 +5,7 @@ ghost use Rattle.base64.specs.GeneralPurpose.{decoded_of};
 ghost use Rattle.base64.specs.Engines.{standard};
 ghost use Rattle.contest_types.specs.declared.limits.TheConstants.{POSTED_FILE as posted_file};
 ghost use Rattle.contest_desk.specs.JsonBodies.{IsRefused};
-ghost use Rattle.contest_desk.specs.SubmissionBodies.{entry_point_in, file_in, is_own, key_in, refusal_of_decoding, submission_in, submission_of, wanted_in, wanted_of};
+ghost use Rattle.contest_desk.specs.SubmissionBodies.{entry_point_in, file_in, is_own, key_in, refusal_of_decoding, submission_in, submission_of, wanted_in, wanted_of, within_limit};
 
 use crate::KeyField;
 use crate::json_body::{id_in, only_item, optional_id_in, present_in, text_in, value_of};
@@ -50,7 +50,14 @@ pub fn read_submission(
 {
     let key = key_in(key)?;
     let submission = submission_in(alloc, body)?;
-    let wanted = wanted_of(team, key, submission)?;
+    within_limit(wanted_of(team, key, submission)?)
+}
+
+// What is asked for, where its file is within the limit.
+fn within_limit(wanted: WantedSubmission) -> Result<WantedSubmission, Refusal>
+    ensures exactly { result ≡ within_limit (Some wanted) }
+    ensures limit { IfOk result (λ w. length w.file ≤ posted_file) }
+{
     if wanted.file.as_slice().len() > POSTED_FILE {
         return Err(Refusal::BodyTooLarge);
     }

@@ -29,8 +29,13 @@ fn demo_head(alloc: Global, medals: Medals) -> Result<ContestHead, Fail> {
     })
 }
 
+fn no_settings(alloc: Global, medals: Medals) -> Result<Settings, Fail> {
+    let head = demo_head(alloc, medals)?;
+    Ok(Settings::new(alloc, head)?)
+}
+
 fn settings_of(alloc: Global, medals: Medals, rows: &[SettingRow]) -> Result<Settings, Fail> {
-    let mut settings = Settings::new(alloc, demo_head(alloc, medals)?)?;
+    let mut settings = no_settings(alloc, medals)?;
     fill(alloc, &mut settings, rows)?;
     Ok(settings)
 }

@@ -20,17 +20,21 @@ pub fn items_of(alloc: Global, step: &str) -> Result<Vec<Item>, Fail> {
 fn item_of(alloc: Global, asked: &str) -> Result<Item, Fail> {
     let (head, rest) = asked.split_once('\n').ok_or("a moment without a request")?;
     let (now, caller) = head.split_once(' ').ok_or("a moment without a caller")?;
+    let now = Moment::parse(now)?.ok_or("no moment")?;
     let (line, _) = rest.split_once('\n').unwrap_or((rest, ""));
+    Ok(item_at(alloc, now, caller, line)?)
+}
+
+/// The request of a caller, with its key if there is one, at a moment.
+fn item_at(alloc: Global, now: Moment, caller: &str, line: &str) -> Result<Item, Refusal> {
     let (who, key) = match caller.split_once(" key ") {
         Some((who, key)) => (who, Some(key)),
         None => (caller, None),
     };
-    let now = Moment::parse(now)?.ok_or("no moment")?;
     let request = request(alloc, key, line)?;
-    let credential = credential(alloc, who)?;
     Ok(Item {
         now,
-        credential,
+        credential: credential(alloc, who)?,
         request,
     })
 }

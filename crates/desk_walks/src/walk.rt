@@ -15,10 +15,20 @@ pub fn report_of(alloc: Global, walk: &str) -> Result<String, Fail> {
     let mut report = String::new(alloc);
     let (steps, met) = go(alloc, &mut report, &mut desk, walk)?;
     let faults = desk.into_store().faults();
+    add_whole(alloc, &mut report, walk, (steps, met, faults))?;
+    Ok(report)
+}
+
+/// The line for the whole: how many steps, how many were answered as they say, and the store's faults.
+fn add_whole(
+    alloc: Global,
+    report: &mut String,
+    walk: &str,
+    (steps, met, faults): (u32, u32, u64),
+) -> Result<(), AllocError> {
     let (name, _) = walk.split_once('\n').unwrap_or((walk, ""));
     let line = format!(in alloc; "{name}: {met} of {steps}, faults of the store: {faults}\n")?;
-    report.push_str(line.as_str())?;
-    Ok(report)
+    report.push_str(line.as_str())
 }
 
 /// The number that stands after these words, up to the end of the line.
