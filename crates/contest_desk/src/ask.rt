@@ -1,7 +1,6 @@
 //! What a request asks of the desk.
 ghost use Rattle.std.specs.Prelude.{◌≡◌, ◌⊎◌, ◌+◌, ◌<◌, ◌^◌, Ok, Err, true, IfOk, IfErr, IfSome, OnErr, is_some};
 ghost use Rattle.contest_types.specs.State.{ContestState};
-ghost use Rattle.contest_types.specs.TeamPlaces.{team_id_at};
 ghost use Rattle.contest_types.specs.Valid.{is_valid};
 ghost use Rattle.contest_desk.specs.Callers.{team_of};
 ghost use Rattle.contest_desk.specs.Routes.{routes};
@@ -16,7 +15,7 @@ use crate::operation::{Command, Operation};
 use crate::submission_body::read_submission;
 use crate::wish::Wish;
 use crate::{Credential, Reply, Request};
-use contest_types::{Fixed, Refusal, Settings};
+use contest_types::{Fixed, Refusal};
 use matchit::Router;
 use std::alloc::{AllocError, Global};
 
@@ -85,17 +84,7 @@ fn submission_wish(
     let Some(team) = team else {
         return Err(Refusal::RoleForbids);
     };
-    let id = team_id(&fixed.settings, team);
+    let id = fixed.settings.team_id(team).as_bytes();
     let wanted = read_submission(alloc, id, request.key, request.body.as_slice())?;
     Ok(Wish::Submit(team, wanted))
-}
-
-// The id of the team at a place.
-fn team_id(settings: &Settings, team: usize) -> &[u8]
-    ensures { result.now ≡ team_id_at settings.now team }
-{
-    match settings.teams().get(team) {
-        Some(team) => team.id.as_bytes(),
-        None => &[],
-    }
 }
