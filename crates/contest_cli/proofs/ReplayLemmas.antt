@@ -8,12 +8,11 @@ use Rattle.contest_types.specs.declared.refusal.Refusal.TheVariants.{BodyTooLarg
 use Rattle.contest_types.specs.declared.limits.TheConstants.{IMPORTED_FILE}
 use Rattle.contest_cli.specs.Asked.{Asks}
 use Rattle.contest_cli.specs.Commands.{Shows}
-use Rattle.contest_cli.specs.Input.{ReadsAll, TakesFront}
 use Rattle.contest_cli.specs.Replay.{replay_of, Gives, StopsBy, Replays, stop_of, exit_status_of, line_of}
-use Rattle.contest_types.specs.Streams.{Stream, Fails, Tells}
+use Rattle.contest_types.specs.Streams.{Stream, Fails, ReadsAll, TakesFront, Tells}
 use Rattle.contest_cli.specs.ReplayText.{board_of}
-use Rattle.contest_cli.specs.declared.input.InputFault.{InputFault}
-use Rattle.contest_cli.specs.declared.input.InputFault.TheVariants as fault
+use Rattle.contest_types.specs.declared.streams.input.InputFault.{InputFault}
+use Rattle.contest_types.specs.declared.streams.input.InputFault.TheVariants as fault
 use Rattle.contest_cli.specs.declared.command_error.CommandError.{CommandError}
 use Rattle.contest_cli.specs.declared.command_error.CommandError.TheVariants.{Usage, Refused, File}
 

@@ -1,5 +1,4 @@
 pub mod Arguments
-pub mod Input
 pub mod RefusalLine
 pub mod Asked
 pub mod ReplayText

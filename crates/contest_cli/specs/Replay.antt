@@ -9,8 +9,8 @@ use Rattle.contest_types.specs.Streams.{Stream, Fails, Tells, AppendsFront}
 use Rattle.contest_cli.specs.RefusalLine.{refusal_line}
 use Rattle.contest_cli.specs.ReplayText.{board_of}
 use Rattle.contest_types.specs.declared.limits.TheConstants.{IMPORTED_FILE}
-use Rattle.contest_cli.specs.declared.input.InputFault.{InputFault}
-use Rattle.contest_cli.specs.declared.input.InputFault.TheVariants as fault
+use Rattle.contest_types.specs.declared.streams.input.InputFault.{InputFault}
+use Rattle.contest_types.specs.declared.streams.input.InputFault.TheVariants as fault
 use Rattle.contest_cli.specs.declared.command_error.CommandError.{CommandError}
 use Rattle.contest_cli.specs.declared.command_error.CommandError.TheVariants.{Usage, Refused, File}
 

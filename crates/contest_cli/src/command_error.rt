@@ -5,11 +5,10 @@ ghost use Rattle.clap.specs.Values.{kind_of};
 ghost use Rattle.contest_types.specs.Streams.{AppendsFront, Fails, Tells, stream};
 ghost use Rattle.contest_cli.specs.Replay.{line_of, exit_status_of, IsMemory, IsWordsOrMemory};
 
-use crate::input::InputFault;
-use crate::output::{OutputFault, write_whole};
 use crate::refusal_line::refusal_line;
 use clap::error::ErrorKind;
-use contest_types::{Counted, Refusal};
+use contest_types::Refusal;
+use contest_types::streams::{Counted, InputFault, OutputFault, write_all};
 use std::alloc::{AllocError, Global};
 use std::io::Write;
 
@@ -58,9 +57,9 @@ impl CommandError {
         ensures fault { OnErr result (Fails (stream E.contents err.old) (stream E.contents err.new)) }
     {
         match self {
-            CommandError::Usage(text) => write_whole(err, text.as_bytes()),
-            CommandError::Refused(refusal) => write_whole(err, refusal_line(*refusal).as_bytes()),
-            CommandError::File => write_whole(err, b"refused: File\n"),
+            CommandError::Usage(text) => write_all(err, text.as_bytes()),
+            CommandError::Refused(refusal) => write_all(err, refusal_line(*refusal).as_bytes()),
+            CommandError::File => write_all(err, b"refused: File\n"),
         }
     }
 }

@@ -7,10 +7,10 @@ ghost use Rattle.contest_cli.specs.Replay.{Replays};
 
 use crate::arguments::clap_command;
 use crate::command_error::CommandError;
-use crate::output::write_whole;
 use crate::replay_command::replay;
 use crate::show::show;
-use contest_types::{Counted, Refusal};
+use contest_types::Refusal;
+use contest_types::streams::{Counted, write_all};
 use std::alloc::{AllocError, Global};
 use std::env::Args;
 use std::io::{self, ErrorKind, Read, Write};
@@ -103,7 +103,7 @@ fn refuse_arguments<E: Write>(error: &io::Error, err: &mut Counted<E>) -> u8
 fn tell<E: Write>(text: &[u8], err: &mut Counted<E>)
     ensures { Tells (stream E.contents err.old) (stream E.contents err.new) text.now }
 {
-    let _ = write_whole(err, text);
+    let _ = write_all(err, text);
 }
 
 /// Runs the command that the words name; the program's own name isn't among them. Answers the exit

@@ -4,8 +4,6 @@
 mod arguments;
 mod command_error;
 mod commands;
-mod input;
-mod output;
 mod refusal_line;
 mod replay_command;
 mod replay_text;

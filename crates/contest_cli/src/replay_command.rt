@@ -6,11 +6,11 @@ ghost use Rattle.contest_cli.specs.Replay.{Gives, StopsBy, Replays, IsMemory, Is
 
 use crate::arguments::{Options, read_arguments};
 use crate::command_error::CommandError;
-use crate::input::read_limited;
 use crate::replay_text::replay_text;
 use crate::show::show;
+use contest_types::RelTime;
 use contest_types::limits::IMPORTED_FILE;
-use contest_types::{Counted, RelTime};
+use contest_types::streams::{Counted, read_limited};
 use std::alloc::{AllocError, Global};
 use std::io::{Read, Write};
 

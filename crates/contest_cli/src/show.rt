@@ -3,8 +3,7 @@ ghost use Rattle.contest_types.specs.Streams.{stream};
 ghost use Rattle.contest_cli.specs.Commands.{Shows};
 
 use crate::command_error::CommandError;
-use crate::output::write_whole;
-use contest_types::Counted;
+use contest_types::streams::{Counted, write_all};
 use std::io::Write;
 
 /// Writes a text that was asked for to `out`, or tells `err` that `out` failed. Answers the exit status, 0
@@ -14,7 +13,7 @@ pub(crate) fn show<O: Write, E: Write>(text: &str, out: &mut Counted<O>, err: &m
         (stream O.contents out.old) (stream O.contents out.new)
         (stream E.contents err.old) (stream E.contents err.new) result }
 {
-    match write_whole(out, text.as_bytes()) {
+    match write_all(out, text.as_bytes()) {
         Ok(()) => 0,
         Err(_) => CommandError::File.refuse(err),
     }

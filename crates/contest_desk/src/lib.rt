@@ -16,7 +16,6 @@ mod operation;
 mod outcome;
 mod own_submissions;
 mod path;
-mod refusal_text;
 pub mod repeats;
 mod reply;
 mod request;

@@ -3,7 +3,6 @@ ghost use Rattle.std.specs.Prelude.{◌≡◌};
 ghost use Rattle.contest_desk.specs.Replies.{answer_with, refused, refused_method};
 
 use crate::offer::AllowedMethods;
-use crate::refusal_text::refusal_text;
 use contest_types::Refusal;
 use std::marker::Model;
 
@@ -94,14 +93,16 @@ impl Reply {
     /// The reply that a refusal is: its status, and the body
     /// `{"code":<status>,"message":"<name>"}`; an unknown token is asked for one. It takes no
     /// memory.
+    #[tactic(auto, using(crate::proofs::RefusalTexts::body_is_text))]
     pub fn refused(refusal: Refusal) -> Reply
         ensures { result ≡ refused refusal }
     {
+        let row = refusal.row();
         Reply {
-            status: refusal.status(),
+            status: row.status,
             content: ContentType::Json,
             extra: refusal_field(refusal),
-            body: ReplyBody::fixed(refusal_text(refusal)),
+            body: ReplyBody::fixed(row.body),
         }
     }
 

@@ -1,7 +1,6 @@
 //! A team submits.
 ghost use Rattle.std.specs.Prelude.{◌≡◌, ◌⊎◌, ◌+◌, ◌<◌, ◌^◌, Ok, Err, true, is_some, option_map, length, slice_get, IfOk, IfErr};
 ghost use Rattle.contest_types.specs.State.{ContestState};
-ghost use Rattle.contest_types.specs.TeamPlaces.{team_id_at};
 ghost use Rattle.contest_types.specs.Valid.{is_valid};
 ghost use Rattle.contest_types.specs.declared.entry.Entry.TheVariants.{NewSubmission};
 ghost use Rattle.contest_store.specs.Lists.{loaded};
@@ -20,7 +19,7 @@ use crate::submission_body::read_submission;
 use crate::{Reply, Request};
 use contest_rules::{Decision, WantedSubmission, decide_submission};
 use contest_store::Lists;
-use contest_types::{Entry, Fixed, Moment, Refusal, Rows, Settings, Submission};
+use contest_types::{Entry, Fixed, Moment, Refusal, Rows, Submission};
 use contest_view::submission_value;
 use std::alloc::{AllocError, Global};
 
@@ -43,19 +42,9 @@ pub fn post_submission(
     let Some(team) = team else {
         return Err(Refusal::RoleForbids);
     };
-    let id = team_id(&fixed.settings, team);
+    let id = fixed.settings.team_id(team).as_bytes();
     let wanted = read_submission(alloc, id, request.key, request.body.as_slice())?;
     Ok(Posted::Submission(team, wanted))
-}
-
-// The id of the team at a place.
-fn team_id(settings: &Settings, team: usize) -> &[u8]
-    ensures { result.now ≡ team_id_at settings.now team }
-{
-    match settings.teams().get(team) {
-        Some(team) => team.id.as_bytes(),
-        None => &[],
-    }
 }
 
 /// What becomes of what the team at a place, from 0, asks for.

@@ -4,7 +4,7 @@ use Rattle.std.specs.Prelude.{take}
 use Rattle.contest_types.specs.State.{ContestState}
 use Rattle.contest_types.specs.declared.audience.Audience.{Audience}
 use Rattle.contest_types.specs.declared.audience.Audience.TheVariants as audience
-use Rattle.contest_types.specs.declared.mask.Mask.TheVariants.{Full, Held}
+use Rattle.contest_types.specs.declared.sight.Mask.TheVariants.{Full, Held}
 use Rattle.contest_types.specs.declared.minute.Minute.{Minute}
 use Rattle.contest_types.proofs.ExampleContest.{minutes, hours, empty, thawed_at, accepted, wrong, compile_error, submitted, released, proposed}
 use Rattle.contest_score.specs.declared.cell.Cell.{Cell}

@@ -11,7 +11,7 @@ use Rattle.contest_types.specs.TeamPlaces.{team_places, is_public}
 use Rattle.contest_types.specs.Order.{Has}
 use Rattle.contest_types.specs.State.{ContestState}
 use Rattle.contest_types.specs.declared.audience.Audience.TheVariants.{Jury}
-use Rattle.contest_types.specs.declared.mask.Mask.TheVariants.{Full}
+use Rattle.contest_types.specs.declared.sight.Mask.TheVariants.{Full}
 use Rattle.contest_types.proofs.SeenWhole.{all_has}
 use Rattle.contest_types.proofs.Rising.{find_passes}
 use Rattle.contest_types.proofs.InOrderLemmas.{count_more, find_has, option_has, has_front, has_back, flat_has, has_flat, has_map, has_filter, filter_has}

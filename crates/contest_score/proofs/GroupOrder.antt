@@ -15,7 +15,8 @@ use Rattle.contest_types.specs.Order.{by_text}
 use Rattle.contest_types.proofs.Different.{one_place}
 use Rattle.contest_score.specs.declared.group_awards.GroupKey.{GroupKey}
 use Rattle.contest_score.specs.Keys.{TellsGroup}
-use Rattle.contest_score.specs.Awards.{group_order, group_id_at}
+use Rattle.contest_types.specs.SettingsNames.{group_id_at}
+use Rattle.contest_score.specs.Awards.{group_order}
 use Rattle.contest_types.proofs.KeyOrder.{Follows, sorted_keys, range_rises}
 
 -- the order that the keys' derived `cmp` computes to

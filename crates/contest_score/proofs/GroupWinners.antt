@@ -13,7 +13,8 @@ use Rattle.contest_types.proofs.Rising.{rising}
 use Rattle.contest_score.specs.declared.row.Row.{Row}
 use Rattle.contest_score.specs.declared.solve.Solve.{Solve}
 use Rattle.contest_score.specs.Ranking.{problem_order}
-use Rattle.contest_score.specs.Awards.{Award, winners, winner, medals, first_to_solve, is_in_group, group_id_at, group_name_at, group_winner, group_order, awards_of}
+use Rattle.contest_types.specs.SettingsNames.{group_id_at, group_name_at}
+use Rattle.contest_score.specs.Awards.{Award, winners, winner, medals, first_to_solve, is_in_group, group_winner, group_order, awards_of}
 use Rattle.contest_score.proofs.SameElements.{has_place, place_within}
 use Rattle.contest_score.proofs.MedalTeams.{has_solved, award_has}
 use Rattle.contest_score.proofs.GroupOrder.{group_cmp_total}

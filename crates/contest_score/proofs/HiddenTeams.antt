@@ -11,8 +11,8 @@ use Rattle.contest_types.specs.declared.entry.Entry.{Entry}
 use Rattle.contest_types.specs.declared.entry.Entry.TheVariants.{NewSubmission, NewProposal, NewRelease, NewClarification, NewRejudging, SetMember, SetRejudging, SetStart, SetThaw, SetFinalized, NewType, NewLanguage, NewProblem, NewGroup, NewTeam, NewAccount}
 use Rattle.contest_types.specs.declared.audience.Audience.{Audience}
 use Rattle.contest_types.specs.declared.audience.Audience.TheVariants.{Jury}
-use Rattle.contest_types.specs.declared.mask.Mask.{Mask}
-use Rattle.contest_types.specs.declared.mask.Mask.TheVariants.{Full}
+use Rattle.contest_types.specs.declared.sight.Mask.{Mask}
+use Rattle.contest_types.specs.declared.sight.Mask.TheVariants.{Full}
 use Rattle.contest_types.specs.declared.submission.Submission.{Submission}
 use Rattle.contest_types.specs.declared.submission.Release.{Release}
 use Rattle.contest_types.proofs.PlaceLemmas.{and_left, and_right}

@@ -12,8 +12,8 @@ use Rattle.contest_types.proofs.SightLemmas.{map-filter_same, team_alike}
 use Rattle.contest_types.specs.declared.audience.Audience.{Audience}
 use Rattle.contest_types.specs.declared.audience.Audience.TheVariants as audience
 use Rattle.contest_types.specs.declared.marks.Marks.{Marks}
-use Rattle.contest_types.specs.declared.mask.Mask.{Mask}
-use Rattle.contest_types.specs.declared.mask.Mask.TheVariants.{Full, Held}
+use Rattle.contest_types.specs.declared.sight.Mask.{Mask}
+use Rattle.contest_types.specs.declared.sight.Mask.TheVariants.{Full, Held}
 use Rattle.contest_types.specs.declared.objects.JudgementType.{JudgementType}
 use Rattle.contest_types.specs.declared.submission.Submission.{Submission}
 use Rattle.std.proofs.lemmas.Bool.{eqb-true, false≢true}

@@ -15,8 +15,8 @@ use Rattle.contest_types.specs.declared.entry.Entry.TheVariants.{NewSubmission, 
 use Rattle.contest_types.specs.Sight.{Judgement, judgement_of, full_verdict}
 use Rattle.contest_types.specs.Valid.{is_valid}
 use Rattle.contest_types.specs.declared.audience.Audience.{Audience}
-use Rattle.contest_types.specs.declared.mask.Mask.{Mask}
-use Rattle.contest_types.specs.declared.mask.Mask.TheVariants.{Full, Held}
+use Rattle.contest_types.specs.declared.sight.Mask.{Mask}
+use Rattle.contest_types.specs.declared.sight.Mask.TheVariants.{Full, Held}
 use Rattle.contest_types.specs.declared.marks.Marks.{Marks}
 use Rattle.contest_types.specs.declared.objects.Group.{Group}
 use Rattle.contest_types.specs.declared.objects.Language.{Language}

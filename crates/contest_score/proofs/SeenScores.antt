@@ -11,7 +11,7 @@ use Rattle.contest_types.specs.TeamPlaces.{is_public}
 use Rattle.contest_types.specs.declared.audience.Audience.{Audience}
 use Rattle.contest_types.specs.declared.audience.Audience.TheVariants.{Jury}
 use Rattle.contest_types.specs.declared.marks.Marks.{Marks}
-use Rattle.contest_types.specs.declared.mask.Mask.TheVariants.{Full}
+use Rattle.contest_types.specs.declared.sight.Mask.TheVariants.{Full}
 use Rattle.contest_score.specs.declared.attempt.Attempt.{Attempt}
 use Rattle.contest_score.specs.Scoring.{is_solving, cell_of_attempts}
 use Rattle.contest_score.specs.MaskedCells.{start_of}

@@ -12,7 +12,7 @@ use Rattle.contest_types.specs.Setup.{Setup}
 use Rattle.contest_types.specs.declared.marks.Marks.{Marks}
 use Rattle.contest_types.specs.declared.audience.Audience.{Audience}
 use Rattle.contest_score.specs.declared.cell.Cell.{Cell}
-use Rattle.contest_types.specs.declared.mask.Mask.{Mask}
+use Rattle.contest_types.specs.declared.sight.Mask.{Mask}
 use Rattle.contest_score.specs.declared.submission.JudgedSubmission.{JudgedSubmission}
 use Rattle.contest_score.specs.Counting.{HasRoom, cell_with, cells_table, row_at, with_cell}
 use Rattle.contest_score.specs.Table.{no_attempts, cell_in}

@@ -12,7 +12,8 @@ use Rattle.contest_score.specs.declared.row.Row.{Row}
 use Rattle.contest_score.specs.declared.solve.Solve.{Solve}
 use Rattle.contest_score.specs.Ranking.{board_rows, is_public}
 use Rattle.contest_score.specs.Contest.{board_for, solve_of, solves_of}
-use Rattle.contest_score.specs.Awards.{Award, winners, medals, first_to_solve, is_in_group, group_id_at, group_winner, group_order, awards_of}
+use Rattle.contest_types.specs.SettingsNames.{group_id_at}
+use Rattle.contest_score.specs.Awards.{Award, winners, medals, first_to_solve, is_in_group, group_winner, group_order, awards_of}
 use Rattle.contest_score.specs.BoardLaws.{teams_of}
 
 -- the team is among those that have the award

@@ -1,10 +1,10 @@
 -- Awards (Contest API 2023-06, awards): who won what, and when it is shown.
-use Rattle.std.specs.Prelude.{ℕ, ◌+◌, Bool, ◌&&◌, ◌||◌, ◌==◌, nat_lt, nat_le, List, [], ◌∷◌, ◌++◌, length, map, filter, is_none, if◌then◌else◌, codes, slice_get}
+use Rattle.std.specs.Prelude.{ℕ, ◌+◌, Bool, ◌&&◌, ◌||◌, ◌==◌, nat_lt, nat_le, List, [], ◌∷◌, ◌++◌, length, map, filter, is_none, if◌then◌else◌, codes}
 use Rattle.std.specs.List.{list_any, list_all, range_with_len}
-use Rattle.std.specs.Option.{option_map_or}
 use Rattle.contest_types.specs.Setup.{Setup}
 use Rattle.contest_types.specs.Clock.{freeze_of, is_thawed, is_finalized}
 use Rattle.contest_types.specs.ProblemPlaces.{label_at}
+use Rattle.contest_types.specs.SettingsNames.{group_id_at, group_name_at}
 use Rattle.contest_types.specs.TeamPlaces.{is_of_group}
 use Rattle.contest_types.specs.Masks.{is_jury}
 use Rattle.contest_types.specs.State.{ContestState}
@@ -54,12 +54,6 @@ first_to_solve s rows solves problem =
 -- the team of the row is in the group at a place
 abbrev pub is_in_group : Setup → ℕ → Row → Bool
 is_in_group s group r = is_of_group s group r.team
-
-abbrev pub group_id_at : Setup → ℕ → List ℕ
-group_id_at s group = option_map_or (λ g. g.id) (slice_get s.groups group) []
-
-abbrev pub group_name_at : Setup → ℕ → List ℕ
-group_name_at s group = option_map_or (λ g. g.name) (slice_get s.groups group) []
 
 -- the group's teams of least rank
 abbrev pub group_winner : Setup → List Row → ℕ → Award

@@ -6,8 +6,8 @@ use Rattle.std.specs.Option.{option_map}
 use Rattle.contest_types.specs.State.{ContestState}
 use Rattle.contest_types.specs.Sight.{full_verdict}
 use Rattle.contest_types.specs.declared.audience.Audience.{Audience}
-use Rattle.contest_types.specs.declared.mask.Mask.{Mask}
-use Rattle.contest_types.specs.declared.mask.Mask.TheVariants.{Full}
+use Rattle.contest_types.specs.declared.sight.Mask.{Mask}
+use Rattle.contest_types.specs.declared.sight.Mask.TheVariants.{Full}
 use Rattle.contest_types.specs.declared.submission.Submission.{Submission}
 use Rattle.contest_score.specs.declared.attempt.Attempt.{Attempt}
 use Rattle.contest_score.specs.declared.cell.Cell.{Cell}

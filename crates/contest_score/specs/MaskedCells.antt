@@ -11,7 +11,7 @@ use Rattle.contest_types.specs.declared.objects.JudgementType.{JudgementType}
 use Rattle.contest_score.specs.declared.attempt.Verdict.{Verdict}
 use Rattle.contest_score.specs.declared.attempt.Attempt.{Attempt}
 use Rattle.contest_score.specs.declared.cell.Cell.{Cell}
-use Rattle.contest_types.specs.declared.mask.Mask.{Mask}
+use Rattle.contest_types.specs.declared.sight.Mask.{Mask}
 use Rattle.contest_score.specs.declared.submission.JudgedSubmission.{JudgedSubmission}
 use Rattle.contest_score.specs.Scoring.{cell_of_attempts}
 

@@ -2,7 +2,7 @@
 ghost use Rattle.std.specs.Prelude.{◌≡◌, ℕ, ◌<◌, Bool};
 ghost use Rattle.contest_score.specs.Ranking.{is_public};
 
-use contest_types::Settings;
+use contest_types::{Settings, is_public};
 
 /// A set of teams that a board shows and ranks among each other.
 pub trait Shown {
@@ -25,9 +25,6 @@ impl Shown for PublicTeams<'_> {
     ghost is_shown = { λ p. is_public p.settings.now };
 
     fn is_shown(&self, team: usize) -> bool {
-        match self.settings.teams().get(team) {
-            Some(team) => !team.hidden,
-            None => false,
-        }
+        is_public(self.settings, team)
     }
 }

@@ -3,7 +3,6 @@ ghost use Rattle.std.specs.Prelude.{◌≡◌, ◌++◌, OnOk, IfOk, IfErr, stri
 ghost use Rattle.std.specs.Fmt.{decimal};
 ghost use Rattle.std.specs.List.{flat_map};
 ghost use Rattle.contest_types.specs.RelTimeText.{rel_time_text};
-ghost use Rattle.contest_score.specs.Ranking.{name_at};
 ghost use Rattle.contest_text.specs.CellText.{cell_text};
 ghost use Rattle.contest_types.specs.ProblemPlaces.{label_at};
 ghost use Rattle.contest_text.specs.BoardText.{numbered_id, who_text, contest_time, is_final, word_of, word_at, title_end, title_line, name_width, right_field, front, heading_line, row_line, board_text};
@@ -99,10 +98,7 @@ fn numbered_id(settings: &Settings, number: usize) -> &str
     if number == 0 {
         return "";
     }
-    match settings.teams().get(number - 1) {
-        Some(team) => team.id.as_str(),
-        None => "",
-    }
+    settings.team_id(number - 1)
 }
 
 /// Pushes the contest time, or a dash where no start is set.
@@ -161,29 +157,9 @@ fn name_width(settings: &Settings, rows: &[Row]) -> usize
 {
     let mut width = 4;
     for row in rows {
-        width = width.max(team_name(settings, row.team).width());
+        width = width.max(settings.team_name(row.team).width());
     }
     width
-}
-
-/// The name of the team at a place, from 0; nothing where there is none.
-fn team_name(settings: &Settings, place: usize) -> &str
-    ensures { result.now ≡ name_at settings.now place }
-{
-    match settings.teams().get(place) {
-        Some(team) => team.name.as_str(),
-        None => "",
-    }
-}
-
-/// The label of the problem at a place, from 0; nothing where there is none.
-fn label(settings: &Settings, place: usize) -> &str
-    ensures { result.now ≡ label_at settings.now place }
-{
-    match settings.problems().get(place) {
-        Some(problem) => problem.label.as_str(),
-        None => "",
-    }
 }
 
 /// Pushes two spaces, and a text at the right of so many columns.
@@ -230,7 +206,7 @@ fn push_labels(out: &mut String, settings: &Settings, order: &[usize]) -> Result
     ensures { OnOk result (string_bytes out.new ≡ string_bytes out.old ++ flat_map (λ p. right_field 9 (label_at settings.now p)) order.now) }
 {
     for place in order {
-        push_field(out, CELL_COLUMNS, label(settings, *place))?;
+        push_field(out, CELL_COLUMNS, settings.problem_label(*place))?;
     }
     Ok(())
 }
@@ -266,7 +242,7 @@ fn push_row(
     let rank = number_text(alloc, u64::from(row.rank))?;
     let solved = number_text(alloc, u64::from(row.score.solved))?;
     let time = number_text(alloc, row.score.total)?;
-    let name = team_name(settings, row.team);
+    let name = settings.team_name(row.team);
     push_front(
         out,
         width,

@@ -9,7 +9,7 @@ use Rattle.contest_types.specs.Masks.{knows_all_of, verdict_under}
 use Rattle.contest_types.specs.State.{ContestState}
 use Rattle.contest_types.specs.Sight.{sees_submission, last_judgement, seen_judgement}
 use Rattle.contest_types.specs.declared.audience.Audience.{Audience}
-use Rattle.contest_types.specs.declared.mask.Mask.TheVariants.{Full, Held}
+use Rattle.contest_types.specs.declared.sight.Mask.TheVariants.{Full, Held}
 use Rattle.contest_types.specs.declared.submission.Submission.{Submission}
 
 abbrev pub shown : {V : Type 0} → (seen known thawed frozen : Bool) → Option V → Option V

@@ -15,6 +15,7 @@ pub mod SetupAdditions
 pub mod TeamPlaces
 pub mod Order
 pub mod ProblemPlaces
+pub mod SettingsNames
 pub mod ProblemKeys
 pub mod Accounts
 pub mod Clock

@@ -1,90 +1,65 @@
--- How each refusal is numbered and named, and its HTTP status.
-use Rattle.std.specs.Prelude.{ℕ, List, codes}
+-- How each refusal is numbered and named, its HTTP status and its body.
+use Rattle.std.specs.Prelude.{ℕ, List, ◌++◌, codes}
+use Rattle.contest_types.specs.RelTimeText.{three_digits}
 use Rattle.contest_types.specs.declared.refusal.Refusal.{Refusal}
 use Rattle.contest_types.specs.declared.refusal.Refusal.TheVariants as refusal
 use Rattle.contest_types.specs.declared.refusal.Cause.{Cause}
 use Rattle.contest_types.specs.declared.refusal.Cause.TheVariants as cause
 
+-- what is told of a refusal
+pub record RefusalFacts : Type 0 where
+  pub number : ℕ
+  pub name : List ℕ
+  pub status : ℕ
+  pub body : List ℕ
+
+-- the body is `{"code":<status>,"message":"<name>"}`
+abbrev pub told : (number : ℕ) → (name : List ℕ) → (status : ℕ) → RefusalFacts
+told number name status = record {
+  number = number;
+  name = name;
+  status = status;
+  body = codes "{\"code\":" ++ three_digits status ++ codes ",\"message\":\"" ++ name ++ codes "\"}";
+}
+
+abbrev pub row_of : Refusal → RefusalFacts
+row_of refusal.Malformed = told 1 (codes "Malformed") 400
+row_of refusal.UnknownToken = told 2 (codes "UnknownToken") 401
+row_of refusal.RoleForbids = told 3 (codes "RoleForbids") 403
+row_of refusal.NotFound = told 4 (codes "NotFound") 404
+row_of refusal.Method = told 5 (codes "Method") 405
+row_of refusal.BodyTooLarge = told 6 (codes "BodyTooLarge") 413
+row_of refusal.HeadTooLarge = told 7 (codes "HeadTooLarge") 431
+row_of refusal.Encoding = told 8 (codes "Encoding") 501
+row_of refusal.NotOpen = told 9 (codes "NotOpen") 409
+row_of refusal.UnknownReference = told 10 (codes "UnknownReference") 400
+row_of refusal.EntryPointMissing = told 11 (codes "EntryPointMissing") 400
+row_of refusal.TeamLimit = told 12 (codes "TeamLimit") 409
+row_of refusal.KeyReused = told 13 (codes "KeyReused") 409
+row_of refusal.AlreadyReleased = told 14 (codes "AlreadyReleased") 409
+row_of refusal.NothingToVerify = told 15 (codes "NothingToVerify") 409
+row_of refusal.SameJudge = told 16 (codes "SameJudge") 403
+row_of refusal.TypeDiffers = told 17 (codes "TypeDiffers") 409
+row_of refusal.InRejudging = told 18 (codes "InRejudging") 409
+row_of refusal.RejudgingIncomplete = told 19 (codes "RejudgingIncomplete") 409
+row_of refusal.RejudgingClosed = told 20 (codes "RejudgingClosed") 409
+row_of refusal.ClockRefused = told 21 (codes "ClockRefused") 409
+row_of (refusal.ImportRow n c) = told 22 (codes "ImportRow") 409
+row_of refusal.SettingsClosed = told 23 (codes "SettingsClosed") 409
+row_of refusal.StoreFault = told 24 (codes "StoreFault") 503
+row_of refusal.Memory = told 25 (codes "Memory") 503
+
 abbrev pub number_of : Refusal → ℕ
-number_of refusal.Malformed = 1
-number_of refusal.UnknownToken = 2
-number_of refusal.RoleForbids = 3
-number_of refusal.NotFound = 4
-number_of refusal.Method = 5
-number_of refusal.BodyTooLarge = 6
-number_of refusal.HeadTooLarge = 7
-number_of refusal.Encoding = 8
-number_of refusal.NotOpen = 9
-number_of refusal.UnknownReference = 10
-number_of refusal.EntryPointMissing = 11
-number_of refusal.TeamLimit = 12
-number_of refusal.KeyReused = 13
-number_of refusal.AlreadyReleased = 14
-number_of refusal.NothingToVerify = 15
-number_of refusal.SameJudge = 16
-number_of refusal.TypeDiffers = 17
-number_of refusal.InRejudging = 18
-number_of refusal.RejudgingIncomplete = 19
-number_of refusal.RejudgingClosed = 20
-number_of refusal.ClockRefused = 21
-number_of (refusal.ImportRow n c) = 22
-number_of refusal.SettingsClosed = 23
-number_of refusal.StoreFault = 24
-number_of refusal.Memory = 25
+number_of r = (row_of r).number
 
 abbrev pub refusal_name : Refusal → List ℕ
-refusal_name refusal.Malformed = codes "Malformed"
-refusal_name refusal.UnknownToken = codes "UnknownToken"
-refusal_name refusal.RoleForbids = codes "RoleForbids"
-refusal_name refusal.NotFound = codes "NotFound"
-refusal_name refusal.Method = codes "Method"
-refusal_name refusal.BodyTooLarge = codes "BodyTooLarge"
-refusal_name refusal.HeadTooLarge = codes "HeadTooLarge"
-refusal_name refusal.Encoding = codes "Encoding"
-refusal_name refusal.NotOpen = codes "NotOpen"
-refusal_name refusal.UnknownReference = codes "UnknownReference"
-refusal_name refusal.EntryPointMissing = codes "EntryPointMissing"
-refusal_name refusal.TeamLimit = codes "TeamLimit"
-refusal_name refusal.KeyReused = codes "KeyReused"
-refusal_name refusal.AlreadyReleased = codes "AlreadyReleased"
-refusal_name refusal.NothingToVerify = codes "NothingToVerify"
-refusal_name refusal.SameJudge = codes "SameJudge"
-refusal_name refusal.TypeDiffers = codes "TypeDiffers"
-refusal_name refusal.InRejudging = codes "InRejudging"
-refusal_name refusal.RejudgingIncomplete = codes "RejudgingIncomplete"
-refusal_name refusal.RejudgingClosed = codes "RejudgingClosed"
-refusal_name refusal.ClockRefused = codes "ClockRefused"
-refusal_name (refusal.ImportRow n c) = codes "ImportRow"
-refusal_name refusal.SettingsClosed = codes "SettingsClosed"
-refusal_name refusal.StoreFault = codes "StoreFault"
-refusal_name refusal.Memory = codes "Memory"
+refusal_name r = (row_of r).name
 
 abbrev pub status_of : Refusal → ℕ
-status_of refusal.Malformed = 400
-status_of refusal.UnknownToken = 401
-status_of refusal.RoleForbids = 403
-status_of refusal.NotFound = 404
-status_of refusal.Method = 405
-status_of refusal.BodyTooLarge = 413
-status_of refusal.HeadTooLarge = 431
-status_of refusal.Encoding = 501
-status_of refusal.NotOpen = 409
-status_of refusal.UnknownReference = 400
-status_of refusal.EntryPointMissing = 400
-status_of refusal.TeamLimit = 409
-status_of refusal.KeyReused = 409
-status_of refusal.AlreadyReleased = 409
-status_of refusal.NothingToVerify = 409
-status_of refusal.SameJudge = 403
-status_of refusal.TypeDiffers = 409
-status_of refusal.InRejudging = 409
-status_of refusal.RejudgingIncomplete = 409
-status_of refusal.RejudgingClosed = 409
-status_of refusal.ClockRefused = 409
-status_of (refusal.ImportRow n c) = 409
-status_of refusal.SettingsClosed = 409
-status_of refusal.StoreFault = 503
-status_of refusal.Memory = 503
+status_of r = (row_of r).status
+
+abbrev pub body_of : Refusal → List ℕ
+body_of r = (row_of r).body
 
 abbrev pub cause_name : Cause → List ℕ
 cause_name cause.Malformed = codes "Malformed"

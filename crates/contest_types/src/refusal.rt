@@ -1,6 +1,6 @@
-//! Why something is refused: each refusal's number, name and HTTP status.
-ghost use Rattle.std.specs.Prelude.{◌≡◌};
-ghost use Rattle.contest_types.specs.Refusals.{number_of, refusal_name, status_of, cause_name};
+//! Why something is refused: each refusal's number, name, HTTP status and body.
+ghost use Rattle.std.specs.Prelude.{◌≡◌, ◌≤◌, length};
+ghost use Rattle.contest_types.specs.Refusals.{number_of, refusal_name, status_of, body_of, cause_name};
 
 use std::alloc::{AllocError, AllocFailed};
 
@@ -86,89 +86,89 @@ pub enum RowFault {
     Memory,
 }
 
+/// What is told of a refusal, wherever it is told.
+#[derive(Clone, Copy)]
+pub struct RefusalRow {
+    /// Its number, from 1 to 25.
+    pub number: u8,
+    /// Its name, one word.
+    pub name: &'static str,
+    /// The HTTP status that it is answered with (RFC 9110, section 15).
+    pub status: u16,
+    /// The body that it is answered with: `{"code":<status>,"message":"<name>"}`.
+    pub body: &'static str,
+}
+
+/// The row of a number, a name and a status.
+macro_rules! row {
+    ($number:literal, $name:literal, $status:literal) => {
+        RefusalRow {
+            number: $number,
+            name: $name,
+            status: $status,
+            body: concat!("{\"code\":", $status, ",\"message\":\"", $name, "\"}"),
+        }
+    };
+}
+
 impl Refusal {
+    /// All that is told of it. It takes no memory.
+    pub fn row(self) -> RefusalRow
+        ensures number { result.number ≡ number_of self }
+        ensures name { result.name.now ≡ refusal_name self }
+        ensures short { length result.name.now ≤ 19 }
+        ensures status { result.status ≡ status_of self }
+        ensures body { result.body.now ≡ body_of self }
+    {
+        match self {
+            Refusal::Malformed => row!(1, "Malformed", 400),
+            Refusal::UnknownToken => row!(2, "UnknownToken", 401),
+            Refusal::RoleForbids => row!(3, "RoleForbids", 403),
+            Refusal::NotFound => row!(4, "NotFound", 404),
+            Refusal::Method => row!(5, "Method", 405),
+            Refusal::BodyTooLarge => row!(6, "BodyTooLarge", 413),
+            Refusal::HeadTooLarge => row!(7, "HeadTooLarge", 431),
+            Refusal::Encoding => row!(8, "Encoding", 501),
+            Refusal::NotOpen => row!(9, "NotOpen", 409),
+            Refusal::UnknownReference => row!(10, "UnknownReference", 400),
+            Refusal::EntryPointMissing => row!(11, "EntryPointMissing", 400),
+            Refusal::TeamLimit => row!(12, "TeamLimit", 409),
+            Refusal::KeyReused => row!(13, "KeyReused", 409),
+            Refusal::AlreadyReleased => row!(14, "AlreadyReleased", 409),
+            Refusal::NothingToVerify => row!(15, "NothingToVerify", 409),
+            Refusal::SameJudge => row!(16, "SameJudge", 403),
+            Refusal::TypeDiffers => row!(17, "TypeDiffers", 409),
+            Refusal::InRejudging => row!(18, "InRejudging", 409),
+            Refusal::RejudgingIncomplete => row!(19, "RejudgingIncomplete", 409),
+            Refusal::RejudgingClosed => row!(20, "RejudgingClosed", 409),
+            Refusal::ClockRefused => row!(21, "ClockRefused", 409),
+            Refusal::ImportRow(_, _) => row!(22, "ImportRow", 409),
+            Refusal::SettingsClosed => row!(23, "SettingsClosed", 409),
+            Refusal::StoreFault => row!(24, "StoreFault", 503),
+            Refusal::Memory => row!(25, "Memory", 503),
+        }
+    }
+
     /// Its number, from 1 to 25.
     pub fn number(self) -> u8
         ensures { result ≡ number_of self }
     {
-        match self {
-            Refusal::Malformed => 1,
-            Refusal::UnknownToken => 2,
-            Refusal::RoleForbids => 3,
-            Refusal::NotFound => 4,
-            Refusal::Method => 5,
-            Refusal::BodyTooLarge => 6,
-            Refusal::HeadTooLarge => 7,
-            Refusal::Encoding => 8,
-            Refusal::NotOpen => 9,
-            Refusal::UnknownReference => 10,
-            Refusal::EntryPointMissing => 11,
-            Refusal::TeamLimit => 12,
-            Refusal::KeyReused => 13,
-            Refusal::AlreadyReleased => 14,
-            Refusal::NothingToVerify => 15,
-            Refusal::SameJudge => 16,
-            Refusal::TypeDiffers => 17,
-            Refusal::InRejudging => 18,
-            Refusal::RejudgingIncomplete => 19,
-            Refusal::RejudgingClosed => 20,
-            Refusal::ClockRefused => 21,
-            Refusal::ImportRow(_, _) => 22,
-            Refusal::SettingsClosed => 23,
-            Refusal::StoreFault => 24,
-            Refusal::Memory => 25,
-        }
+        self.row().number
     }
 
-    /// Its name, one word.
+    /// Its name, one word of at most 19 bytes.
     pub fn name(self) -> &'static str
-        ensures { result.now ≡ refusal_name self }
+        ensures name { result.now ≡ refusal_name self }
+        ensures short { length result.now ≤ 19 }
     {
-        match self {
-            Refusal::Malformed => "Malformed",
-            Refusal::UnknownToken => "UnknownToken",
-            Refusal::RoleForbids => "RoleForbids",
-            Refusal::NotFound => "NotFound",
-            Refusal::Method => "Method",
-            Refusal::BodyTooLarge => "BodyTooLarge",
-            Refusal::HeadTooLarge => "HeadTooLarge",
-            Refusal::Encoding => "Encoding",
-            Refusal::NotOpen => "NotOpen",
-            Refusal::UnknownReference => "UnknownReference",
-            Refusal::EntryPointMissing => "EntryPointMissing",
-            Refusal::TeamLimit => "TeamLimit",
-            Refusal::KeyReused => "KeyReused",
-            Refusal::AlreadyReleased => "AlreadyReleased",
-            Refusal::NothingToVerify => "NothingToVerify",
-            Refusal::SameJudge => "SameJudge",
-            Refusal::TypeDiffers => "TypeDiffers",
-            Refusal::InRejudging => "InRejudging",
-            Refusal::RejudgingIncomplete => "RejudgingIncomplete",
-            Refusal::RejudgingClosed => "RejudgingClosed",
-            Refusal::ClockRefused => "ClockRefused",
-            Refusal::ImportRow(_, _) => "ImportRow",
-            Refusal::SettingsClosed => "SettingsClosed",
-            Refusal::StoreFault => "StoreFault",
-            Refusal::Memory => "Memory",
-        }
+        self.row().name
     }
 
     /// The HTTP status that it is answered with (RFC 9110, section 15).
     pub fn status(self) -> u16
         ensures { result ≡ status_of self }
     {
-        match self {
-            Refusal::Malformed | Refusal::UnknownReference | Refusal::EntryPointMissing => 400,
-            Refusal::UnknownToken => 401,
-            Refusal::RoleForbids | Refusal::SameJudge => 403,
-            Refusal::NotFound => 404,
-            Refusal::Method => 405,
-            Refusal::BodyTooLarge => 413,
-            Refusal::HeadTooLarge => 431,
-            Refusal::Encoding => 501,
-            Refusal::StoreFault | Refusal::Memory => 503,
-            _ => 409,
-        }
+        self.row().status
     }
 }
 

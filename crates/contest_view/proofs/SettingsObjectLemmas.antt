@@ -9,7 +9,8 @@ use Rattle.contest_types.specs.Setup.{Setup}
 use Rattle.contest_types.specs.declared.objects.Team.{Team}
 use Rattle.contest_types.specs.declared.objects.Problem.{Problem}
 use Rattle.contest_view.specs.Items.{object_at}
-use Rattle.contest_view.specs.SettingsObjects.{group_id_at, problem_item, team_item}
+use Rattle.contest_types.specs.SettingsNames.{group_id_at}
+use Rattle.contest_view.specs.SettingsObjects.{problem_item, team_item}
 
 texts_have_none : (f : ℕ → List ℕ) (gs : List ℕ) → has_float (array (items_of (map (λ g. string (f g)) gs))) ≡ false
 texts_have_none f [] = refl

@@ -1,7 +1,6 @@
 -- The rows of a contest's settings as they are served (Contest API 2023-06, the objects of these names; which
 -- members each has is this desk's choice).
-use Rattle.std.specs.Prelude.{ℕ, List, [], Option, codes, map, slice_get}
-use Rattle.std.specs.Option.{option_map_or}
+use Rattle.std.specs.Prelude.{ℕ, List, Option, codes, map}
 use Rattle.serde_json.specs.Data.{Data, array, boolean, number, unsigned, string, object, member, no_members}
 use Rattle.serde_json.specs.View.{items_of}
 use Rattle.contest_types.specs.Setup.{Setup}
@@ -11,6 +10,7 @@ use Rattle.contest_types.specs.declared.objects.Language.{Language}
 use Rattle.contest_types.specs.declared.objects.Problem.{Problem}
 use Rattle.contest_types.specs.declared.objects.Team.{Team}
 use Rattle.contest_types.specs.ProblemPlaces.{problem_order}
+use Rattle.contest_types.specs.SettingsNames.{group_id_at}
 use Rattle.contest_view.specs.Items.{Item, array_of, found_in, object_at}
 use Rattle.contest_view.specs.declared.settings_objects.SettingsEndpoint.{SettingsEndpoint}
 use Rattle.contest_view.specs.declared.settings_objects.SettingsEndpoint.TheVariants.{Groups, JudgementTypes, Languages, Problems, Teams}
@@ -38,9 +38,6 @@ problem_item p = record {
 
 abbrev pub group_item : Group → Item
 group_item g = record { id = g.id; object = object (member (codes "id") (string g.id) (member (codes "name") (string g.name) no_members)) }
-
-abbrev pub group_id_at : Setup → ℕ → List ℕ
-group_id_at s place = option_map_or (λ (g : Group). g.id) (slice_get s.groups place) []
 
 -- a team, with the ids of its groups as they were given
 abbrev pub team_item : Setup → Team → Item

@@ -3,7 +3,8 @@ ghost use Rattle.std.specs.Prelude.{◌≡◌, false, IfOk, IfSome, map, option_
 ghost use Rattle.serde_json.specs.Data.{string};
 ghost use Rattle.serde_json.specs.View.{view};
 ghost use Rattle.serde_json.specs.Written.{has_float};
-ghost use Rattle.contest_view.specs.SettingsObjects.{group_id_at, problems_data, setting_found, settings_data, team_item};
+ghost use Rattle.contest_types.specs.SettingsNames.{group_id_at};
+ghost use Rattle.contest_view.specs.SettingsObjects.{problems_data, setting_found, settings_data, team_item};
 
 use crate::collection::{Collection, objects_at, whole_by_id, whole_value};
 use crate::members::{Member, object_of, put_all};
@@ -283,16 +284,7 @@ fn group_ids(alloc: Global, settings: &Settings, groups: &[usize]) -> Result<Vec
 {
     let mut ids = Vec::new(alloc);
     for group in groups {
-        ids.push(Value::try_from_str(alloc, group_id(settings, *group))?)?;
+        ids.push(Value::try_from_str(alloc, settings.group_id(*group))?)?;
     }
     Ok(ids)
-}
-
-fn group_id(settings: &Settings, place: usize) -> &str
-    ensures { result.now ≡ group_id_at settings.now place }
-{
-    match settings.groups().get(place) {
-        Some(group) => group.id.as_str(),
-        None => "",
-    }
 }

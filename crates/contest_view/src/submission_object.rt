@@ -4,11 +4,9 @@ ghost use Rattle.serde_json.specs.Data.{object, string};
 ghost use Rattle.serde_json.specs.View.{view};
 ghost use Rattle.serde_json.specs.Written.{has_float};
 ghost use Rattle.contest_types.specs.Sight.{program_for};
-ghost use Rattle.contest_types.specs.TeamPlaces.{team_id_at};
-ghost use Rattle.contest_types.specs.ProblemPlaces.{problem_id_at};
 ghost use Rattle.contest_types.specs.VisibleIds.{submission_id};
 ghost use Rattle.contest_view.specs.Members.{shown as shown_as};
-ghost use Rattle.contest_view.specs.Objects.{contest_time_data, file_array, files_data, files_path, language_id_at, submission_data, submission_members};
+ghost use Rattle.contest_view.specs.Objects.{contest_time_data, file_array, files_data, files_path, submission_data, submission_members};
 
 use crate::members::{Member, moment_value, put_all, put_where, reltime_value};
 use crate::submission_id::submission_id;
@@ -55,9 +53,9 @@ pub fn submission_value(
         entry_point: entry_point_where(shown, &submission.entry_point),
         files: files_where(alloc, shown, settings, id.as_str())?,
         id: id.as_str(),
-        language: language_id(settings, submission.language),
-        problem: problem_id(settings, submission.problem),
-        team: team_id(settings, submission.team),
+        language: settings.language_id(submission.language),
+        problem: settings.problem_id(submission.problem),
+        team: settings.team_id(submission.team),
         time: moment_value(alloc, submission.time)?,
     };
     submission_object(alloc, members)
@@ -140,31 +138,4 @@ fn file_array(alloc: Global, href: &str) -> Result<Value, AllocError>
     ensures { IfOk result (λ v. view v ≡ file_array href.now) }
 {
     json!(in alloc; [{"href": href, "mime": "application/zip"}])
-}
-
-fn problem_id(settings: &Settings, place: usize) -> &str
-    ensures { result.now ≡ problem_id_at settings.now.problems place }
-{
-    match settings.problems().get(place) {
-        Some(problem) => problem.id.as_str(),
-        None => "",
-    }
-}
-
-fn language_id(settings: &Settings, place: usize) -> &str
-    ensures { result.now ≡ language_id_at settings.now place }
-{
-    match settings.languages().get(place) {
-        Some(language) => language.id.as_str(),
-        None => "",
-    }
-}
-
-pub(crate) fn team_id(settings: &Settings, place: usize) -> &str
-    ensures { result.now ≡ team_id_at settings.now place }
-{
-    match settings.teams().get(place) {
-        Some(team) => team.id.as_str(),
-        None => "",
-    }
 }

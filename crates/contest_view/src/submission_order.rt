@@ -2,9 +2,7 @@
 ghost use Rattle.std.specs.Prelude.{◌≡◌, IfOk, map};
 ghost use Rattle.contest_view.specs.Keys.{key_of, parts_of, seen_places};
 
-use crate::submission_object::team_id;
-use crate::visibility::sees_team;
-use contest_types::{Audience, Settings, Submission};
+use contest_types::{Audience, Settings, Submission, sees_team};
 use std::alloc::{AllocError, Global};
 
 /// What a submission is ordered by: its time in milliseconds since 1970, its team's id and its
@@ -26,7 +24,7 @@ fn submission_key<'a>(
 {
     SubmissionKey {
         time: submission.time.milliseconds(),
-        team: team_id(settings, submission.team),
+        team: settings.team_id(submission.team),
         number: submission.number,
         place,
     }

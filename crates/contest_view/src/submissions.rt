@@ -11,8 +11,7 @@ use crate::collection::{Collection, objects_at, with_id};
 use crate::submission_id::has_id;
 use crate::submission_object::submission_value;
 use crate::submission_order::{SubmissionKey, seen_keys};
-use crate::visibility::sees_team;
-use contest_types::{Audience, Fixed, Submission};
+use contest_types::{Audience, Fixed, Submission, sees_team};
 use serde_json::Value;
 use std::alloc::{AllocError, Global};
 

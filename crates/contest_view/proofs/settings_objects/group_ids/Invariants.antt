@@ -1,7 +1,7 @@
 use Rattle.std.proofs.Common.{◌≡◌, map, take}
 use Rattle.serde_json.specs.Data.{string}
 use Rattle.serde_json.specs.View.{view}
-use Rattle.contest_view.specs.SettingsObjects.{group_id_at}
+use Rattle.contest_types.specs.SettingsNames.{group_id_at}
 use Rattle.contest_view.proofs.settings_objects.group_ids.Given as goal
 
 abbrev pub invariant-loop-group : goal.invariant-loop-group

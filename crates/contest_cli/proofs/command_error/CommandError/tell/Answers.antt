@@ -1,4 +1,4 @@
 use Rattle.contest_cli.proofs.command_error.CommandError.tell.Goals as goal
 
 pub returns-in-File-clause-err : goal.returns-in-File-clause-err
-returns-in-File-clause-err g c = rw c.in-File.is c.write_whole-in-File.ensures.err
+returns-in-File-clause-err g c = rw c.in-File.is c.write_all-in-File.ensures.err

@@ -1,10 +1,9 @@
 //! Reading a stream to its end, up to a limit.
 ghost use Rattle.std.specs.Prelude.{◌≡◌, ◌≤◌, ◌<◌, ◌+◌, ◌^◌, IfOk, IfErr, OnErr, length};
 ghost use Rattle.std.specs.Io.KnownBytes.{ReadConsumes};
-ghost use Rattle.contest_types.specs.Streams.{Fails, stream};
-ghost use Rattle.contest_cli.specs.Input.{ReadsAll, TakesFront, TakesUpTo};
+ghost use Rattle.contest_types.specs.Streams.{Fails, ReadsAll, TakesFront, TakesUpTo, stream};
 
-use contest_types::Counted;
+use super::Counted;
 use std::alloc::{AllocError, Global};
 use std::io::{ErrorKind, Read};
 
@@ -16,7 +15,7 @@ const RETRIES: u32 = 1_000;
 
 /// Why a stream wasn't read to its end.
 #[derive(Clone, Copy, PartialEq, Eq)]
-pub(crate) enum InputFault {
+pub enum InputFault {
     /// A read failed, or was interrupted once too often.
     File,
     /// More bytes than the limit.
@@ -26,7 +25,7 @@ pub(crate) enum InputFault {
 }
 
 impl From<AllocError> for InputFault {
-    ghost use Rattle.contest_cli.specs.declared.input.InputFault.TheVariants.{Memory};
+    ghost use Rattle.contest_types.specs.declared.streams.input.InputFault.TheVariants.{Memory};
 
     ghost from_gives = { λ _ fault. fault ≡ Memory };
 
@@ -36,9 +35,13 @@ impl From<AllocError> for InputFault {
 }
 
 /// All bytes that the reader has left. Reads at most `limit + 1` bytes, and tries an interrupted read
-/// again, 1,000 times in all. The error is `TooLarge` where more than `limit` bytes are left, `File`
-/// where a read fails, and `Memory` where a growth is refused; what was read until then is gone.
-pub(crate) fn read_limited<R: Read>(
+/// again, 1,000 times in all.
+///
+/// # Errors
+///
+/// `TooLarge` where more than `limit` bytes are left, `File` where a read fails, and `Memory` where a
+/// growth is refused; what was read until then is gone.
+pub fn read_limited<R: Read>(
     alloc: Global,
     reader: &mut Counted<R>,
     limit: usize,

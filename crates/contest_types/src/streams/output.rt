@@ -3,16 +3,20 @@ ghost use Rattle.std.specs.Prelude.{OnOk, OnErr};
 ghost use Rattle.std.specs.Io.KnownBytes.{Appends};
 ghost use Rattle.contest_types.specs.Streams.{AppendsFront, Fails, stream};
 
-use contest_types::Counted;
+use super::Counted;
 use std::io::Write;
 
 /// A stream that took not all of the bytes, or couldn't be flushed.
 #[derive(Clone, Copy, PartialEq, Eq)]
-pub(crate) struct OutputFault;
+pub struct OutputFault;
 
-/// Writes all the bytes, by calls of `write` alone, and flushes. An error of any kind, also an
-/// interrupted call, and a write that takes nothing are a fault; a front of the bytes is out then.
-pub(crate) fn write_whole<W: Write>(out: &mut Counted<W>, bytes: &[u8]) -> Result<(), OutputFault>
+/// Writes all the bytes, by calls of `write` alone, and flushes.
+///
+/// # Errors
+///
+/// An error of any kind, also of an interrupted call, and a write that takes nothing are a fault; a
+/// front of the bytes is out then.
+pub fn write_all<W: Write>(out: &mut Counted<W>, bytes: &[u8]) -> Result<(), OutputFault>
     ensures ok { OnOk result (Appends (W.contents out.old.inner) (W.contents out.new.inner) bytes.now) }
     ensures err { OnErr result (AppendsFront (W.contents out.old.inner) (W.contents out.new.inner) bytes.now) }
     ensures fault { OnErr result (Fails (stream W.contents out.old) (stream W.contents out.new)) }

@@ -1,8 +1,8 @@
 use Rattle.std.proofs.Common.{◌++◌, ◌≤◌, ◌+◌, length, ◌∙◌, sym, ap, ℕ, List, Option, Some, None, Result, Ok, Err, OnErr, append_assoc, arith, take}
 use Rattle.std.proofs.lemmas.Grind.{common_steps}
 use Rattle.std.specs.Io.KnownBytes.{Consumes}
-use Rattle.contest_cli.specs.Input.{TakesUpTo}
-use Rattle.contest_cli.proofs.input.read_by.Goals as goal
+use Rattle.contest_types.specs.Streams.{TakesUpTo}
+use Rattle.contest_types.proofs.streams.input.read_by.Goals as goal
 
 -- first `xs` is taken, and then `ys`
 consumes_both : (a b c : Option (List ℕ)) (xs ys : List ℕ)

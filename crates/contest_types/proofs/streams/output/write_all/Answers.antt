@@ -2,7 +2,7 @@ use Rattle.std.proofs.Common.{◌≡◌, ◌++◌, ◌+◌, ◌-◌, ◌∙◌, 
 use Rattle.std.proofs.lemmas.List.{take_all}
 use Rattle.std.specs.Io.KnownBytes.{Appends}
 use Rattle.contest_types.proofs.StreamLemmas.{some_taken}
-use Rattle.contest_cli.proofs.output.write_whole.Goals as goal
+use Rattle.contest_types.proofs.streams.output.write_all.Goals as goal
 
 joins : (a b c : Option (List ℕ)) (xs : List ℕ) (i n : ℕ) → Appends a b (take i xs) → Appends b c (take n (drop i xs)) → Appends a c (take (i + n) xs)
 joins None b c xs i n p q = tt

@@ -1,6 +1,6 @@
 use Rattle.std.proofs.Common.{◌≤◌}
 use Rattle.std.specs.Io.KnownBytes.{Keeps}
-use Rattle.contest_cli.proofs.input.read_piece.Given as goal
+use Rattle.contest_types.proofs.streams.input.read_piece.Given as goal
 
 abbrev pub invariant-loop-count : goal.invariant-loop-count
 invariant-loop-count g l = record {

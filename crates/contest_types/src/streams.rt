@@ -1,0 +1,9 @@
+//! Streams whose failures are counted: one is read to its end, or written whole.
+
+mod counted;
+mod input;
+mod output;
+
+pub use counted::Counted;
+pub use input::{InputFault, read_limited};
+pub use output::{OutputFault, write_all};
