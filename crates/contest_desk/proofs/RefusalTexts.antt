@@ -1,5 +1,5 @@
 -- The text of each refusal's body.
-use Rattle.std.proofs.Common.{◌≡◌, ◌∙◌, true≢false, length, codes, refl, sym, ap}
+use Rattle.std.proofs.Common.{◌≡◌, ◌∙◌, true≢false, length, refl, sym, ap}
 use Rattle.std.specs.Prelude.{◌==◌}
 use Rattle.std.specs.Fmt.{digits}
 use Rattle.serde_json.proofs.OnLiterals.{serde_json_on_literals}

@@ -10,11 +10,7 @@ mod submission_object;
 mod submission_order;
 mod submissions;
 
-pub use collection::{Collection, array_value, value_by_id};
 pub use contest_types::{Audience, Phase, phase, seen_verdict, sees_submission};
-pub use settings_objects::{
-    Groups, JudgementTypes, Languages, Problems, SettingsEndpoint, Teams, setting_by_id,
-    settings_value,
-};
+pub use settings_objects::{SettingsEndpoint, setting_by_id, settings_value};
 pub use submission_object::submission_value;
 pub use submissions::{submission_by_id, submissions_value};
