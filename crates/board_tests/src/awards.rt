@@ -105,7 +105,7 @@ fn board_of(alloc: Global, rows: &[(usize, u32, u32)]) -> Result<Board, Fail> {
     for (team, rank, solved) in rows {
         board.push(row(alloc, *team, *rank, *solved))?;
     }
-    Ok(Board::from_vec(board))
+    Ok(Board::new(Vec::new(alloc), board))
 }
 
 fn solves_of(alloc: Global, rows: &[(usize, usize, u64)]) -> Result<Vec<Solve>, Fail> {

@@ -1,5 +1,5 @@
 -- Which command the words name, and what is told where they name none or ask for help.
-use Rattle.std.specs.Prelude.{◌≡◌, ◌≤◌, ◌⊎◌, ℕ, List, [], ◌∷◌, ◌++◌, Bool, true, false, codes, ◌||◌}
+use Rattle.std.specs.Prelude.{◌≡◌, ◌≤◌, ◌⊎◌, ℕ, List, [], ◌∷◌, ◌++◌, Bool, codes, ◌||◌, if◌then◌else◌}
 use Rattle.std.specs.Io.KnownBytes.{Appends, Keeps}
 use Rattle.std.specs.List.{list_any}
 use Rattle.std.specs.Str.{bytes_eq}
@@ -7,26 +7,28 @@ use Rattle.clap.specs.Walk.{Text}
 use Rattle.contest_types.specs.Streams.{Stream, Fails, Tells, AppendsFront}
 use Rattle.contest_types.specs.declared.refusal.Refusal.TheVariants.{Memory}
 use Rattle.contest_cli.specs.RefusalLine.{refusal_line}
+use Rattle.contest_cli.specs.declared.commands.Invocation.{Invocation}
+use Rattle.contest_cli.specs.declared.commands.Invocation.TheVariants.{Nothing, Help, ToReplay, HelpOfReplay, Unknown}
 
 abbrev pub is_help : Text → Bool
 is_help word = bytes_eq word (codes "--help") || bytes_eq word (codes "-h")
 
--- `replay` and its options, none of which asks for help
-abbrev pub IsReplay : List Text → Type 0
-IsReplay [] = ⊥
-IsReplay (name ∷ options) = (name ≡ codes "replay") × (list_any is_help options ≡ false)
+-- what `replay` is asked for by its options
+abbrev pub replay_invocation : List Text → Invocation
+replay_invocation options = if list_any is_help options then HelpOfReplay else ToReplay
 
--- the first word is no command
+-- what the words ask for, by the first of them
+abbrev pub invocation_of : List Text → Invocation
+invocation_of [] = Nothing
+invocation_of (name ∷ options) = if bytes_eq name (codes "help") || is_help name then Help else (if bytes_eq name (codes "replay") then replay_invocation options else Unknown)
+
+-- the words name no command
 abbrev pub NamesNone : List Text → Type 0
-NamesNone [] = Unit {0}
-NamesNone (name ∷ options) = (bytes_eq name (codes "replay") || bytes_eq name (codes "help") || is_help name) ≡ false
+NamesNone words = (invocation_of words ≡ Nothing) ⊎ (invocation_of words ≡ Unknown)
 
 -- the words ask for help: the program's, or that of `replay`
 abbrev pub AsksHelp : List Text → Type 0
-AsksHelp [] = ⊥
-AsksHelp (name ∷ options) =
-    (name ≡ codes "help") ⊎ (name ≡ codes "--help") ⊎ (name ≡ codes "-h")
-    ⊎ ((name ≡ codes "replay") × (list_any is_help options ≡ true))
+AsksHelp words = (invocation_of words ≡ Help) ⊎ (invocation_of words ≡ HelpOfReplay)
 
 -- what is said of a command that there isn't
 abbrev pub unknown_command : Text → List ℕ

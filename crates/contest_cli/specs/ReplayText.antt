@@ -5,7 +5,7 @@ use Rattle.contest_types.specs.declared.audience.Audience.{Audience}
 use Rattle.contest_types.specs.declared.audience.Audience.TheVariants.{Public, Jury}
 use Rattle.contest_types.specs.declared.marks.Marks.{Marks}
 use Rattle.contest_types.specs.declared.refusal.Refusal.{Refusal}
-use Rattle.contest_score.specs.Contest.{board_for}
+use Rattle.contest_score.specs.Contest.{seen_board}
 use Rattle.contest_score.specs.declared.submission.JudgedSubmission.{JudgedSubmission}
 use Rattle.contest_text.specs.BoardText.{board_text}
 use Rattle.contest_import.specs.ReplayLists.{ReplayLists}
@@ -24,7 +24,7 @@ moment_for s (Some (negsuc n)) = 0
 
 -- the text of the model's board for a caller at a moment, of the contest with these submissions
 abbrev pub board_text_of : Audience → Setup → Marks → ℕ → List JudgedSubmission → List ℕ
-board_text_of who s marks now us = board_text s marks now who (board_for who now (replay_contest s marks us))
+board_text_of who s marks now us = board_text s marks now who (seen_board who now (replay_contest s marks us))
 
 -- the text of the board of a replayed contest: of its submissions up to the moment
 abbrev pub shown_text : Audience → Marks → ℕ → ReplayLists → List ℕ

@@ -2,7 +2,7 @@
 ghost use Rattle.std.specs.Prelude.{◌≡◌, ◌≤◌, codes, map, string_bytes, IfErr, IfOk};
 ghost use Rattle.std.specs.List.{list_any};
 ghost use Rattle.contest_types.specs.Streams.{Tells, stream};
-ghost use Rattle.contest_cli.specs.Commands.{AsksHelp, IsReplay, NamesNone, ShowsSome, TellsNone, TellsWords, is_help, unknown_command};
+ghost use Rattle.contest_cli.specs.Commands.{AsksHelp, NamesNone, ShowsSome, TellsNone, TellsWords, invocation_of, is_help, replay_invocation, unknown_command};
 ghost use Rattle.contest_cli.specs.Replay.{Replays};
 
 use crate::arguments::clap_command;
@@ -30,6 +30,21 @@ Example: desk replay --at 1:30:00 < contest.csv
 'desk <COMMAND> --help' tells more of a command. docs/FORMATS.md says how to
 write a contest as CSV.
 ";
+
+/// What the words ask for.
+#[derive(Clone, Copy)]
+pub enum Invocation {
+    /// Nothing: there are no words.
+    Nothing,
+    /// The program's help.
+    Help,
+    /// `replay`.
+    ToReplay,
+    /// The help of `replay`.
+    HelpOfReplay,
+    /// A command that there isn't.
+    Unknown,
+}
 
 /// Runs the program by its arguments, of which the first is its own name. Answers the exit status.
 pub fn start<R: Read + Drop, O: Write + Drop, E: Write + Drop>(
@@ -63,7 +78,7 @@ fn run_owned<R: Read, O: Write, E: Write>(
     err: &mut Counted<E>,
 ) -> u8
     ensures statuses { result ≤ 2 }
-    ensures replay { IsReplay (map string_bytes words.now)
+    ensures replay { invocation_of (map string_bytes words.now) ≡ Invocation.ToReplay
         → Replays (map string_bytes words.now)
         (stream R.remaining reader.old) (stream R.remaining reader.new)
         (stream O.contents out.old) (stream O.contents out.new)
@@ -117,7 +132,7 @@ pub fn run<R: Read, O: Write, E: Write>(
     err: &mut Counted<E>,
 ) -> u8
     ensures statuses { result ≤ 2 }
-    ensures replay { IsReplay (map (λ s. s.now) words.now)
+    ensures replay { invocation_of (map (λ s. s.now) words.now) ≡ Invocation.ToReplay
         → Replays (map (λ s. s.now) words.now)
         (stream R.remaining reader.old) (stream R.remaining reader.new)
         (stream O.contents out.old) (stream O.contents out.new)
@@ -129,19 +144,51 @@ pub fn run<R: Read, O: Write, E: Write>(
         → TellsNone (stream O.contents out.old) (stream O.contents out.new)
         (stream E.contents err.old) (stream E.contents err.new) result }
 {
-    if words.is_empty() {
-        tell(HELP.as_bytes(), err);
-        return 2;
-    }
-    match words[0] {
-        "help" | "--help" | "-h" => show(HELP, out, err),
-        "replay" => {
-            if asks_help(&words[1..]) {
-                return show_replay_help(alloc, out, err);
-            }
-            replay(alloc, words, reader, out, err)
+    match invocation_of(words) {
+        Invocation::Nothing => {
+            tell(HELP.as_bytes(), err);
+            2
         }
-        name => refuse_command(alloc, name, err),
+        Invocation::Help => show(HELP, out, err),
+        Invocation::ToReplay => replay(alloc, words, reader, out, err),
+        Invocation::HelpOfReplay => show_replay_help(alloc, out, err),
+        Invocation::Unknown => refuse_command(alloc, first_of(words), err),
+    }
+}
+
+// What the words ask for, by the first of them.
+fn invocation_of(words: &[&str]) -> Invocation
+    ensures { result ≡ invocation_of (map (λ s. s.now) words.now) }
+{
+    if words.is_empty() {
+        return Invocation::Nothing;
+    }
+    let name = words[0];
+    if name == "help" || is_help(name) {
+        return Invocation::Help;
+    }
+    if name == "replay" {
+        return replay_invocation(&words[1..]);
+    }
+    Invocation::Unknown
+}
+
+// The first word, if there is one.
+fn first_of<'a>(words: &[&'a str]) -> &'a str {
+    match words.first() {
+        Some(word) => word,
+        None => "",
+    }
+}
+
+// What `replay` is asked for by its options.
+fn replay_invocation(options: &[&str]) -> Invocation
+    ensures { result ≡ replay_invocation (map (λ s. s.now) options.now) }
+{
+    if asks_help(options) {
+        Invocation::HelpOfReplay
+    } else {
+        Invocation::ToReplay
     }
 }
 

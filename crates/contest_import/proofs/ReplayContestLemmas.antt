@@ -13,9 +13,9 @@ use Rattle.contest_types.specs.Sight.{judgement_of, type_of}
 use Rattle.contest_types.specs.declared.audience.Audience.{Audience}
 use Rattle.contest_types.specs.declared.marks.Marks.{Marks}
 use Rattle.contest_types.specs.declared.submission.Release.{Release}
-use Rattle.contest_score.specs.Contest.{judged_submissions, board_for}
+use Rattle.contest_score.specs.Contest.{judged_submissions, seen_board}
 use Rattle.contest_score.specs.MaskedCells.{cell_for}
-use Rattle.contest_score.specs.Ranking.{board_rows, is_public}
+use Rattle.contest_score.specs.Ranking.{board_of, is_public}
 use Rattle.contest_score.specs.declared.submission.JudgedSubmission.{JudgedSubmission}
 use Rattle.contest_import.specs.ReplayLists.{team_submissions}
 use Rattle.contest_import.specs.ReplayContest.{Numbered, numbered_after, released, releases_of, replay_contest}
@@ -125,5 +125,5 @@ replayed_judged s marks us =
 
 -- so its board is the one of the cells of those
 pub replayed_board : (who : Audience) (s : Setup) (marks : Marks) (now : ℕ) (us : List JudgedSubmission)
-    → board_for who now (replay_contest s marks us) ≡ board_rows s (is_public s) (cell_for who s marks now us)
-replayed_board who s marks now us = ap (λ vs. board_rows s (is_public s) (cell_for who s marks now vs)) (replayed_judged s marks us)
+    → seen_board who now (replay_contest s marks us) ≡ board_of s (is_public s) (cell_for who s marks now us)
+replayed_board who s marks now us = ap (λ vs. board_of s (is_public s) (cell_for who s marks now vs)) (replayed_judged s marks us)

@@ -6,7 +6,7 @@ use Rattle.std.specs.Cmp.{IsTotalOrder}
 use Rattle.std.specs.Ordering.{is_lt, ordering_reverse}
 use Rattle.std.specs.declared.cmp.Ordering.TheVariants.{Less, Equal, Greater}
 use Rattle.std.proofs.lemmas.Bool.{false≢true}
-use Rattle.std.proofs.lemmas.Cmp.{nat_cmp_total, then_total, on_total, back_total, tied_itself}
+use Rattle.std.proofs.lemmas.Cmp.{on_total, tied_itself}
 use Rattle.std.proofs.lemmas.List.{length-map}
 use Rattle.std.proofs.lemmas.List.FromFn.{length-range_with_len}
 use Rattle.std.proofs.lemmas.Map.Lookups.{exact_bytes}
@@ -21,12 +21,11 @@ use Rattle.contest_types.proofs.Rising.{rising}
 use Rattle.contest_types.proofs.SeenWhole.{has_team}
 use Rattle.contest_score.specs.declared.cell.Cell.{Cell}
 use Rattle.contest_score.specs.declared.row.Row.{Row}
-use Rattle.contest_score.specs.declared.score.Score.{Score}
-use Rattle.contest_score.specs.Ranking.{board_rows, shown_teams, row_cmp, row_of, rank_of, score_of_team, problem_cmp, problem_order, score_cmp, beats, last_minute}
+use Rattle.contest_score.specs.Ranking.{board_rows, shown_teams, row_cmp, row_of, rank_of, score_of_team, problem_cmp, problem_order, score_cmp, beats}
 use Rattle.contest_score.specs.BoardLaws.{teams_of, stands_above}
 use Rattle.contest_types.proofs.ProblemOrder.{problem_cmp_total, then_equal}
 use Rattle.contest_score.proofs.BoardOrder.{row_cmp_total, count_by_map}
-use Rattle.contest_score.proofs.Ranks.{place_tied}
+use Rattle.contest_score.proofs.Ranks.{place_tied, score_cmp_total}
 use Rattle.contest_score.proofs.SameElements.{other, weaker_order, mapped_order, same_count, same_length, place_within, places_apart, all_apart, differ, has_place}
 
 -- the teams of the rows, in the order of the board
@@ -125,9 +124,6 @@ ranks_count_the_better s shown cells v r h =
     let rank : r.rank ≡ rank_of s shown cells r.team = ap (λ (q : Row). q.rank) is in
     rank ∙ (ap (λ n. 1 + n) (counted_rows s v shown cells (λ (q : Row). beats q.score (score_of_team s cells r.team)))
     ∙ ap (λ z. 1 + count_by (λ (q : Row). beats q.score z) (board_rows s shown cells)) (sym score))
-
-score_cmp_total : IsTotalOrder score_cmp
-score_cmp_total = then_total (back_total (on_total (λ (a : Score). a.solved) nat_cmp_total)) (then_total (on_total (λ (a : Score). a.total) nat_cmp_total) (on_total last_minute nat_cmp_total))
 
 abbrev team_cmp : Setup → (ℕ → ℕ → Cell) → ℕ → ℕ → Ordering
 team_cmp s cells u w = score_cmp (score_of_team s cells u) (score_of_team s cells w)

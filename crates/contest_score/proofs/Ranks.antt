@@ -1,22 +1,29 @@
 -- Ranks along standings that are in order.
-use Rattle.std.proofs.Common.{◌≡◌, ℕ, suc, ◌+◌, ◌-◌, ◌<◌, Bool, true, false, cond, List, [], ◌∷◌, ◌++◌, length, take, get_or, refl, sym, ap, ◌∙◌, arith, Ordering, map}
+use Rattle.std.proofs.Common.{◌≡◌, ℕ, suc, ◌+◌, ◌-◌, ◌<◌, Bool, true, false, cond, if◌then◌else◌, List, [], ◌∷◌, ◌++◌, length, get_or, Some, refl, sym, ap, ◌∙◌, arith, Ordering, map, append_assoc, slice_get}
 use Rattle.std.specs.List.{count_by}
 use Rattle.std.specs.List.Sorted.{IsSorted}
 use Rattle.std.specs.Cmp.{IsTotalOrder}
 use Rattle.std.specs.Ordering.{is_lt, is_eq, ordering_reverse}
 use Rattle.std.specs.declared.cmp.Ordering.TheVariants.{Less, Equal, Greater}
-use Rattle.std.proofs.lemmas.List.{take_more, map-append, get_or_default}
+use Rattle.std.proofs.lemmas.List.{map-append, length-map, length-append, append-nil, get_or_default, get_or_append_left}
+use Rattle.std.proofs.lemmas.Option.{slice_get-map, slice_get-get_or}
+use Rattle.std.proofs.Math.Seq.{get_or-append_seam}
+use Rattle.std.specs.Option.{option_map}
 use Rattle.std.proofs.lemmas.List.Sums.{sum_by-cons}
 use Rattle.std.proofs.lemmas.Bool.{false≢true}
 use Rattle.std.proofs.lemmas.List.Sorted.{sorted_far, ranks_by}
 use Rattle.std.proofs.lemmas.Cmp.{nat_cmp_total, then_total, on_total, back_total, alike_right}
-use Rattle.contest_score.specs.declared.standings.Standing.{Standing}
-use Rattle.contest_score.specs.Keys.{standing_cmp, rank_in}
-use Rattle.contest_score.specs.Ranking.{place_in}
+use Rattle.contest_score.specs.declared.score.Score.{Score}
+use Rattle.contest_score.specs.declared.standing.Standing.{Standing}
+use Rattle.contest_score.specs.Keys.{by_score, rank_in, row_in, row_with, next_rank, ranked}
+use Rattle.contest_score.specs.Ranking.{place_in, score_cmp, last_minute}
 use Rattle.contest_types.proofs.InOrder.{count_front}
 
-pub standing_cmp_total : IsTotalOrder standing_cmp
-standing_cmp_total = then_total (back_total (on_total (λ (k : Standing). k.solved.0) nat_cmp_total)) (then_total (on_total (λ (k : Standing). k.total) nat_cmp_total) (on_total (λ (k : Standing). k.last) nat_cmp_total))
+pub score_cmp_total : IsTotalOrder score_cmp
+score_cmp_total = then_total (back_total (on_total (λ (a : Score). a.solved) nat_cmp_total)) (then_total (on_total (λ (a : Score). a.total) nat_cmp_total) (on_total last_minute nat_cmp_total))
+
+pub by_score_total : IsTotalOrder by_score
+by_score_total = on_total (λ (k : Standing). k.score) score_cmp_total
 
 -- tests that agree at each element count alike
 pub count_agree : {X : Type 0} (p q : X → Bool) (xs : List X) → ((i : ℕ) (d : X) → i < length xs → p (get_or xs i d) ≡ q (get_or xs i d)) → count_by p xs ≡ count_by q xs
@@ -62,36 +69,34 @@ place_first {X} {R} o ys up d l =
     (λ j e h m. let same : get_or ys j e ≡ get_or ys j d = get_or_default ys j e d m in
     rw same (sorted_far (λ x y. is_lt (R x y)) (ranks_by o (λ (v : X). v)) ys up 0 j d h m))
 
--- the ranks of the first i, and that of the last of them
-pub record Ranked (ys : List Standing) (i : ℕ) (ranks : List ℕ) (rank : ℕ) : Type 0 where
-  pub so_far : ranks ≡ map (rank_in ys) (take i ys)
-  pub current : (d : Standing) → 0 < i → rank ≡ rank_in ys (get_or ys (i - 1) d)
+-- of two neighbours that tie the ranks are one; else the second counts all before it
+rank_by : (ys : List Standing) → IsSorted by_score ys → (n : ℕ) (p k : Standing) → n + 1 < length ys → get_or ys n k ≡ p → get_or ys (n + 1) k ≡ k → (b : Bool) → is_eq (by_score p k) ≡ b → (if b then rank_in ys p else n + 1 + 1) ≡ rank_in ys k
+rank_by ys up n p k l before here true e = ap (λ m. 1 + m) (place_tied by_score_total ys p k (is_equal _ e))
+rank_by ys up n p k l before here false e =
+    let apart : is_eq (by_score (get_or ys (n + 1 - 1) k) (get_or ys (n + 1) k)) ≡ false = (let back : n + 1 - 1 ≡ n = omega arith in rw (here, back, before) e) in
+    let place : place_in by_score ys (get_or ys (n + 1) k) ≡ n + 1 = place_fresh by_score_total ys up (n + 1) k (omega arith) l apart in
+    omega (arith, rw here at place)
 
-some_standing : (ys : List Standing) (i : ℕ) → i < length ys → Standing
-some_standing [] i l = absurd (omega (arith, l))
-some_standing (y ∷ ys) i l = y
+-- below the rows of those before it, the rank of a standing is its rank among all
+rank_below_rows : (front back : List Standing) (k : Standing) → IsSorted by_score (front ++ k ∷ back) → next_rank (map (row_in (front ++ k ∷ back)) front) k.score ≡ rank_in (front ++ k ∷ back) k
+rank_below_rows [] back k up = ap (λ n. 1 + n) (sym (place_first by_score_total (k ∷ back) up k (omega arith)))
+rank_below_rows (y ∷ more) back k up =
+    let front : List Standing = y ∷ more in
+    let ys : List Standing = front ++ k ∷ back in
+    let n : ℕ = length more in
+    let p : Standing = get_or front n k in
+    let within : n < length front = omega arith in
+    let many : length (map (row_in ys) front) ≡ n + 1 = length-map front (row_in ys) ∙ (omega arith) in
+    let above : slice_get (map (row_in ys) front) n ≡ Some (row_in ys p) = slice_get-map (row_in ys) front n ∙ ap (option_map (row_in ys)) (slice_get-get_or front n k within) in
+    let before : get_or ys n k ≡ p = get_or_append_left front (k ∷ back) k n within in
+    let here : get_or ys (n + 1) k ≡ k = (let next : n + 1 ≡ length front = omega arith in rw next (get_or-append_seam front k back k)) in
+    let last : n + 1 - 1 ≡ n = omega arith in
+    rw (many, last, above) (rank_by ys up n p k (omega (arith, length-append front (k ∷ back))) before here _ refl)
 
-pub Ranked-more : (ys : List Standing) (i : ℕ) (ranks : List ℕ) (rank : ℕ) → Ranked ys i ranks rank → i < length ys → (next : ℕ) → ((d : Standing) → next ≡ rank_in ys (get_or ys i d)) → Ranked ys (i + 1) (ranks ++ next ∷ []) next
-Ranked-more ys i ranks rank r l next e =
-    let d : Standing = some_standing ys i l in
-    let here : next ≡ rank_in ys (get_or ys i d) = e d in
-    record {
-      so_far = rw (take_more ys i d l, map-append, r.so_far, here) refl;
-      current = λ f p. let at : (i + 1) - 1 ≡ i = omega arith in rw at (e f);
-    }
-
--- the rank at i, from the one before
-pub rank_first : (ys : List Standing) → IsSorted standing_cmp ys → (i : ℕ) (d : Standing) → i < length ys → i ≡ 0 → 1 ≡ rank_in ys (get_or ys i d)
-rank_first ys up i d l e = rw e (ap (λ n. 1 + n) (sym (place_first standing_cmp_total ys up d (omega arith))))
-
-pub rank_tied : (ys : List Standing) (i : ℕ) (e d : Standing) (rank : ℕ) → 0 < i → i < length ys → is_eq (standing_cmp (get_or ys (i - 1) e) (get_or ys i e)) ≡ true → rank ≡ rank_in ys (get_or ys (i - 1) d) → rank ≡ rank_in ys (get_or ys i d)
-rank_tied ys i e d rank p l tied h =
-    let fst : get_or ys (i - 1) d ≡ get_or ys (i - 1) e = get_or_default ys (i - 1) d e (omega arith) in
-    let snd : get_or ys i d ≡ get_or ys i e = get_or_default ys i d e l in
-    h ∙ (rw (fst, snd) (ap (λ n. 1 + n) (place_tied standing_cmp_total ys (get_or ys (i - 1) e) (get_or ys i e) (is_equal _ tied))))
-
-pub rank_fresh : (ys : List Standing) → IsSorted standing_cmp ys → (i : ℕ) (e d : Standing) → 0 < i → i < length ys → is_eq (standing_cmp (get_or ys (i - 1) e) (get_or ys i e)) ≡ false → i + 1 ≡ rank_in ys (get_or ys i d)
-rank_fresh ys up i e d p l apart =
-    let at : place_in standing_cmp ys (get_or ys i e) ≡ i = place_fresh standing_cmp_total ys up i e p l apart in
-    let same : get_or ys i d ≡ get_or ys i e = get_or_default ys i d e l in
-    rw (same, at) (omega arith)
+-- the rows of sorted standings have their ranks among all
+pub ranked_rows : (ys : List Standing) → IsSorted by_score ys → (front back : List Standing) → front ++ back ≡ ys → ranked (map (row_in ys) front) back ≡ map (row_in ys) ys
+ranked_rows ys up front [] e = ap (map (row_in ys)) (sym (append-nil front) ∙ e)
+ranked_rows ys up front (k ∷ back) e =
+    let rank : next_rank (map (row_in ys) front) k.score ≡ rank_in ys k = rw e at (rank_below_rows front back k (rw e up)) in
+    let next : map (row_in ys) front ++ row_with k (next_rank (map (row_in ys) front) k.score) ∷ [] ≡ map (row_in ys) (front ++ k ∷ []) = rw (rank, map-append) refl in
+    ap (λ rows. ranked rows back) next ∙ ranked_rows ys up (front ++ k ∷ []) back (append_assoc front (k ∷ []) back ∙ e)

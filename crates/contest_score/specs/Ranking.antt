@@ -1,8 +1,7 @@
 -- Ranks and the board (Contest Control System Requirements, "Scoring": most solved, least time,
 -- earliest last accepted, shared ranks). Teams and problems go by their places in the settings'
 -- lists, from 0. The shown teams are any set of them: those that aren't hidden, or some of these.
-use Rattle.std.specs.Prelude.{ℕ, ◌+◌, Bool, List, [], ◌∷◌, length, map, filter, count_by, slice_get}
-use Rattle.std.specs.List.{range_with_len}
+use Rattle.std.specs.Prelude.{ℕ, ◌+◌, Bool, List, [], ◌∷◌, map, filter, count_by}
 use Rattle.std.specs.Option.{option_map_or}
 use Rattle.std.specs.Ordering.{is_lt}
 use Rattle.std.specs.declared.cmp.Ordering.{Ordering}
@@ -52,3 +51,12 @@ row_of s is_shown cells u = record { team = u; rank = rank_of s is_shown cells u
 -- the rows of the board of the shown teams over these cells
 abbrev pub board_rows : Setup → (ℕ → Bool) → (ℕ → ℕ → Cell) → List Row
 board_rows s is_shown cells = map (row_of s is_shown cells) (in_order (row_cmp s is_shown cells) (shown_teams s is_shown))
+
+-- a board: the problems in the order of its columns, by their places, and a row for each shown team
+pub record Scoreboard : Type 0 where
+  pub columns : List ℕ
+  pub rows : List Row
+
+-- the board of the shown teams over these cells
+abbrev pub board_of : Setup → (ℕ → Bool) → (ℕ → ℕ → Cell) → Scoreboard
+board_of s is_shown cells = record { columns = problem_order s; rows = board_rows s is_shown cells }

@@ -2,7 +2,7 @@
 ghost use Rattle.std.specs.Prelude.{◌≡◌, IfOk, IfErr};
 ghost use Rattle.contest_score.specs.Awards.{awards_of};
 
-use crate::award_list::Awards;
+use crate::award_list::{Awards, add};
 use crate::first_solves::add_first_to_solve;
 use crate::group_awards::add_group_winners;
 use crate::ranked_awards::{add_medals, winner};
@@ -17,11 +17,11 @@ fn all_awards(
     board: &Board,
     solves: &[Solve],
 ) -> Result<Awards, AllocError>
-    ensures { IfOk result (λ w. w ≡ awards_of settings.now board.now solves.now) }
+    ensures { IfOk result (λ w. w ≡ awards_of settings.now board.now.rows solves.now) }
 {
     let rows = board.rows();
     let mut awards = Awards::new(alloc);
-    awards.add(winner(alloc, rows)?)?;
+    add(&mut awards, winner(alloc, rows)?)?;
     add_medals(alloc, settings, rows, &mut awards)?;
     add_first_to_solve(alloc, settings, rows, solves, &mut awards)?;
     add_group_winners(alloc, settings, rows, &mut awards)?;
@@ -51,7 +51,7 @@ pub fn awards(
     board: &Board,
     solves: &[Solve],
 ) -> Result<Awards, Refusal>
-    ensures awards { IfOk result (λ w. w ≡ awards_of settings.now board.now solves.now) }
+    ensures awards { IfOk result (λ w. w ≡ awards_of settings.now board.now.rows solves.now) }
     ensures err { IfErr result (λ e. e ≡ Refusal.Memory) }
 {
     let awards = all_awards(alloc, settings, board, solves)?;

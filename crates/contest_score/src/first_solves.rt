@@ -7,7 +7,7 @@ ghost use Rattle.contest_score.specs.Awards.{award_to, first_solves, first_to_so
 ghost use Rattle.contest_score.specs.AwardSteps.{has_solve, with_solve};
 
 use crate::award::{Award, AwardText};
-use crate::award_list::Awards;
+use crate::award_list::{Awards, add};
 use crate::criterion::{Criterion, award_to};
 use crate::row::Row;
 use crate::solve::Solve;
@@ -102,7 +102,10 @@ pub fn add_first_to_solve(
     let firsts = first_solves(alloc, problems.len(), solves)?;
     for place in &order {
         let firsts = firsts[*place].as_slice();
-        awards.add(first_to_solve(alloc, &problems[*place], firsts, rows)?)?;
+        add(
+            awards,
+            first_to_solve(alloc, &problems[*place], firsts, rows)?,
+        )?;
     }
     Ok(())
 }

@@ -7,7 +7,7 @@ ghost use Rattle.contest_score.specs.AwardSteps.{is_within, lesser};
 ghost use Rattle.contest_score.specs.Keys.{TellsGroup};
 
 use crate::award::{Award, AwardText};
-use crate::award_list::Awards;
+use crate::award_list::{Awards, add};
 use crate::criterion::{Criterion, award_to};
 use crate::row::Row;
 use contest_types::{Group, Settings};
@@ -153,7 +153,7 @@ pub fn add_group_winners(
 {
     let order = group_order(alloc, settings)?;
     for place in &order {
-        awards.add(group_winner(alloc, settings, rows, *place)?)?;
+        add(awards, group_winner(alloc, settings, rows, *place)?)?;
     }
     Ok(())
 }

@@ -23,7 +23,7 @@ mod scoreboard;
 pub mod scoring_laws;
 mod shown;
 mod solve;
-mod standings;
+mod standing;
 mod submission;
 mod table;
 

@@ -4,7 +4,7 @@ ghost use Rattle.contest_types.specs.declared.limits.TheConstants.{MEDAL_PLACES}
 ghost use Rattle.contest_score.specs.Awards.{award_to, listed, medals, ranks_after, winner};
 
 use crate::award::{Award, AwardText};
-use crate::award_list::Awards;
+use crate::award_list::{Awards, add};
 use crate::criterion::{Criterion, award_to};
 use crate::row::Row;
 use contest_types::{Medals, Settings};
@@ -92,7 +92,16 @@ pub fn add_medals(
         before: places.gold + places.silver,
         count: places.bronze,
     };
-    awards.add(medal(alloc, "gold-medal", "Gold medal", gold, rows)?)?;
-    awards.add(medal(alloc, "silver-medal", "Silver medal", silver, rows)?)?;
-    awards.add(medal(alloc, "bronze-medal", "Bronze medal", bronze, rows)?)
+    add(
+        awards,
+        medal(alloc, "gold-medal", "Gold medal", gold, rows)?,
+    )?;
+    add(
+        awards,
+        medal(alloc, "silver-medal", "Silver medal", silver, rows)?,
+    )?;
+    add(
+        awards,
+        medal(alloc, "bronze-medal", "Bronze medal", bronze, rows)?,
+    )
 }

@@ -11,7 +11,7 @@ use Rattle.contest_types.specs.declared.audience.Audience.TheVariants as audienc
 use Rattle.contest_types.specs.declared.audience.Phase.{Phase}
 use Rattle.contest_types.specs.declared.audience.Phase.TheVariants as phase
 use Rattle.contest_types.specs.declared.marks.Marks.{Marks}
-use Rattle.contest_score.specs.Ranking.{name_at, team_id_at, problem_order}
+use Rattle.contest_score.specs.Ranking.{Scoreboard, name_at, team_id_at}
 use Rattle.contest_score.specs.declared.row.Row.{Row}
 use Rattle.contest_text.specs.Padding.{columns_of, left, right}
 use Rattle.contest_text.specs.CellText.{cell_text}
@@ -67,10 +67,10 @@ right_field columns text = codes "  " ++ right columns text
 abbrev pub front : ℕ → (rank team solved time : List ℕ) → List ℕ
 front width rank team solved time = right 4 rank ++ left_field width team ++ right_field 6 solved ++ right_field 6 time
 
--- the heading: the fields' names, and the labels of the problems in their order
+-- the heading: the fields' names, and the labels of the columns' problems
 abbrev pub heading_line : Setup → ℕ → List ℕ → List ℕ
-heading_line s width order =
-    front width (codes "Rank") (codes "Team") (codes "Solved") (codes "Time") ++ flat_map (λ p. right_field 9 (label_at s p)) order ++ codes "\n"
+heading_line s width columns =
+    front width (codes "Rank") (codes "Team") (codes "Solved") (codes "Time") ++ flat_map (λ p. right_field 9 (label_at s p)) columns ++ codes "\n"
 
 -- one line for each row: a team's rank, name, problems solved, total time and cells
 abbrev pub row_line : Setup → ℕ → Row → List ℕ
@@ -78,6 +78,6 @@ row_line s width r =
     front width (decimal r.rank) (name_at s r.team) (decimal r.score.solved) (decimal r.score.total) ++ flat_map (λ c. right_field 9 (cell_text c)) r.cells ++ codes "\n"
 
 -- the whole text
-abbrev pub board_text : Setup → Marks → ℕ → Audience → List Row → List ℕ
-board_text s marks now who rows =
-    s.head.name ++ codes "\n" ++ title_line s marks now who ++ heading_line s (name_width s rows) (problem_order s) ++ flat_map (row_line s (name_width s rows)) rows
+abbrev pub board_text : Setup → Marks → ℕ → Audience → Scoreboard → List ℕ
+board_text s marks now who b =
+    s.head.name ++ codes "\n" ++ title_line s marks now who ++ heading_line s (name_width s b.rows) b.columns ++ flat_map (row_line s (name_width s b.rows)) b.rows

@@ -12,7 +12,7 @@ use crate::padding::{push_left, push_right};
 use contest_score::{Board, Cell, Row};
 use contest_types::{
     Audience, Marks, Moment, Phase, Refusal, RelTime, Settings, freeze_of, is_finalized,
-    is_freezing, is_thawed, phase, print_reltime, problem_order,
+    is_freezing, is_thawed, phase, print_reltime,
 };
 use std::alloc::{AllocError, Global};
 use unicode_width::UnicodeWidthStr;
@@ -21,7 +21,7 @@ use unicode_width::UnicodeWidthStr;
 const CELL_COLUMNS: usize = 9;
 
 /// The text of a board of these settings for a caller at a moment: the contest's name, a title line,
-/// the heading, and a line for each row.
+/// the heading with the labels of the board's columns, and a line for each of its rows.
 ///
 /// # Errors
 ///
@@ -42,8 +42,7 @@ pub fn board_text(
     out.push_str("\n")?;
     push_title(&mut out, settings, marks, now, audience)?;
     let width = name_width(settings, board.rows());
-    let order = problem_order(alloc, settings)?;
-    push_heading(&mut out, settings, width, &order)?;
+    push_heading(&mut out, settings, width, board.columns())?;
     push_rows(alloc, &mut out, settings, width, board.rows())?;
     Ok(out)
 }
@@ -193,19 +192,19 @@ fn push_heading(
     out: &mut String,
     settings: &Settings,
     width: usize,
-    order: &[usize],
+    columns: &[usize],
 ) -> Result<(), AllocError>
-    ensures { OnOk result (string_bytes out.new ≡ string_bytes out.old ++ heading_line settings.now width order.now) }
+    ensures { OnOk result (string_bytes out.new ≡ string_bytes out.old ++ heading_line settings.now width columns.now) }
 {
     push_front(out, width, "Rank", "Team", "Solved", "Time")?;
-    push_labels(out, settings, order)?;
+    push_labels(out, settings, columns)?;
     out.push_str("\n")
 }
 
-fn push_labels(out: &mut String, settings: &Settings, order: &[usize]) -> Result<(), AllocError>
-    ensures { OnOk result (string_bytes out.new ≡ string_bytes out.old ++ flat_map (λ p. right_field 9 (label_at settings.now p)) order.now) }
+fn push_labels(out: &mut String, settings: &Settings, columns: &[usize]) -> Result<(), AllocError>
+    ensures { OnOk result (string_bytes out.new ≡ string_bytes out.old ++ flat_map (λ p. right_field 9 (label_at settings.now p)) columns.now) }
 {
-    for place in order {
+    for place in columns {
         push_field(out, CELL_COLUMNS, settings.problem_label(*place))?;
     }
     Ok(())

@@ -1,7 +1,7 @@
-use Rattle.contest_score.specs.declared.standings.Standing.{Standing}
+use Rattle.contest_score.specs.declared.standing.Standing.{Standing}
 use Rattle.contest_score.specs.Keys.{TellsTeam}
 use Rattle.contest_types.proofs.Placed.{Placed}
-use Rattle.contest_score.proofs.standings.standings.Given as goal
+use Rattle.contest_score.proofs.standing.standings.Given as goal
 
 -- a standing for each shown team so far
 abbrev pub invariant-loop-place : goal.invariant-loop-place

@@ -1,8 +1,8 @@
-use Rattle.contest_score.specs.declared.standings.Standing.{Standing}
+use Rattle.contest_score.specs.declared.standing.Standing.{Standing}
 use Rattle.contest_score.specs.Keys.{TellsTeam}
 use Rattle.contest_types.proofs.Placed.{Placed-more, Placed-past}
-use Rattle.contest_score.proofs.standings.standings.Goals as goal
-use Rattle.contest_score.proofs.standings.standings.Goals.{then-is_shown+in_ok-standing_of+in_ok-push, else-is_shown}
+use Rattle.contest_score.proofs.standing.standings.Goals as goal
+use Rattle.contest_score.proofs.standing.standings.Goals.{then-is_shown+in_ok-standing_of+in_ok-push, else-is_shown}
 
 pub loop-place-preserved : goal.loop-place-preserved
 loop-place-preserved g c =

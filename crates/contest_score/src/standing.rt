@@ -1,12 +1,12 @@
-//! How the shown teams stand, and their ranks.
-ghost use Rattle.std.specs.Prelude.{◌≡◌, ◌+◌, ◌-◌, ◌<◌, ◌≤◌, length, IfOk, map, All, slice_get, slice_index_or};
-ghost use Rattle.std.specs.List.Sorted.{IsSorted};
+//! How the shown teams stand.
+ghost use Rattle.std.specs.Prelude.{◌≡◌, ◌≤◌, length, IfOk, map, All, slice_get};
+ghost use Rattle.std.specs.List.Sorted.{IsPermutation, IsSorted};
 ghost use Rattle.std.specs.Ordering.{is_eq};
 ghost use Rattle.contest_types.specs.Setup.{IsValid};
-ghost use Rattle.contest_types.specs.declared.limits.TheConstants.{PROBLEMS, PENALTY_MINUTES, TEAMS};
+ghost use Rattle.contest_types.specs.declared.limits.TheConstants.{PROBLEMS, PENALTY_MINUTES};
 ghost use Rattle.contest_score.specs.Scoring.{score_of_cells};
-ghost use Rattle.contest_score.specs.Ranking.{problem_order, shown_teams, last_minute};
-ghost use Rattle.contest_score.specs.Keys.{TellsTeam, standing_cmp, rank_in};
+ghost use Rattle.contest_score.specs.Ranking.{problem_order, shown_teams, last_minute, score_cmp};
+ghost use Rattle.contest_score.specs.Keys.{TellsTeam, standing_cmp};
 
 use crate::cells::Cells;
 use crate::row::CellRow;
@@ -14,22 +14,20 @@ use crate::score::{Score, score_of};
 use crate::shown::Shown;
 use contest_types::{Settings, Team};
 use std::alloc::{AllocError, Global};
-use std::cmp::Reverse;
+use std::cmp::Ordering;
 
-/// What a team is ordered by: its score, and then its name and id. The place comes last and decides
-/// nothing, since ids differ.
-#[derive(PartialEq, Eq, PartialOrd, Ord, Drop)]
+/// A shown team's cells and score, and what decides between equal scores: its name, and then its id.
+#[derive(Drop)]
 pub struct Standing<'a> {
-    pub solved: Reverse<u32>,
-    pub total: u64,
-    pub last: u32,
+    pub place: usize,
+    pub score: Score,
+    pub cells: CellRow,
     pub name: &'a str,
     pub id: &'a str,
-    pub place: usize,
 }
 
 /// A team's cells, of the problems in this order.
-pub fn cells_of_team<C: Cells>(
+fn cells_of_team<C: Cells>(
     alloc: Global,
     cells: &C,
     order: &[usize],
@@ -53,20 +51,11 @@ fn penalty_time(settings: &Settings) -> u32
 }
 
 /// How a team with these cells stands.
-pub fn score_of_row(settings: &Settings, row: &CellRow) -> Score
+fn score_of_row(settings: &Settings, row: &CellRow) -> Score
     requires { length row.now ≤ PROBLEMS }
     ensures { result ≡ score_of_cells settings.now.head.penalty_time row.now }
 {
     score_of(penalty_time(settings), row.as_slice())
-}
-
-fn last_of(score: Score) -> u32
-    ensures { result ≡ last_minute score }
-{
-    match score.last {
-        None => 0,
-        Some(minute) => minute.0,
-    }
 }
 
 /// The standing of the team at a place.
@@ -85,14 +74,12 @@ fn standing_of<'a, C: Cells>(
     ensures told { IfOk result (TellsTeam settings.now (C.cells cells.now)) }
 {
     let row = cells_of_team(alloc, cells, order, place)?;
-    let score = score_of_row(settings, &row);
     Ok(Standing {
-        solved: Reverse(score.solved),
-        total: score.total,
-        last: last_of(score),
+        place,
+        score: score_of_row(settings, &row),
+        cells: row,
         name: team.name.as_str(),
         id: team.id.as_str(),
-        place,
     })
 }
 
@@ -119,41 +106,46 @@ pub fn standings<'a, C: Cells, S: Shown>(
     Ok(standings)
 }
 
-fn ties(a: &Standing, b: &Standing) -> bool
-    ensures { result ≡ is_eq (standing_cmp a.now b.now) }
+fn last_of(score: Score) -> u32
+    ensures { result ≡ last_minute score }
 {
-    a.solved == b.solved && a.total == b.total && a.last == b.last
-}
-
-/// The rank at a place, of standings in order, from the one before.
-fn next_rank(standings: &[Standing], i: usize, previous: u32) -> u32
-    requires few { length standings.now ≤ TEAMS }
-    requires sorted { IsSorted standing_cmp standings.now }
-    requires there { i < length standings.now }
-    requires previous { (d : _) → 0 < i → previous ≡ rank_in standings.now (slice_index_or standings.now (i - 1) d) }
-    ensures { (d : _) → result ≡ rank_in standings.now (slice_index_or standings.now i d) }
-{
-    if i == 0 {
-        return 1;
-    }
-    if ties(&standings[i - 1], &standings[i]) {
-        previous
-    } else {
-        i as u32 + 1
+    match score.last {
+        None => 0,
+        Some(minute) => minute.0,
     }
 }
 
-/// One more than the standings that are better, for each. The standings are in order.
-pub fn ranks(alloc: Global, standings: &[Standing]) -> Result<Vec<u32>, AllocError>
-    requires few { length standings.now ≤ TEAMS }
-    requires sorted { IsSorted standing_cmp standings.now }
-    ensures { IfOk result (λ v. v.items ≡ map (rank_in standings.now) standings.now) }
+/// The better of two scores is less.
+fn compare_scores(a: Score, b: Score) -> Ordering
+    ensures { result ≡ score_cmp a b }
 {
-    let mut ranks = Vec::new(alloc);
-    let mut rank: u32 = 0;
-    for i in 0..standings.len() {
-        rank = next_rank(standings, i, rank);
-        ranks.push(rank)?;
+    let solved = b.solved.cmp(&a.solved);
+    let last = last_of(a).cmp(&last_of(b));
+    solved.then(a.total.cmp(&b.total).then(last))
+}
+
+/// Whether two scores share a rank.
+pub fn ties(a: Score, b: Score) -> bool
+    ensures { result ≡ is_eq (score_cmp a b) }
+{
+    compare_scores(a, b).is_eq()
+}
+
+/// The standing that stands first on the board is less.
+fn compare(a: &Standing, b: &Standing) -> Ordering
+    ensures { result ≡ standing_cmp a.now b.now }
+{
+    match compare_scores(a.score, b.score) {
+        Ordering::Equal => a.name.cmp(b.name).then(a.id.cmp(b.id)),
+        Ordering::Less => Ordering::Less,
+        Ordering::Greater => Ordering::Greater,
     }
-    Ok(ranks)
+}
+
+/// Sorts standings: the first on the board stands first.
+pub fn sort(standings: &mut Vec<Standing>)
+    ensures permutation { IsPermutation standings.old.items standings.new.items }
+    ensures sorted { IsSorted standing_cmp standings.new.items }
+{
+    standings.sort_unstable_by(|a, b| compare(a, b));
 }
