@@ -185,18 +185,15 @@ impl ReplayBuilder {
         ensures err { IfErr result (λ e. IsFaultOf e (submission_addition self.old refs time)) }
     {
         let so_far = self.teams[refs.team];
-        if so_far.count >= limits::TEAM_SUBMISSIONS {
+        if so_far.is_full() {
             return Err(RowFault::Fault(Cause::TableFull));
         }
         let Some(time) = time_within(time, self.settings.head().duration) else {
             return Err(RowFault::Fault(Cause::NotOpen));
         };
-        let time = time.max(so_far.last);
-        self.submissions.push(refs.submission(time))?;
-        self.teams[refs.team] = TeamProgress {
-            last: time,
-            count: so_far.count + 1,
-        };
+        let grown = so_far.with_one_more(time);
+        self.submissions.push(refs.submission(grown.last))?;
+        self.teams[refs.team] = grown;
         Ok(())
     }
 }
