@@ -7,6 +7,45 @@ ghost use Rattle.contest_types.specs.TeamPlaces.{is_public};
 
 use crate::{Audience, Marks, Moment, Settings, Submission, is_frozen, is_thawed};
 
+/// Whether the team at a place, from 0, isn't hidden. It takes no memory.
+pub fn is_public(settings: &Settings, team: usize) -> bool
+    ensures { result ≡ is_public settings.now team }
+{
+    match settings.teams().get(team) {
+        Some(team) => !team.hidden,
+        None => false,
+    }
+}
+
+/// Whether a caller always sees all of what belongs to the team at a place, from 0: the jury and the
+/// team itself do. It takes no memory.
+pub fn knows_all_of(audience: Audience, team: usize) -> bool
+    ensures { result ≡ knows_all_of audience team }
+{
+    match audience {
+        Audience::Public => false,
+        // Numbers of teams count from 1.
+        Audience::Team(number) => number > team && number - 1 == team,
+        Audience::Jury => true,
+    }
+}
+
+/// Whether a caller sees the submissions of the team at a place, from 0. It takes no memory.
+pub fn sees_team(audience: Audience, settings: &Settings, team: usize) -> bool
+    ensures { result ≡ sees_team audience settings.now team }
+{
+    knows_all_of(audience, team) || is_public(settings, team)
+}
+
+/// Whether a caller sees a team's submissions: the jury sees all, a team its own, and anyone those
+/// of a team that isn't hidden (own: the Contest API 2023-06 takes a hidden team off the scoreboard,
+/// and says no more). It takes no memory.
+pub fn sees_submission(audience: Audience, settings: &Settings, submission: &Submission) -> bool
+    ensures { (x : ContestState) → x.fixed.settings ≡ settings.now → result ≡ sees_submission audience x submission.now }
+{
+    sees_team(audience, settings, submission.team)
+}
+
 /// Which of a team's verdicts are seen.
 #[derive(Clone, Copy, PartialEq, Eq)]
 pub enum Mask {
@@ -26,19 +65,6 @@ pub fn mask_for(audience: Audience, marks: &Marks, now: Moment, team: usize) -> 
         Mask::Full
     } else {
         Mask::Held
-    }
-}
-
-/// Whether a caller always sees all of what belongs to the team at a place, from 0: the jury and the
-/// team itself do. It takes no memory.
-pub fn knows_all_of(audience: Audience, team: usize) -> bool
-    ensures { result ≡ knows_all_of audience team }
-{
-    match audience {
-        Audience::Public => false,
-        // Numbers of teams count from 1.
-        Audience::Team(number) => number > team && number - 1 == team,
-        Audience::Jury => true,
     }
 }
 
@@ -64,32 +90,6 @@ pub fn verdict_under(
             }
         }
     }
-}
-
-/// Whether the team at a place, from 0, isn't hidden. It takes no memory.
-pub fn is_public(settings: &Settings, team: usize) -> bool
-    ensures { result ≡ is_public settings.now team }
-{
-    match settings.teams().get(team) {
-        Some(team) => !team.hidden,
-        None => false,
-    }
-}
-
-/// Whether a caller sees the submissions of the team at a place, from 0. It takes no memory.
-pub fn sees_team(audience: Audience, settings: &Settings, team: usize) -> bool
-    ensures { result ≡ sees_team audience settings.now team }
-{
-    knows_all_of(audience, team) || is_public(settings, team)
-}
-
-/// Whether a caller sees a team's submissions: the jury sees all, a team its own, and anyone those
-/// of a team that isn't hidden (own: the Contest API 2023-06 takes a hidden team off the scoreboard,
-/// and says no more). It takes no memory.
-pub fn sees_submission(audience: Audience, settings: &Settings, submission: &Submission) -> bool
-    ensures { (x : ContestState) → x.fixed.settings ≡ settings.now → result ≡ sees_submission audience x submission.now }
-{
-    sees_team(audience, settings, submission.team)
 }
 
 /// The verdict that a caller sees now on a submission, of the one that was released last: the place
