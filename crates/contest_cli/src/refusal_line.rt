@@ -16,11 +16,12 @@ const LINE: usize = 160;
 pub(crate) fn refusal_line(refusal: Refusal) -> ArrayString<LINE>
     ensures { result.bytes ≡ refusal_line refusal }
 {
+    let row = refusal.row();
     let mut line = ArrayString::new();
     line.push_str("refused: E");
-    push_number(&mut line, refusal.number());
+    push_number(&mut line, row.number);
     line.push_str(" ");
-    line.push_str(refusal.name());
+    line.push_str(row.name);
     push_detail(&mut line, refusal);
     line.push_str("\n");
     line

@@ -2,19 +2,12 @@
 ghost use Rattle.contest_types.specs.Laws.{IsAlikeToItself, IsAlikeBothWays, IsAlikeOnward, AlikeShowTheSame, AlikeTellTheSame, SeenIsListed, SeenIsInOrder, OneListIsSeen, HeardIsListed, OneListIsHeard, OneOrder, SettingsAreTested, AddingKeepsValid, ImportedIsAddable};
 ghost use Rattle.contest_types.specs.Sight.{SeenSubmission, SeenClarification};
 
-/// A contest is alike to itself.
-pub fn alike_itself()
-    ensures { IsAlikeToItself }
-{}
-
-/// It doesn't matter which of two alike contests is named first.
-pub fn alike_both_ways()
-    ensures { IsAlikeBothWays }
-{}
-
-/// What is alike to a contest that is alike to a third is alike to the third.
-pub fn alike_onward()
-    ensures { IsAlikeOnward }
+/// A contest is alike to itself; it doesn't matter which of two alike contests is named first; and what
+/// is alike to a contest that is alike to a third is alike to the third.
+pub fn alike_is_an_equivalence()
+    ensures itself { IsAlikeToItself }
+    ensures both_ways { IsAlikeBothWays }
+    ensures onward { IsAlikeOnward }
 {}
 
 /// Until the thaw, contests that are alike for an audience show it the same submissions, with the
@@ -56,14 +49,11 @@ pub fn one_list_is_heard()
     ensures { OneListIsHeard }
 {}
 
-/// Two lists of submissions in strict order with the same elements are one list.
-pub fn one_order_of_submissions()
-    ensures { OneOrder SeenSubmission }
-{}
-
-/// Two lists of clarifications in strict order with the same elements are one list.
-pub fn one_order_of_clarifications()
-    ensures { OneOrder SeenClarification }
+/// Two lists of submissions in strict order with the same elements are one list, and so are two lists
+/// of clarifications.
+pub fn one_order()
+    ensures submissions { OneOrder SeenSubmission }
+    ensures clarifications { OneOrder SeenClarification }
 {}
 
 /// The test of a valid contest's settings is what the type `Settings` always meets.

@@ -148,28 +148,6 @@ impl Refusal {
             Refusal::Memory => row!(25, "Memory", 503),
         }
     }
-
-    /// Its number, from 1 to 25.
-    pub fn number(self) -> u8
-        ensures { result ≡ number_of self }
-    {
-        self.row().number
-    }
-
-    /// Its name, one word of at most 19 bytes.
-    pub fn name(self) -> &'static str
-        ensures name { result.now ≡ refusal_name self }
-        ensures short { length result.now ≤ 19 }
-    {
-        self.row().name
-    }
-
-    /// The HTTP status that it is answered with (RFC 9110, section 15).
-    pub fn status(self) -> u16
-        ensures { result ≡ status_of self }
-    {
-        self.row().status
-    }
 }
 
 impl Cause {

@@ -2,30 +2,19 @@
 //! and whose contracts say what holds of every contest.
 ghost use Rattle.contest_types.specs.SightLaws.{RolesSeeNoLess, RolesHearNoLess, RolesKeepVerdicts, ThawOnlyAdds, ThawingOnlyAdds, MomentChangesVerdictsOnly, ThawedSeeAsJury, JurySeesLast, SeenVerdictIsOneOfTwo, JudgingShowsNothing, OnlyTheseShowSubmissions, OnlyTheseShowClarifications, TeamAndJuryKnowAll, ProgramIsForItsTeam, ListedProgramIsForItsTeam, AskedIsHeardByItsTeam, SubmissionsStandByTime, SeenJudgementsAreListed, AlikeShowTheSameJudgements};
 
-/// Nobody loses sight of a submission by a role: what the public sees every team sees, and what a team
-/// sees the jury sees.
+/// Nobody loses sight of a submission, of a verdict or of a clarification by a role: what the public
+/// sees and hears every team does, and what a team does the jury does.
 pub fn roles_see_no_less()
-    ensures { RolesSeeNoLess }
+    ensures submissions { RolesSeeNoLess }
+    ensures clarifications { RolesHearNoLess }
+    ensures verdicts { RolesKeepVerdicts }
 {}
 
-/// Nor of a clarification.
-pub fn roles_hear_no_less()
-    ensures { RolesHearNoLess }
-{}
-
-/// Nor of a verdict.
-pub fn roles_keep_verdicts()
-    ensures { RolesKeepVerdicts }
-{}
-
-/// A thaw only adds: a verdict that was seen at any moment is seen once it is thawed.
+/// A thaw only adds: a verdict that was seen at any moment is seen once it is thawed, and so it is from
+/// the moment on that a thaw is set to.
 pub fn thaw_only_adds()
-    ensures { ThawOnlyAdds }
-{}
-
-/// Nor does setting the thaw take a verdict away, from the moment on that it is set to.
-pub fn thawing_only_adds()
-    ensures { ThawingOnlyAdds }
+    ensures thawed { ThawOnlyAdds }
+    ensures set { ThawingOnlyAdds }
 {}
 
 /// But for the verdicts, what an audience sees of submissions is the same at any moment.
@@ -74,15 +63,11 @@ pub fn team_and_jury_know_all()
     ensures { TeamAndJuryKnowAll }
 {}
 
-/// A program is shown to those who know all of its team, at any moment, thawed or not.
+/// A program is shown to those who know all of its team, at any moment, thawed or not; and of what is
+/// listed for an audience, just the submissions of such teams have a program.
 pub fn program_is_for_its_team()
-    ensures { ProgramIsForItsTeam }
-{}
-
-/// Of what is listed for an audience, just the submissions of teams of which it knows all have a
-/// program.
-pub fn listed_program_is_for_its_team()
-    ensures { ListedProgramIsForItsTeam }
+    ensures shown { ProgramIsForItsTeam }
+    ensures listed { ListedProgramIsForItsTeam }
 {}
 
 /// What a team asks, and what the jury answers it, those hear who know all of the team.

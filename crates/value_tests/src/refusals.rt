@@ -17,8 +17,8 @@ static REFUSALS: [(Refusal, u8, &str, u16); 4] = [
 #[test]
 fn refusals_are_told_apart(rt: HostRuntime) {
     for (refusal, number, name, status) in &REFUSALS {
-        let told = (refusal.number(), refusal.name(), refusal.status());
-        assert_eq!(rt; told, (*number, *name, *status));
+        let row = refusal.row();
+        assert_eq!(rt; (row.number, row.name, row.status), (*number, *name, *status));
     }
     assert_eq!(rt; Cause::TableFull.name(), "TableFull");
 }
