@@ -1,7 +1,7 @@
 //! A team submits.
 ghost use Rattle.std.specs.Prelude.{◌≡◌, ◌<◌, IfSome, Some, length};
 ghost use Rattle.std.specs.List.{position};
-ghost use Rattle.contest_rules.specs.Submitting.{asks_the_same, has_key, lacks_entry_point, later, place_of_key, submit, submit_to, takes_submissions, time_after};
+ghost use Rattle.contest_rules.specs.Submitting.{asks_the_same, fresh, has_key, lacks_entry_point, later, place_of_key, submit, submit_to, takes_submissions, time_after};
 
 use crate::Decision;
 use contest_types::limits::TEAM_SUBMISSIONS;
@@ -69,6 +69,21 @@ fn submit_to(
         }
         return Decision::Refused(Refusal::KeyReused);
     }
+    fresh(fixed, own, now, team, problem, language, wanted)
+}
+
+// What no standing key answers for: the clock is asked, and then how many the team has.
+fn fresh(
+    fixed: &Fixed,
+    own: &[Submission],
+    now: Moment,
+    team: usize,
+    problem: usize,
+    language: usize,
+    wanted: WantedSubmission,
+) -> Decision<Submission>
+    ensures { result ≡ fresh fixed.now now team own.now problem language wanted }
+{
     if !takes_submissions(fixed, now) {
         return Decision::Refused(Refusal::NotOpen);
     }
