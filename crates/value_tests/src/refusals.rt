@@ -18,7 +18,10 @@ static REFUSALS: [(Refusal, u8, &str, u16); 4] = [
 fn refusals_are_told_apart(rt: HostRuntime) {
     for (refusal, number, name, status) in &REFUSALS {
         let row = refusal.row();
-        assert_eq!(rt; (row.number, row.name, row.status), (*number, *name, *status));
+        assert_eq!(rt;
+            (row.number, row.name, row.status),
+            (*number, *name, *status)
+        );
     }
     assert_eq!(rt; Cause::TableFull.name(), "TableFull");
 }
