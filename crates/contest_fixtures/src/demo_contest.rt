@@ -10,15 +10,14 @@ use std::test::Fail;
 /// 2024-03-02T09:00:00Z.
 const START: u64 = 1_709_370_000_000;
 
-/// Four places of each kind.
-pub const MEDALS: Medals = Medals {
+const MEDALS: Medals = Medals {
     gold: 4,
     silver: 4,
     bronze: 4,
 };
 
 /// Five hours, the last of them frozen, with twenty minutes for a penalty.
-pub fn demo_head(alloc: Global, medals: Medals) -> Result<ContestHead, Fail> {
+fn demo_head(alloc: Global, medals: Medals) -> Result<ContestHead, Fail> {
     Ok(ContestHead {
         id: id(alloc, "demo")?,
         name: name(alloc, "Demo Cup")?,
@@ -64,12 +63,17 @@ fn marks() -> Result<Marks, Fail> {
 }
 
 /// The demo contest with these rows and accounts, where nothing stands yet.
-pub fn demo(alloc: Global, rows: &[SettingRow], accounts: Rows<Account>) -> Result<Fixed, Fail> {
+pub fn demo(
+    alloc: Global,
+    rows: &[SettingRow],
+    accounts: Rows<Account>,
+) -> Result<Rc<Fixed>, Fail> {
     let marks = marks()?;
     let settings = settings_of(alloc, MEDALS, rows)?;
-    Ok(Fixed {
+    let fixed = Fixed {
         settings,
         accounts,
         marks,
-    })
+    };
+    Ok(Rc::new(alloc, fixed)?)
 }

@@ -1,6 +1,4 @@
 pub mod AccountLemmas
-pub mod PartLemmas
-pub mod FiledLemmas
 pub mod FixedLemmas
 pub mod ChangeLemmas
 pub mod LeaveLemmas

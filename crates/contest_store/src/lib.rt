@@ -2,7 +2,6 @@
 #![tactic(auto)]
 
 mod copies;
-mod fixed_changes;
 mod lists;
 mod memory;
 mod store;

@@ -1,16 +1,12 @@
 //! The lists of a contest in memory.
-ghost use Rattle.std.specs.Prelude.{◌≡◌, ◌<◌, ◌≤◌, ◌+◌, ◌⊎◌, ◌++◌, ◌∷◌, List, [], IfOk, IfNone, IfSome, OnOk, length, slice_get, slice_set, Some, true};
-ghost use Rattle.contest_types.specs.Addable.{is_addable};
-ghost use Rattle.contest_types.specs.Loads.{without_file};
+ghost use Rattle.std.specs.Prelude.{◌≡◌, ◌<◌, ◌≤◌, ◌+◌, ◌⊎◌, List, [], IfOk, IfNone, IfSome, IsTrue, length, slice_get, slice_set, Some};
 ghost use Rattle.contest_types.specs.State.{add, changed_at, with_member_state};
 ghost use Rattle.contest_types.specs.declared.submission.Submission.{Submission};
 ghost use Rattle.contest_types.specs.declared.rejudging.Member.{Member as TheMember};
 ghost use Rattle.contest_types.specs.declared.rejudging.Rejudging.{Rejudging as TheRejudging};
 ghost use Rattle.contest_store.specs.InMemory.{filed, with_submissions};
-ghost use Rattle.contest_store.specs.Lists.{unfiled};
 
-use crate::copies::{copied_fixed, copies};
-use crate::fixed_changes::{add_account, added};
+use crate::copies::copies;
 use contest_types::{
     Clarification, Entry, Fixed, Member, MemberState, Proposal, Rejudging, RejudgingState, Release,
     Rows, Submission,
@@ -18,12 +14,13 @@ use contest_types::{
 use std::alloc::{AllocError, Global};
 use std::marker::Model;
 use std::mem::replace;
+use std::rc::Rc;
 
 /// The settings, accounts and marks of a contest, and its rows in the order in which they were
 /// accepted, each submission without its file. Contracts see a contest.
 #[derive(Drop)]
 pub struct Lists {
-    pub(crate) fixed: Fixed,
+    pub(crate) fixed: Rc<Fixed>,
     pub(crate) submissions: Vec<Submission>,
     pub(crate) proposals: Vec<Proposal>,
     pub(crate) releases: Vec<Release>,
@@ -37,7 +34,7 @@ impl Model for Lists {
     ghost Value = { ContestState };
 
     ghost view = { λ l. record {
-      fixed = l.fixed;
+      fixed = l.fixed.value;
       submissions = l.submissions.items;
       proposals = l.proposals.items;
       releases = l.releases.items;
@@ -48,8 +45,8 @@ impl Model for Lists {
 
 impl Lists {
     /// A contest with no rows.
-    pub fn new(alloc: Global, fixed: Fixed) -> Lists
-        ensures { result ≡ with_submissions fixed [] }
+    pub fn new(alloc: Global, fixed: Rc<Fixed>) -> Lists
+        ensures { result ≡ with_submissions fixed.value [] }
     {
         Lists {
             fixed,
@@ -58,27 +55,6 @@ impl Lists {
             releases: Vec::new(alloc),
             clarifications: Vec::new(alloc),
             rejudgings: Vec::new(alloc),
-        }
-    }
-
-    /// The contest with these rows.
-    pub fn from_parts(
-        fixed: Fixed,
-        submissions: Vec<Submission>,
-        proposals: Vec<Proposal>,
-        releases: Vec<Release>,
-        clarifications: Vec<Clarification>,
-        rejudgings: Vec<Rejudging>,
-    ) -> Lists
-        ensures { result ≡ record { fixed = fixed; submissions = submissions.items; proposals = proposals.items; releases = releases.items; clarifications = clarifications.items; rejudgings = rejudgings.items } }
-    {
-        Lists {
-            fixed,
-            submissions,
-            proposals,
-            releases,
-            clarifications,
-            rejudgings,
         }
     }
 
@@ -132,77 +108,35 @@ impl Lists {
     pub(crate) fn copied(&self, alloc: Global) -> Result<Lists, AllocError>
         ensures { IfOk result (λ copy. copy ≡ self.now) }
     {
-        let mut copy = Lists::new(alloc, copied_fixed(alloc, &self.fixed)?);
-        self.copy_rows(alloc, &mut copy)?;
-        Ok(copy)
+        Ok(Lists {
+            fixed: self.fixed.clone()?,
+            submissions: copies(alloc, &self.submissions)?,
+            proposals: copies(alloc, &self.proposals)?,
+            releases: copies(alloc, &self.releases)?,
+            clarifications: copies(alloc, &self.clarifications)?,
+            rejudgings: copies(alloc, &self.rejudgings)?,
+        })
     }
 
-    fn copy_rows(&self, alloc: Global, copy: &mut Lists) -> Result<(), AllocError>
-        ensures { OnOk result (copy.new ≡ record self.now { fixed = copy.old.fixed }) }
-    {
-        copy.submissions = copies(alloc, &self.submissions)?;
-        copy.proposals = copies(alloc, &self.proposals)?;
-        copy.releases = copies(alloc, &self.releases)?;
-        copy.clarifications = copies(alloc, &self.clarifications)?;
-        copy.rejudgings = copies(alloc, &self.rejudgings)?;
-        Ok(())
-    }
-
-    /// Makes one change, which may be made; of a submission the file is left out. Where memory is
-    /// refused the lists are of no use any more.
-    pub(crate) fn add(&mut self, alloc: Global, entry: Entry) -> Result<(), AllocError>
-        requires { (submissions : List Submission) × (is_addable (filed submissions self.old) entry ≡ true) }
-        ensures { OnOk result (self.new ≡ add self.old (unfiled entry)) }
+    /// Makes one change, and answers whether it did: changes of the fixed part and submissions, which
+    /// have a file, aren't made here. Where memory is refused the lists are of no use any more.
+    pub(crate) fn add(&mut self, alloc: Global, entry: Entry) -> Result<bool, AllocError>
+        ensures added { IfOk result (λ added. IsTrue added → (submissions : List Submission) → filed submissions self.new ≡ add (filed submissions self.old) entry) }
+        ensures filed { IfOk result (λ added. IsTrue added → self.new.submissions ≡ self.old.submissions) }
     {
         match entry {
-            Entry::NewSubmission(row) => push(&mut self.submissions, unfiled(alloc, row)),
-            Entry::NewProposal(row) => push(&mut self.proposals, row),
-            Entry::NewRelease(row) => push(&mut self.releases, row),
-            Entry::NewClarification(row) => push(&mut self.clarifications, row),
-            Entry::NewRejudging(row) => push(&mut self.rejudgings, row),
+            Entry::NewProposal(proposal) => self.proposals.push(proposal)?,
+            Entry::NewRelease(release) => self.releases.push(release)?,
+            Entry::NewClarification(clarification) => self.clarifications.push(clarification)?,
+            Entry::NewRejudging(rejudging) => self.rejudgings.push(rejudging)?,
             Entry::SetMember(n, place, state) => {
                 set_member(alloc, &mut self.rejudgings, n, place, state);
-                Ok(())
             }
-            Entry::SetRejudging(n, state) => {
-                set_rejudging(&mut self.rejudgings, n, state);
-                Ok(())
-            }
-            Entry::SetStart(start) => {
-                self.fixed.marks.start = start;
-                Ok(())
-            }
-            Entry::SetThaw(thaw) => {
-                self.fixed.marks.thaw = Some(thaw);
-                Ok(())
-            }
-            Entry::SetFinalized(finalized) => {
-                self.fixed.marks.finalized = Some(finalized);
-                Ok(())
-            }
-            Entry::NewType(row) => added(self.fixed.settings.add_judgement_type(alloc, row)),
-            Entry::NewLanguage(row) => added(self.fixed.settings.add_language(alloc, row)),
-            Entry::NewProblem(row) => added(self.fixed.settings.add_problem(alloc, row)),
-            Entry::NewGroup(row) => added(self.fixed.settings.add_group(alloc, row)),
-            Entry::NewTeam(row) => added(self.fixed.settings.add_team(alloc, row)),
-            Entry::NewAccount(row) => add_account(alloc, &mut self.fixed.accounts, row),
+            Entry::SetRejudging(n, state) => set_rejudging(&mut self.rejudgings, n, state),
+            _ => return Ok(false),
         }
+        Ok(true)
     }
-}
-
-fn push<T: Drop>(rows: &mut Vec<T>, row: T) -> Result<(), AllocError>
-    ensures { OnOk result (rows.new.items ≡ rows.old.items ++ row ∷ []) }
-{
-    rows.push(row)?;
-    Ok(())
-}
-
-fn unfiled(alloc: Global, submission: Submission) -> Submission
-    ensures { result ≡ without_file submission }
-{
-    let mut submission = submission;
-    submission.file = Rows::new(alloc);
-    submission
 }
 
 // Rejudgings are counted from 1; where there is none with this number nothing changes.

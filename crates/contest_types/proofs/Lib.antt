@@ -1,6 +1,5 @@
 pub mod PlaceLemmas
 pub mod AdditionLemmas
-pub mod CopyLemmas
 pub mod SetupLemmas
 pub mod IdLemmas
 pub mod TextLemmas

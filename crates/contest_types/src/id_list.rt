@@ -19,14 +19,6 @@ pub trait Identified {
     /// Its id.
     fn id(&self) -> &Id
         ensures { result.now ≡ id self.now };
-
-    /// The same row again.
-    ///
-    /// # Errors
-    ///
-    /// Want of memory alone.
-    fn copied(&self, alloc: Global) -> Result<Self, AllocError>
-        ensures { IfOk result (λ row. row ≡ self.now) };
 }
 
 /// What a list has under a row's id.
@@ -104,31 +96,6 @@ impl<T: Identified + Drop> IdList<T> {
             Ok(()) => Ok(()),
             Err(_) => unreachable!(),
         }
-    }
-}
-
-impl<T: Identified + Drop> IdList<T> {
-    /// The same rows again.
-    ///
-    /// # Errors
-    ///
-    /// Want of memory alone.
-    pub fn copied(&self, alloc: Global) -> Result<Self, AllocError>
-        ensures { IfOk result (λ copy. copy ≡ self.now) }
-    {
-        let mut copy = IdList::new(alloc);
-        self.copy_to(alloc, &mut copy)?;
-        Ok(copy)
-    }
-
-    fn copy_to(&self, alloc: Global, copy: &mut IdList<T>) -> Result<(), AllocError>
-        requires { copy.old ≡ [] }
-        ensures { OnOk result (copy.new ≡ self.now) }
-    {
-        for row in self.as_slice() {
-            copy.push(alloc, row.copied(alloc)?)?;
-        }
-        Ok(())
     }
 }
 
