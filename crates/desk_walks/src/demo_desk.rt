@@ -7,7 +7,7 @@ ghost use Rattle.contest_store.specs.InMemory.{kept_of};
 use contest_desk::Desk;
 use contest_fixtures::{SettingRow, demo, id};
 use contest_store::{MemoryStore, is_valid_fixed};
-use contest_types::{Account, Digest, Fixed, Role, Rows};
+use contest_types::{Account, Digest, Role, Rows};
 use sha2::{Digest as _, Sha256};
 use std::alloc::Global;
 use std::test::Fail;
@@ -56,28 +56,19 @@ fn accounts(alloc: Global) -> Result<Rows<Account>, Fail> {
     Ok(accounts)
 }
 
-/// A store in which nothing stands but this.
-fn store_of(alloc: Global, fixed: Fixed) -> Result<MemoryStore, Fail>
-    ensures { IfOk result (λ store. IsSettled (kept_of store)) }
-{
-    if !is_valid_fixed(&fixed) {
-        return Err(Fail::from("the demo contest isn't valid"));
-    }
-    Ok(MemoryStore::new(alloc, fixed))
-}
-
 /// A store in which nothing was submitted yet. It fails once, at the call after so many, if it is to.
 fn store(alloc: Global, failing: Option<u32>) -> Result<MemoryStore, Fail>
     ensures { IfOk result (λ store. IsSettled (kept_of store)) }
 {
-    let mut store = store_of(alloc, demo(alloc, &ROWS, accounts(alloc)?)?)?;
-    match failing {
-        Some(calls) => {
-            store.fail_after(calls);
-            Ok(store)
-        }
-        None => Ok(store),
+    let fixed = demo(alloc, &ROWS, accounts(alloc)?)?;
+    if !is_valid_fixed(&fixed) {
+        return Err(Fail::from("the demo contest isn't valid"));
     }
+    let mut store = MemoryStore::new(alloc, fixed);
+    if let Some(calls) = failing {
+        store.fail_after(calls);
+    }
+    Ok(store)
 }
 
 /// A desk over that store.
