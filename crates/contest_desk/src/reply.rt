@@ -93,7 +93,6 @@ impl Reply {
     /// The reply that a refusal is: its status, and the body
     /// `{"code":<status>,"message":"<name>"}`; an unknown token is asked for one. It takes no
     /// memory.
-    #[tactic(auto, using(crate::proofs::RefusalTexts::body_is_text))]
     pub fn refused(refusal: Refusal) -> Reply
         ensures { result ≡ refused refusal }
     {

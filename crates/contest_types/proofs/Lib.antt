@@ -4,6 +4,7 @@ pub mod SetupLemmas
 pub mod IdLemmas
 pub mod TextLemmas
 pub mod StreamLemmas
+pub mod RefusalLemmas
 pub mod RelTimeLemmas
 pub mod DateCounts
 pub mod Times

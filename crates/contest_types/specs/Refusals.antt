@@ -3,6 +3,7 @@ use Rattle.std.specs.Prelude.{ℕ, List, ◌++◌, codes}
 use Rattle.contest_types.specs.RelTimeText.{three_digits}
 use Rattle.contest_types.specs.declared.refusal.Refusal.{Refusal}
 use Rattle.contest_types.specs.declared.refusal.Refusal.TheVariants as refusal
+use Rattle.contest_types.specs.declared.refusal.RefusalRow.{RefusalRow}
 use Rattle.contest_types.specs.declared.refusal.Cause.{Cause}
 use Rattle.contest_types.specs.declared.refusal.Cause.TheVariants as cause
 
@@ -21,6 +22,9 @@ refusal_facts number name status = record {
   status = status;
   body = codes "{\"code\":" ++ three_digits status ++ codes ",\"message\":\"" ++ name ++ codes "\"}";
 }
+
+abbrev pub told_by : RefusalRow → RefusalFacts
+told_by row = record { number = row.number; name = row.name.now; status = row.status; body = row.body.now }
 
 abbrev pub row_of : Refusal → RefusalFacts
 row_of refusal.Malformed = refusal_facts 1 (codes "Malformed") 400

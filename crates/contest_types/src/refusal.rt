@@ -1,6 +1,6 @@
 //! Why something is refused: each refusal's number, name, HTTP status and body.
-ghost use Rattle.std.specs.Prelude.{◌≡◌, ◌≤◌, length};
-ghost use Rattle.contest_types.specs.Refusals.{number_of, refusal_name, status_of, body_of, cause_name};
+ghost use Rattle.std.specs.Prelude.{◌≡◌};
+ghost use Rattle.contest_types.specs.Refusals.{row_of, told_by, cause_name};
 
 use std::alloc::{AllocError, AllocFailed};
 
@@ -114,11 +114,7 @@ macro_rules! row {
 impl Refusal {
     /// All that is told of it. It takes no memory.
     pub fn row(self) -> RefusalRow
-        ensures number { result.number ≡ number_of self }
-        ensures name { result.name.now ≡ refusal_name self }
-        ensures short { length result.name.now ≤ 19 }
-        ensures status { result.status ≡ status_of self }
-        ensures body { result.body.now ≡ body_of self }
+        ensures { told_by result ≡ row_of self }
     {
         match self {
             Refusal::Malformed => row!(1, "Malformed", 400),
