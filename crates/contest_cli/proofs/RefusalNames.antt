@@ -1,5 +1,5 @@
 -- A refusal's name is short, so that its line has room.
-use Rattle.std.proofs.Common.{◌≡◌, ℕ, Bool, true, ◌≤◌, leb, length, refl, ap, arith}
+use Rattle.std.proofs.Common.{◌≡◌, true, ◌≤◌, leb, length, refl, ap, arith}
 use Rattle.std.proofs.lemmas.Bool.{leb-true}
 use Rattle.contest_types.specs.Refusals.{told_by, row_of, refusal_name}
 use Rattle.contest_types.specs.declared.refusal.Refusal.{Refusal}
