@@ -1,22 +1,24 @@
 -- A caller who is known speaks for a team that is there.
-use Rattle.std.proofs.Common.{◌≡◌, ◌+◌, ◌<◌, ◌^◌, ℕ, Bool, true, false, List, [], ◌∷◌, length, Option, Some, None, refl, subst, arith}
-use Rattle.std.specs.Prelude.{find, IfSome, nat_lt, if◌then◌else◌}
+use Rattle.std.proofs.Common.{◌≡◌, ◌+◌, ◌<◌, ◌^◌, ◌∙◌, ℕ, Bool, true, false, List, [], ◌∷◌, length, Option, Some, None, refl, sym, ap, subst, arith}
+use Rattle.std.specs.Prelude.{find, IfSome, is_some, nat_lt, if◌then◌else◌}
 use Rattle.std.specs.List.{list_all}
 use Rattle.std.specs.Option.{option_map}
 use Rattle.std.specs.Str.{bytes_eq}
+use Rattle.std.proofs.lemmas.Bool.{false≢true}
 use Rattle.std.proofs.lemmas.Bool.Decides.{nat_tests}
+use Rattle.std.proofs.lemmas.Slice.Eq.{bytes_eq-Decides}
 use Rattle.sha2.specs.Sha256.{sha256}
 use Rattle.contest_types.specs.State.{ContestState, FixedPart}
 use Rattle.contest_types.specs.Valid.{is_valid}
 use Rattle.contest_types.specs.Setup.{Setup}
-use Rattle.contest_types.specs.Accounts.{has_valid_role}
+use Rattle.contest_types.specs.Accounts.{account_named, has_valid_role}
 use Rattle.contest_types.specs.ValidFixed.{is_valid_account}
 use Rattle.contest_types.specs.declared.account.Account.{Account}
 use Rattle.contest_types.specs.declared.account.Role.{Role}
 use Rattle.contest_types.specs.declared.account.Role.TheVariants as role
 use Rattle.contest_types.proofs.PlaceLemmas.{and_left, and_right}
 use Rattle.contest_types.proofs.ValidParts.{parts, four}
-use Rattle.contest_desk.specs.Callers.{Caller, holder_of, caller_of, team_for, team_of}
+use Rattle.contest_desk.specs.Callers.{Caller, holder_of, caller_of, is_jury, judge_of, judging_id, team_for, team_of}
 use Rattle.contest_desk.specs.declared.request.Credential.{Credential}
 use Rattle.contest_desk.specs.declared.request.Credential.TheVariants.{Absent, Token, Bad}
 use Rattle.contest_desk.proofs.PostLemmas.{number_fits}
@@ -62,3 +64,30 @@ caller_there x f credential who valid same is =
 pub caller_fits : (x : ContestState) (f : FixedPart) (o : Option ℕ) → is_valid x ≡ true → x.fixed ≡ f → IfSome o (λ team. team < length f.settings.teams) → IfSome o (λ team. team + 1 < 2 ^ 64)
 caller_fits x f None valid same there = tt
 caller_fits x f (Some team) valid same there = number_fits x f team valid same there
+
+-- an account that is found is there by its id
+found_named : (p : Account → Bool) (accounts : List Account) (a : Account) → find p accounts ≡ Some a → is_some (account_named accounts a.id) ≡ true
+found_named p [] a h = absurd (cc h)
+found_named p (b ∷ bs) a h =
+    let go : (c : Bool) → (if c then Some b else find p bs) ≡ Some a → (d : Bool) → bytes_eq b.id a.id ≡ d → is_some (if d then Some b else account_named bs a.id) ≡ true = elim [
+      | true ↦ λ e. elim [ true ↦ λ same. refl | false ↦ λ other. (let is : b ≡ a = cc e in absurd (false≢true (sym other ∙ (ap (λ (k : Account). bytes_eq k.id a.id) is ∙ (bytes_eq-Decides a.id a.id).1 refl)))) ]
+      | false ↦ λ e. elim [ true ↦ λ same. refl | false ↦ λ other. found_named p bs a e ]
+    ] in
+    go (p b) h (bytes_eq b.id a.id) refl
+
+named_judge : (accounts : List Account) (a : Account) → is_some (account_named accounts a.id) ≡ true → IfSome (judging_id a) (λ account. is_some (account_named accounts account) ≡ true)
+named_judge accounts a there =
+    let go : (b : Bool) → IfSome (if b then Some a.id else None) (λ account. is_some (account_named accounts account) ≡ true) = elim [ true ↦ there | false ↦ tt ] in
+    go (is_jury a.role)
+
+held_judge : (accounts : List Account) (p : Account → Bool) (who : Caller) (o : Option Account) → find p accounts ≡ o → option_map Some o ≡ Some who → IfSome (judge_of who) (λ account. is_some (account_named accounts account) ≡ true)
+held_judge accounts p who None at is = absurd (cc is)
+held_judge accounts p who (Some a) at is =
+    let e : Some a ≡ who = cc is in
+    subst (λ w. IfSome (judge_of w) (λ account. is_some (account_named accounts account) ≡ true)) e (named_judge accounts a (found_named p accounts a at))
+
+-- a caller who judges does so by an account that is there
+pub judge_there : (f : FixedPart) (credential : Credential) (who : Caller) → caller_of f credential ≡ Some who → IfSome (judge_of who) (λ account. is_some (account_named f.accounts account) ≡ true)
+judge_there f Absent who is = let e : None ≡ who = cc is in subst (λ w. IfSome (judge_of w) (λ account. is_some (account_named f.accounts account) ≡ true)) e tt
+judge_there f (Token token) who is = held_judge f.accounts (λ (b : Account). bytes_eq b.digest (sha256 token)) who (holder_of f.accounts token) refl is
+judge_there f Bad who is = absurd (cc is)

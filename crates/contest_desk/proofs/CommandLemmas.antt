@@ -1,6 +1,5 @@
 -- What every command keeps to: one line of each lemma is a command's.
-use Rattle.std.proofs.Common.{◌≡◌, ◌<◌, ℕ, true, length, refl}
-use Rattle.std.specs.Prelude.{IfSome}
+use Rattle.std.proofs.Common.{◌≡◌, ℕ, true, refl}
 use Rattle.contest_types.specs.Addable.{are_addable}
 use Rattle.contest_types.specs.State.{ContestState, FixedPart, add_all}
 use Rattle.contest_types.specs.Valid.{is_valid}
@@ -15,11 +14,11 @@ use Rattle.contest_desk.specs.declared.command.Posted.{Posted}
 use Rattle.contest_desk.specs.declared.command.Posted.TheVariants.{Submission}
 use Rattle.contest_desk.specs.declared.request.Method.TheVariants.{Get, Head}
 use Rattle.contest_desk.specs.declared.request.Request.{Request}
-use Rattle.contest_desk.proofs.PostedFacts.{IfKnownPost, IsQuiet, OrdinaryRefusal}
+use Rattle.contest_desk.proofs.PostedFacts.{IfKnownPost, IsQuiet, IsThere, OrdinaryRefusal}
 use Rattle.contest_desk.proofs.SubmitLaws.{submission_known, submission_refusal_ordinary, submission_ordinary, submission_quiet, submission_addable, submissions_alike, submission_continues, submission_unmoved}
 
-pub post_known : (f : FixedPart) (who : Caller) (command : Command) (request : Request) → IfSome (team_of who) (λ team. team < length f.settings.teams) → IfKnownPost f who (posted_by f who command request)
-post_known f who Submit request there = submission_known f who (team_of who) request refl there
+pub post_known : (f : FixedPart) (who : Caller) (command : Command) (request : Request) → IsThere f who → IfKnownPost f who (posted_by f who command request)
+post_known f who Submit request there = submission_known f who (team_of who) request refl there.team
 
 pub post_refusal_ordinary : (f : FixedPart) (who : Caller) (command : Command) (request : Request) → OrdinaryRefusal (posted_by f who command request)
 post_refusal_ordinary f who Submit request = submission_refusal_ordinary f (team_of who) request
@@ -37,7 +36,7 @@ pub post_continues : (now : ℕ) (posted : Posted) (x : ContestState) → is_val
 post_continues now (Submission team w) x valid sound = submission_continues now team w x valid sound
 
 pub posts_alike : PostsAlike
-posts_alike now (Submission team w) x y valid_x valid_y sound h = submissions_alike now team w x y valid_x valid_y sound h
+posts_alike now (Submission team w) x y other valid_x valid_y sound h = submissions_alike now team w x y valid_x valid_y sound h
 
 pub post_unmoved : (f : FixedPart) (who : Caller) (command : Command) (request : Request) → posted_by f who command (record request { method = Head }) ≡ posted_by f who command (record request { method = Get })
 post_unmoved f who Submit request = submission_unmoved f (team_of who) request

@@ -38,7 +38,7 @@ come_alike : (a : Audience) (now : ℕ) (wish : Wish) (x y : ContestState) → i
 come_alike a now (Read reading b path) x y valid_x valid_y sound speaks held h =
     subst (λ c. StayAlike a x y (replying (read c now x reading path)) (replying (read c now y reading path))) (sym speaks) (reads_alike a now x y reading path held h, h)
 come_alike a now (Do posted) x y valid_x valid_y sound speaks held h =
-    subst (λ b. StayAlike b x y (post_outcome now posted x) (post_outcome now posted y)) speaks (posts_alike now posted x y valid_x valid_y sound (subst (λ b. Alike b x y) (sym speaks) h))
+    subst (λ b. StayAlike b x y (post_outcome now posted x) (post_outcome now posted y)) speaks (posts_alike now posted x y (λ is. held.no_jury (sym speaks ∙ is)) valid_x valid_y sound (subst (λ b. Alike b x y) (sym speaks) h))
 
 speaks_as : (a : Audience) (o : Option Caller) (wish : Wish) → SpeaksFor o wish → IfSome o (λ who. audience_of who ≡ a) → speaker wish ≡ a
 speaks_as a None wish speaks sight = absurd speaks

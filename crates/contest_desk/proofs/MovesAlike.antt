@@ -1,24 +1,28 @@
 -- What others add, entry by entry.
 use Rattle.std.proofs.Common.{◌≡◌, ◌∙◌, ◌+◌, ℕ, Bool, true, false, List, [], ◌∷◌, ◌++◌, length, map, refl, sym, ap, subst}
-use Rattle.std.specs.Prelude.{◌==◌, if◌then◌else◌}
+use Rattle.std.specs.Prelude.{◌&&◌, ◌==◌, filter, if◌then◌else◌}
 use Rattle.std.proofs.lemmas.Bool.{eq-eqb, eqb-true}
 use Rattle.std.proofs.lemmas.List.{map-append}
+use Rattle.std.proofs.lemmas.Simd.{map-map}
+use Rattle.std.proofs.lemmas.List.Elements.{filter-append}
 use Rattle.contest_types.specs.Addable.{is_addable, are_addable, is_next_submission}
-use Rattle.contest_types.specs.Alike.{OpenRecord, open_record, TeamSight, Whole, Open, Nothing, sight_of, Alike}
+use Rattle.contest_types.specs.Alike.{OwnRecord, own_record, OpenRecord, open_record, TeamSight, Whole, Open, Nothing, sight_of, Alike}
 use Rattle.contest_types.specs.Clock.{is_frozen}
 use Rattle.contest_types.specs.Masks.{owns}
 use Rattle.contest_types.specs.TeamPlaces.{is_public}
 use Rattle.contest_types.specs.Sight.{Judgement, judgement_of, judgements_on}
-use Rattle.contest_types.specs.State.{ContestState, submissions_of, releases_on, add}
+use Rattle.contest_types.specs.State.{FixedPart, ContestState, submissions_of, releases_on, add}
 use Rattle.contest_types.specs.Valid.{is_valid}
 use Rattle.contest_types.specs.ValidSubmissions.{is_valid_submission}
 use Rattle.contest_types.specs.declared.entry.Entry.{Entry}
-use Rattle.contest_types.specs.declared.entry.Entry.TheVariants.{NewSubmission}
+use Rattle.contest_types.specs.declared.entry.Entry.TheVariants.{NewRelease, NewSubmission}
 use Rattle.contest_types.specs.declared.audience.Audience.{Audience}
+use Rattle.contest_types.specs.declared.submission.Release.{Release}
 use Rattle.contest_types.specs.declared.submission.Submission.{Submission}
 use Rattle.contest_types.proofs.AddEntry.{adding}
 use Rattle.contest_types.proofs.PlaceLemmas.{and_left, and_right}
-use Rattle.contest_desk.specs.Moves.{ShowTheSame, ShowsLike, AreSame, InFirst, InSecond, InBoth, first_entries, second_entries, MovesStayAlike}
+use Rattle.contest_types.proofs.SightLemmas.{map-filter_same}
+use Rattle.contest_desk.specs.Moves.{ReleasesLike, ShowTheSame, ShowsLike, AreSame, InFirst, InSecond, InBoth, first_entries, second_entries, MovesStayAlike}
 use Rattle.contest_desk.proofs.AddedAlike.{own_more, unjudged, other_stays}
 use Rattle.contest_desk.proofs.UnseenLemmas.{alike_onward, unseen_entry}
 
@@ -92,9 +96,85 @@ shown_alike : (a : Audience) (x y : ContestState) (s : Submission) (f : Entry) �
 shown_alike a x y s (NewSubmission t) valid_x valid_y h can can_too same = paired_submission a x y s t valid_x valid_y h can can_too same
 shown_alike a x y s _ valid_x valid_y h can can_too same = absurd same
 
+-- what a release adds to what was released on a submission of a team with this number
+more_of : (team number : ℕ) → Release → List Judgement
+more_of team number v = if (v.team == team) && (v.number == number) then judgement_of v ∷ [] else []
+
+judged_more : (x : ContestState) (v : Release) (s : Submission) → judgements_on (add x (NewRelease v)) s ≡ judgements_on x s ++ more_of s.team s.number v
+unfolding more_of
+judged_more x v s =
+    let on : Release → Bool = λ w. (w.team == s.team) && (w.number == s.number) in
+    let go : (b : Bool) → map judgement_of (filter on x.releases ++ (if b then v ∷ [] else [])) ≡ map judgement_of (filter on x.releases) ++ (if b then judgement_of v ∷ [] else []) = elim [
+      | true ↦ map-append judgement_of (filter on x.releases) (v ∷ [])
+      | false ↦ map-append judgement_of (filter on x.releases) []
+    ] in
+    ap (map judgement_of) (filter-append on x.releases (v ∷ [])) ∙ go (on v)
+
+-- a record of an own submission, with one more release
+own_with : Release → OwnRecord → OwnRecord
+own_with v r = record r { judgements = r.judgements ++ more_of r.submission.team r.submission.number v }
+
+-- an open record of a team's submission
+open_with : ContestState → (team : ℕ) → Release → OpenRecord → OpenRecord
+open_with x team v r = record r { judgements = if is_frozen x.fixed.settings x.fixed.marks r.time then [] else r.judgements ++ more_of team r.number v }
+
+own_more_record : (x : ContestState) (v : Release) (s : Submission) → own_record (add x (NewRelease v)) s ≡ own_with v (own_record x s)
+unfolding own_with
+own_more_record x v s = λ i. record { submission = s; judgements = judged_more x v s i }
+
+open_more_record : (x : ContestState) (team : ℕ) (v : Release) (s : Submission) → (s.team == team) ≡ true → open_record (add x (NewRelease v)) s ≡ open_with x team v (open_record x s)
+unfolding open_with
+open_more_record x team v s is =
+    let here : judgements_on (add x (NewRelease v)) s ≡ judgements_on x s ++ more_of team s.number v = judged_more x v s ∙ ap (λ t. judgements_on x s ++ more_of t s.number v) (eqb-true s.team team is) in
+    let go : (b : Bool) → (if b then [] else judgements_on (add x (NewRelease v)) s) ≡ (if b then [] else (if b then [] else judgements_on x s) ++ more_of team s.number v) = elim [ true ↦ refl | false ↦ here ] in
+    let shown = go (is_frozen x.fixed.settings x.fixed.marks s.time) in
+    λ i. record { number = s.number; problem = s.problem; language = s.language; time = s.time; judgements = shown i }
+
+-- what is learned of a team, with one more release
+sight_with : ContestState → (team : ℕ) → Release → TeamSight → TeamSight
+sight_with x team v (Whole rs) = Whole (map (own_with v) rs)
+sight_with x team v (Open rs) = Open (map (open_with x team v) rs)
+sight_with x team v Nothing = Nothing
+
+released_sight : (a : Audience) (x : ContestState) (v : Release) (team : ℕ) → sight_of a (add x (NewRelease v)) team ≡ sight_with x team v (sight_of a x team)
+unfolding sight_with
+released_sight a x v team =
+    let y = add x (NewRelease v) in
+    let own = submissions_of team x.submissions in
+    let whole : map (own_record y) own ≡ map (own_with v) (map (own_record x) own) =
+    map-filter_same (own_record y) (λ s. own_with v (own_record x s)) (λ s. s.team == team) (λ s e. own_more_record x v s) x.submissions ∙ sym (map-map (own_with v) (own_record x) own) in
+    let opened : map (open_record y) own ≡ map (open_with x team v) (map (open_record x) own) =
+    map-filter_same (open_record y) (λ s. open_with x team v (open_record x s)) (λ s. s.team == team) (λ s e. open_more_record x team v s e) x.submissions ∙ sym (map-map (open_with x team v) (open_record x) own) in
+    let go : (b c : Bool) → (if b then Whole (map (own_record y) own) else (if c then Open (map (open_record y) own) else Nothing))
+        ≡ sight_with x team v (if b then Whole (map (own_record x) own) else (if c then Open (map (open_record x) own) else Nothing)) = elim [
+      | true ↦ λ c. ap Whole whole
+      | false ↦ elim [ true ↦ ap Open opened | false ↦ refl ]
+    ] in
+    go (owns a team) (is_public x.fixed.settings team)
+
+-- which goes by the fixed part alone
+fixed_sight : (x y : ContestState) (team : ℕ) (v : Release) (t : TeamSight) → x.fixed ≡ y.fixed → sight_with x team v t ≡ sight_with y team v t
+unfolding sight_with open_with
+fixed_sight x y team v (Whole rs) same = refl
+fixed_sight x y team v (Open rs) same = ap (λ (f : FixedPart). Open (map (λ (r : OpenRecord). record r { judgements = if is_frozen f.settings f.marks r.time then [] else r.judgements ++ more_of team r.number v }) rs)) same
+fixed_sight x y team v Nothing same = refl
+
+paired_release : (a : Audience) (x y : ContestState) (v : Release) → Alike a x y → Alike a (add x (NewRelease v)) (add y (NewRelease v))
+unfolding sight_with open_with
+paired_release a x y v h = record {
+  fixed = h.fixed;
+  teams = λ team. released_sight a x v team ∙ (ap (sight_with x team v) (h.teams team) ∙ (fixed_sight x y team v (sight_of a y team) h.fixed ∙ sym (released_sight a y v team)));
+  told = h.told;
+}
+
+like_release : (a : Audience) (x y : ContestState) (v : Release) (f : Entry) → Alike a x y → ReleasesLike v f → Alike a (add x (NewRelease v)) (add y f)
+like_release a x y v (NewRelease u) h same = subst (λ w. Alike a (add x (NewRelease v)) (add y (NewRelease w))) same (paired_release a x y v h)
+like_release a x y v _ h same = absurd same
+
 -- two entries that show the same
 same_alike : (a : Audience) (x y : ContestState) (e f : Entry) → is_valid x ≡ true → is_valid y ≡ true → Alike a x y → is_addable x e ≡ true → is_addable y f ≡ true → AreSame a x e f → Alike a (add x e) (add y f)
 same_alike a x y (NewSubmission s) f valid_x valid_y h can can_too same = shown_alike a x y s f valid_x valid_y h can can_too same
+same_alike a x y (NewRelease v) f valid_x valid_y h can can_too same = like_release a x y v f h same
 same_alike a x y _ f valid_x valid_y h can can_too same = absurd same
 
 pub moves_stay_alike : MovesStayAlike

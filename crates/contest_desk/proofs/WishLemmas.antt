@@ -1,12 +1,12 @@
 -- A wish that is read is its caller's, and is sound; what refuses it is no failure.
-use Rattle.std.proofs.Common.{◌≡◌, ◌∙◌, ◌<◌, ℕ, Bool, true, false, List, length, Option, Some, None, Result, Ok, Err, refl, sym, ap, subst}
+use Rattle.std.proofs.Common.{◌≡◌, ◌∙◌, ℕ, Bool, true, false, List, Option, Some, None, Result, Ok, Err, refl, sym, ap, subst}
 use Rattle.std.specs.Prelude.{IfSome, if◌then◌else◌}
 use Rattle.contest_types.specs.State.{ContestState, FixedPart}
 use Rattle.contest_types.specs.Valid.{is_valid}
 use Rattle.contest_types.specs.declared.audience.Audience.{Audience}
 use Rattle.contest_types.specs.declared.refusal.Refusal.{Refusal}
 use Rattle.contest_types.specs.declared.refusal.Refusal.TheVariants.{NotFound}
-use Rattle.contest_desk.specs.Callers.{Caller, caller_of, audience_of, team_of}
+use Rattle.contest_desk.specs.Callers.{Caller, caller_of, audience_of}
 use Rattle.contest_desk.specs.Offers.{is_served, operation_of}
 use Rattle.contest_desk.specs.Replies.{refused}
 use Rattle.contest_desk.specs.Routes.{offer_at}
@@ -24,9 +24,9 @@ use Rattle.contest_desk.specs.declared.request.Method.{Method}
 use Rattle.contest_desk.specs.declared.request.Request.{Request}
 use Rattle.contest_desk.specs.declared.wish.Wish.{Wish}
 use Rattle.contest_desk.specs.declared.wish.Wish.TheVariants.{Read, Do}
-use Rattle.contest_desk.proofs.CallerLemmas.{caller_there}
+use Rattle.contest_desk.proofs.CallerLemmas.{caller_there, judge_there}
 use Rattle.contest_desk.proofs.CommandLemmas.{post_known, post_refusal_ordinary}
-use Rattle.contest_desk.proofs.PostedFacts.{IfKnownPost, OrdinaryRefusal}
+use Rattle.contest_desk.proofs.PostedFacts.{IfKnownPost, IsThere, OrdinaryRefusal}
 
 -- whose sight a wish is answered by
 abbrev pub speaker : Wish → Audience
@@ -49,7 +49,7 @@ to_do_known : (f : FixedPart) (who : Caller) (r : Result Posted Refusal) → IfK
 to_do_known f who (Err e) h = tt
 to_do_known f who (Ok posted) h = record { sound = h.sound; speaks = h.speaks }
 
-pub wish_known : (f : FixedPart) (who : Caller) (operation : Operation) (request : Request) → IfSome (team_of who) (λ team. team < length f.settings.teams) → IfKnown f (Some who) (wish_of f who operation request)
+pub wish_known : (f : FixedPart) (who : Caller) (operation : Operation) (request : Request) → IsThere f who → IfKnown f (Some who) (wish_of f who operation request)
 wish_known f who (ToRead reading) request there = record { sound = tt; speaks = refl }
 wish_known f who (ToDo command) request there = to_do_known f who (posted_by f who command request) (post_known f who command request there)
 
@@ -57,18 +57,18 @@ refused_known : (f : FixedPart) (o : Option Caller) (r : Result Wish Refusal) �
 refused_known f o (Err e) h = tt
 refused_known f o (Ok wish) h = h
 
-by_known : (f : FixedPart) (o : Option Caller) (request : Request) (r : Result Operation Reply) → IfSome o (λ who. IfSome (team_of who) (λ team. team < length f.settings.teams)) → IfKnown f o (wish_or_reply_by f o request r)
+by_known : (f : FixedPart) (o : Option Caller) (request : Request) (r : Result Operation Reply) → IfSome o (IsThere f) → IfKnown f o (wish_or_reply_by f o request r)
 by_known f o request (Err reply) there = tt
 by_known f None request (Ok operation) there = tt
 by_known f (Some who) request (Ok operation) there = refused_known f (Some who) (wish_of f who operation request) (wish_known f who operation request there)
 
-known_teams : (x : ContestState) (credential : Credential) (o : Option Caller) → is_valid x ≡ true → caller_of x.fixed credential ≡ o → IfSome o (λ who. IfSome (team_of who) (λ team. team < length x.fixed.settings.teams))
-known_teams x credential None valid is = tt
-known_teams x credential (Some who) valid is = caller_there x x.fixed credential who valid refl is
+known_there : (x : ContestState) (credential : Credential) (o : Option Caller) → is_valid x ≡ true → caller_of x.fixed credential ≡ o → IfSome o (IsThere x.fixed)
+known_there x credential None valid is = tt
+known_there x credential (Some who) valid is = record { team = caller_there x x.fixed credential who valid refl is; judge = judge_there x.fixed credential who is }
 
 pub wished_known : (x : ContestState) (credential : Credential) (request : Request) → is_valid x ≡ true → IfKnown x.fixed (caller_of x.fixed credential) (wish_or_reply x.fixed credential request)
 wished_known x credential request valid =
-    by_known x.fixed (caller_of x.fixed credential) request (asked x.fixed.settings.head.id request.path request.method) (known_teams x credential (caller_of x.fixed credential) valid refl)
+    by_known x.fixed (caller_of x.fixed credential) request (asked x.fixed.settings.head.id request.path request.method) (known_there x credential (caller_of x.fixed credential) valid refl)
 
 -- what refuses a request is no failure
 abbrev pub OrdinaryError : {A : Type 0} → Result A Reply → Type 0

@@ -1,9 +1,10 @@
 -- What holds of every step, in the subject's words. Each is the contract of a function of src/laws.rt.
-use Rattle.std.specs.Prelude.{◌≡◌, ℕ, true, List, IfSome}
+use Rattle.std.specs.Prelude.{◌≡◌, ◌≢◌, ℕ, true, List, IfSome}
 use Rattle.contest_types.specs.Alike.{Alike, MayBeHeld}
 use Rattle.contest_types.specs.State.{FixedPart, ContestState, add_all}
 use Rattle.contest_types.specs.Valid.{is_valid}
 use Rattle.contest_types.specs.declared.audience.Audience.{Audience}
+use Rattle.contest_types.specs.declared.audience.Audience.TheVariants.{Jury}
 use Rattle.contest_desk.specs.Callers.{caller_of, audience_of}
 use Rattle.contest_desk.specs.Outcomes.{Outcome}
 use Rattle.contest_desk.specs.Commands.{IsSoundPost, post_outcome, poster}
@@ -30,10 +31,10 @@ ReadsAlike =
     (a : Audience) (now : ℕ) (x y : ContestState) (reading : Reading) (path : List ℕ) → MayBeHeld a now x → Alike a x y
     → read a now x reading path ≡ read a now y reading path
 
--- nor does what becomes of what it posts
+-- nor does what becomes of what it posts. The jury sees more than is compared
 abbrev pub PostsAlike : Type 0
 PostsAlike =
-    (now : ℕ) (posted : Posted) (x y : ContestState) → is_valid x ≡ true → is_valid y ≡ true → IsSoundPost x.fixed posted
+    (now : ℕ) (posted : Posted) (x y : ContestState) → poster posted ≢ Jury → is_valid x ≡ true → is_valid y ≡ true → IsSoundPost x.fixed posted
     → Alike (poster posted) x y → StayAlike (poster posted) x y (post_outcome now posted x) (post_outcome now posted y)
 
 -- until the thaw, valid contests that are alike for a caller answer each of its requests alike, and are

@@ -7,8 +7,9 @@ use Rattle.contest_types.specs.TeamPlaces.{is_public}
 use Rattle.contest_types.specs.State.{ContestState, add, add_all}
 use Rattle.contest_types.specs.Valid.{is_valid}
 use Rattle.contest_types.specs.declared.entry.Entry.{Entry}
-use Rattle.contest_types.specs.declared.entry.Entry.TheVariants.{NewSubmission}
+use Rattle.contest_types.specs.declared.entry.Entry.TheVariants.{NewRelease, NewSubmission}
 use Rattle.contest_types.specs.declared.audience.Audience.{Audience}
+use Rattle.contest_types.specs.declared.submission.Release.{Release}
 use Rattle.contest_types.specs.declared.submission.Submission.{Submission}
 use Rattle.contest_desk.specs.Unseen.{IsUnseen}
 
@@ -27,9 +28,15 @@ abbrev pub ShowsLike : Audience → ContestState → Submission → Entry → Ty
 ShowsLike a x s (NewSubmission t) = ShowTheSame a x s t
 ShowsLike a x s _ = ⊥
 
+-- the same release, on whatever submission
+abbrev pub ReleasesLike : Release → Entry → Type 0
+ReleasesLike v (NewRelease u) = v ≡ u
+ReleasesLike v _ = ⊥
+
 -- two entries that show an audience the same. No command adds other entries that are seen yet
 abbrev pub AreSame : Audience → ContestState → Entry → Entry → Type 0
 AreSame a x (NewSubmission s) f = ShowsLike a x s f
+AreSame a x (NewRelease v) f = ReleasesLike v f
 AreSame a x _ f = ⊥
 
 -- an entry that is added to the first of two contests, to the second, or one to each

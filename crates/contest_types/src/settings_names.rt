@@ -1,12 +1,22 @@
 //! What stands at a place of the settings, by its id, name or label.
 ghost use Rattle.std.specs.Prelude.{◌≡◌};
 ghost use Rattle.contest_types.specs.ProblemPlaces.{label_at, problem_id_at};
-ghost use Rattle.contest_types.specs.SettingsNames.{group_id_at, language_id_at};
+ghost use Rattle.contest_types.specs.SettingsNames.{group_id_at, language_id_at, type_id_at};
 ghost use Rattle.contest_types.specs.TeamPlaces.{name_at, team_id_at};
 
 use crate::Settings;
 
 impl Settings {
+    /// The id of the judgement type at a place, from 0; empty where there is none.
+    pub fn judgement_type_id(&self, place: usize) -> &str
+        ensures { result.now ≡ type_id_at self.now place }
+    {
+        match self.judgement_types().get(place) {
+            Some(judgement_type) => judgement_type.id.as_str(),
+            None => "",
+        }
+    }
+
     /// The id of the language at a place, from 0; empty where there is none.
     pub fn language_id(&self, place: usize) -> &str
         ensures { result.now ≡ language_id_at self.now place }

@@ -1,4 +1,5 @@
 pub mod ObjectLemmas
+pub mod ProposalObjectLemmas
 pub mod CollectionLemmas
 pub mod SettingsObjectLemmas
 pub mod KeyPlaces

@@ -2,6 +2,7 @@ pub mod Objects
 pub mod Members
 pub mod Items
 pub mod SettingsObjects
+pub mod ProposalObjects
 pub mod Reads
 pub mod Keys
 pub mod StateObject

@@ -4,6 +4,7 @@
 mod collection;
 pub mod laws;
 mod members;
+mod proposal_object;
 mod settings_objects;
 mod submission_id;
 mod submission_object;
@@ -11,6 +12,8 @@ mod submission_order;
 mod submissions;
 
 pub use contest_types::{Audience, Phase, phase, seen_verdict, sees_submission};
+pub use proposal_object::proposal_value;
 pub use settings_objects::{SettingsEndpoint, setting_by_id, settings_value};
+pub use submission_id::has_submission_id;
 pub use submission_object::submission_value;
 pub use submissions::{submission_by_id, submissions_value};

@@ -34,7 +34,7 @@ fn push_number<N: Integer>(id: &mut ArrayString<ID>, number: N)
 }
 
 /// Whether a text is the id of a submission, byte for byte. It takes no memory.
-pub(crate) fn has_id(team: usize, number: usize, text: &[u8]) -> bool
+pub fn has_submission_id(team: usize, number: usize, text: &[u8]) -> bool
     ensures { result ≡ bytes_eq (submission_id team number) text.now }
 {
     submission_id(team, number).as_str().as_bytes() == text

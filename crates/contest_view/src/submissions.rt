@@ -8,7 +8,7 @@ ghost use Rattle.contest_types.specs.Valid.{is_valid};
 ghost use Rattle.contest_view.specs.Reads.{submissions_data, submission_found};
 
 use crate::collection::{Collection, objects_at, with_id};
-use crate::submission_id::has_id;
+use crate::submission_id::has_submission_id;
 use crate::submission_object::submission_value;
 use crate::submission_order::{SubmissionKey, seen_keys};
 use contest_types::{Audience, Fixed, Submission, sees_team};
@@ -37,7 +37,7 @@ impl<'a> Collection for Submissions<'a> {
     }
 
     fn has_id(&self, row: &Submission, id: &[u8]) -> bool {
-        has_id(row.team, row.number, id)
+        has_submission_id(row.team, row.number, id)
     }
 
     fn object(&self, alloc: Global, row: &Submission) -> Result<Value, AllocError> {
