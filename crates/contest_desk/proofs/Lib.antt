@@ -9,6 +9,7 @@ pub mod KeepLemmas
 pub mod CallerLemmas
 pub mod ContinueLemmas
 pub mod PostedFacts
+pub mod ProposalLaws
 pub mod SubmitLaws
 pub mod CommandLemmas
 pub mod WishLemmas

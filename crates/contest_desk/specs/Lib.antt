@@ -6,6 +6,7 @@ pub mod Callers
 pub mod JsonBodies
 pub mod SubmissionBodies
 pub mod Outcomes
+pub mod PostProposal
 pub mod PostSubmission
 pub mod Readings
 pub mod Commands

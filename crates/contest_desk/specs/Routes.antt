@@ -12,7 +12,7 @@ use Rattle.matchit.specs.declared.error.InsertError.{InsertError}
 use Rattle.contest_view.specs.declared.settings_objects.SettingsEndpoint.TheVariants.{Groups, JudgementTypes, Languages, Problems, Teams}
 use Rattle.contest_desk.specs.Offers.{nothing, reads}
 use Rattle.contest_desk.specs.declared.offer.Offer.{Offer}
-use Rattle.contest_desk.specs.declared.command.Command.TheVariants.{Submit}
+use Rattle.contest_desk.specs.declared.command.Command.TheVariants.{Submit, Propose}
 use Rattle.contest_desk.specs.declared.operation.Endpoint.TheVariants.{Settings, Submissions}
 use Rattle.contest_desk.specs.declared.operation.Reading.TheVariants.{List as AllOf, Object}
 
@@ -42,7 +42,7 @@ route_rows =
     ∷ (codes "/contests/{contest}/submissions/{id}/files", nothing)
     ∷ (codes "/contests/{contest}/clarifications", nothing)
     ∷ (codes "/contests/{contest}/clarifications/{id}", nothing)
-    ∷ (codes "/jury/proposals", nothing)
+    ∷ (codes "/jury/proposals", record nothing { post = Some Propose })
     ∷ (codes "/jury/verifications", nothing)
     ∷ (codes "/jury/finalize", nothing)
     ∷ (codes "/jury/rejudgings", nothing)

@@ -7,13 +7,14 @@ ghost use Rattle.contest_desk.specs.Commands.{IsSoundPost, file_at, post_file, p
 ghost use Rattle.contest_desk.specs.Serving.{IsOrdinary};
 
 use crate::Request;
-use crate::caller::{Caller, team_of};
+use crate::caller::{Caller, judge_of, team_of};
 use crate::outcome::Outcome;
 use crate::own_submissions::keyed_row;
+use crate::proposal::{post_proposal, propose};
 use crate::submit::{post_submission, submit};
-use contest_rules::WantedSubmission;
+use contest_rules::{WantedSubmission, WantedVerdict};
 use contest_store::Lists;
-use contest_types::{Fixed, Moment, Refusal, Rows};
+use contest_types::{Fixed, Id, Moment, Refusal, Rows};
 use std::alloc::{AllocError, Global};
 
 /// What is done.
@@ -21,6 +22,8 @@ use std::alloc::{AllocError, Global};
 pub enum Command {
     /// A team submits (Contest API 2023-06, submissions).
     Submit,
+    /// A judge proposes a verdict (DOMjudge manual, "Judging": verification).
+    Propose,
 }
 
 /// What a caller whose role allows it posts, once its body is read.
@@ -28,6 +31,8 @@ pub enum Command {
 pub enum Posted {
     /// The team at a place, from 0, submits.
     Submission(usize, WantedSubmission),
+    /// The account with this id proposes a verdict.
+    Proposal(Id, WantedVerdict),
 }
 
 /// What a caller posts by a command: its role is looked at first, then its body.
@@ -48,6 +53,7 @@ pub fn post(
 {
     match command {
         Command::Submit => post_submission(alloc, fixed, team_of(caller), request),
+        Command::Propose => post_proposal(alloc, judge_of(caller), request),
     }
 }
 
@@ -58,6 +64,7 @@ pub fn post_file(posted: &Posted, lists: &Lists) -> Option<(usize, usize)>
 {
     match posted {
         Posted::Submission(team, wanted) => keyed_row(*team, &wanted.key, lists.submissions()),
+        Posted::Proposal(_, _) => None,
     }
 }
 
@@ -78,5 +85,6 @@ pub fn perform(
 {
     match posted {
         Posted::Submission(team, wanted) => submit(alloc, lists, now, team, wanted, file),
+        Posted::Proposal(account, wanted) => propose(alloc, lists, now, account, &wanted),
     }
 }

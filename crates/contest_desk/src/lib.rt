@@ -16,6 +16,7 @@ mod operation;
 mod outcome;
 mod own_submissions;
 mod path;
+mod proposal;
 pub mod repeats;
 mod reply;
 mod request;

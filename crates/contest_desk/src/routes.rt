@@ -115,7 +115,13 @@ const ROUTES: [(&str, Offer); 31] = [
     ("/contests/{contest}/submissions/{id}/files", NOTHING),
     ("/contests/{contest}/clarifications", NOTHING),
     ("/contests/{contest}/clarifications/{id}", NOTHING),
-    ("/jury/proposals", NOTHING),
+    (
+        "/jury/proposals",
+        Offer {
+            post: Some(Command::Propose),
+            ..NOTHING
+        },
+    ),
     ("/jury/verifications", NOTHING),
     ("/jury/finalize", NOTHING),
     ("/jury/rejudgings", NOTHING),

@@ -1,3 +1,5 @@
 pub mod SubmittingLemmas
 pub mod TakenLemmas
+pub mod ProposedLemmas
 mod ExamplesSubmitting
+mod ExamplesProposing

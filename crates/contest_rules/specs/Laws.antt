@@ -1,9 +1,10 @@
 -- What holds of the decisions, whatever the contest. Each is the contract of a function of src/laws.rt.
-use Rattle.std.specs.Prelude.{◌≡◌, ◌<◌, ◌≤◌, ℕ, true, length}
+use Rattle.std.specs.Prelude.{◌≡◌, ◌<◌, ◌≤◌, ℕ, true, List, Ok, length, is_some}
+use Rattle.contest_types.specs.Accounts.{account_named}
 use Rattle.contest_types.specs.State.{ContestState, submissions_of}
 use Rattle.contest_types.specs.declared.entry.Entry.TheVariants.{NewSubmission}
 use Rattle.contest_types.specs.Valid.{is_valid}
-use Rattle.contest_types.specs.Addable.{is_addable}
+use Rattle.contest_types.specs.Addable.{are_addable, is_addable}
 use Rattle.contest_types.specs.Alike.{Alike}
 use Rattle.contest_types.specs.declared.limits.TheConstants.{POSTED_FILE}
 use Rattle.contest_types.specs.Masks.{audience_at}
@@ -11,6 +12,9 @@ use Rattle.contest_types.specs.declared.submission.Submission.{Submission}
 use Rattle.contest_rules.specs.declared.decision.Decision.{Decision}
 use Rattle.contest_rules.specs.declared.decision.Decision.TheVariants.{Add}
 use Rattle.contest_rules.specs.declared.submitting.WantedSubmission.{WantedSubmission}
+use Rattle.contest_rules.specs.declared.proposing.NewVerdict.{NewVerdict}
+use Rattle.contest_rules.specs.declared.proposing.WantedVerdict.{WantedVerdict}
+use Rattle.contest_rules.specs.Proposing.{entries_of, propose}
 use Rattle.contest_rules.specs.Submitting.{submit}
 
 -- what becomes of a submission of the team at a place
@@ -30,3 +34,9 @@ abbrev pub AlikeSubmitAlike : Type 0
 AlikeSubmitAlike =
     (x y : ContestState) (now team : ℕ) (w : WantedSubmission) → Alike (audience_at team) x y
     → submitted x now team w ≡ submitted y now team w
+
+-- a verdict that an account which is there proposes may be added, and its release after it, if it has one
+abbrev pub ProposedIsAddable : Type 0
+ProposedIsAddable =
+    (x : ContestState) (now : ℕ) (account : List ℕ) (w : WantedVerdict) (v : NewVerdict) → is_some (account_named x.fixed.accounts account) ≡ true
+    → propose x.fixed x.submissions x.proposals x.releases now account w ≡ Ok v → are_addable x (entries_of v) ≡ true

@@ -1,2 +1,3 @@
 pub mod Submitting
+pub mod Proposing
 pub mod Laws

@@ -1,6 +1,6 @@
 //! Laws of the decisions: functions that do nothing, and whose contracts say what holds of every
 //! contest.
-ghost use Rattle.contest_rules.specs.Laws.{AlikeSubmitAlike, SubmittedIsAddable};
+ghost use Rattle.contest_rules.specs.Laws.{AlikeSubmitAlike, ProposedIsAddable, SubmittedIsAddable};
 
 /// A submission that is taken keeps a valid contest valid.
 pub fn submitted_is_addable()
@@ -10,4 +10,9 @@ pub fn submitted_is_addable()
 /// Nothing that a team can't learn decides what becomes of its submissions.
 pub fn alike_submit_alike()
     ensures { AlikeSubmitAlike }
+{}
+
+/// A verdict that is proposed, and its release, keep a valid contest valid.
+pub fn proposed_is_addable()
+    ensures { ProposedIsAddable }
 {}

@@ -1,0 +1,19 @@
+use Rattle.std.proofs.Common.{◌≡◌, ◌∙◌, ap, sym}
+use Rattle.std.proofs.lemmas.Result.{IfOk-weaker}
+use Rattle.contest_types.specs.State.{ContestState, FixedPart}
+use Rattle.contest_desk.specs.PostProposal.{verdict_outcome}
+use Rattle.contest_desk.proofs.ProposalLaws.{decided_is}
+use Rattle.contest_desk.proofs.proposal.propose.Goals as goal
+
+pub returns-in-Ok-clause-outcome : goal.returns-in-Ok-clause-outcome
+returns-in-Ok-clause-outcome c = λ x are.
+    let same = c.fixed-fixed.ensures ∙ ap (λ (y : ContestState). y.fixed) are in
+    let told = decided_is x c.args.lists.now c.fixed-fixed.result.now c.submissions-submissions.result.now c.proposals-proposals.result.now c.releases-releases.result.now c.args.now c.args.account c.args.wanted.now c.decide_proposal.result are
+    c.fixed-fixed.ensures c.submissions-submissions.ensures c.proposals-proposals.ensures c.releases-releases.ensures c.decide_proposal.ensures in
+    IfOk-weaker c.accept.result _ _ (λ o e. e ∙ sym (told ∙ ap (verdict_outcome x.fixed) c.in-Ok.is)) (c.accept.ensures.outcome x.fixed (sym (ap (λ (f : FixedPart). f.settings) same)))
+
+pub returns-in-Err-clause-outcome : goal.returns-in-Err-clause-outcome
+returns-in-Err-clause-outcome c = λ x are.
+    let told = decided_is x c.args.lists.now c.fixed-fixed.result.now c.submissions-submissions.result.now c.proposals-proposals.result.now c.releases-releases.result.now c.args.now c.args.account c.args.wanted.now c.decide_proposal.result are
+    c.fixed-fixed.ensures c.submissions-submissions.ensures c.proposals-proposals.ensures c.releases-releases.ensures c.decide_proposal.ensures in
+    c.refusing.ensures ∙ sym (told ∙ ap (verdict_outcome x.fixed) c.in-Err.is)
