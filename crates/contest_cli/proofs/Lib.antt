@@ -1,2 +1,3 @@
 mod ReplayLemmas
 mod RefusalNames
+mod ExamplesCommands

@@ -50,7 +50,17 @@ ShowsSome out_old out_new err_old err_new status =
     ((text : List ℕ) × Shows text out_old out_new err_old err_new status)
     ⊎ ((status ≡ 1) × Keeps out_old.bytes out_new.bytes × Tells err_old err_new (refusal_line Memory))
 
--- words that name no command: some text is told of them, and `out` keeps what it had
+-- the first of the words, empty where there is none
+abbrev pub first_word : List Text → Text
+first_word [] = []
+first_word (name ∷ options) = name
+
+-- a command that there isn't is told by its name, and `out` keeps what it had
+abbrev pub TellsUnknown : List Text → (out_old out_new err_old err_new : Stream) → (status : ℕ) → Type 0
+TellsUnknown words out_old out_new err_old err_new status =
+    TellsWords (unknown_command (first_word words)) err_old err_new status × Keeps out_old.bytes out_new.bytes
+
+-- where there are no words some text is told, and `out` keeps what it had
 abbrev pub TellsNone : (out_old out_new err_old err_new : Stream) → (status : ℕ) → Type 0
 TellsNone out_old out_new err_old err_new status =
     ((text : List ℕ) × TellsWords text err_old err_new status) × Keeps out_old.bytes out_new.bytes

@@ -2,7 +2,7 @@
 ghost use Rattle.std.specs.Prelude.{◌≡◌, ◌≤◌, codes, map, string_bytes, IfErr, IfOk};
 ghost use Rattle.std.specs.List.{list_any};
 ghost use Rattle.contest_types.specs.Streams.{Tells, stream};
-ghost use Rattle.contest_cli.specs.Commands.{AsksHelp, NamesNone, ShowsSome, TellsNone, TellsWords, invocation_of, is_help, replay_invocation, unknown_command};
+ghost use Rattle.contest_cli.specs.Commands.{AsksHelp, NamesNone, ShowsSome, TellsNone, TellsUnknown, TellsWords, first_word, invocation_of, is_help, replay_invocation, unknown_command};
 ghost use Rattle.contest_cli.specs.Replay.{Replays};
 
 use crate::arguments::clap_command;
@@ -140,8 +140,12 @@ pub fn run<R: Read, O: Write, E: Write>(
     ensures help { AsksHelp (map (λ s. s.now) words.now)
         → ShowsSome (stream O.contents out.old) (stream O.contents out.new)
         (stream E.contents err.old) (stream E.contents err.new) result }
-    ensures unknown { NamesNone (map (λ s. s.now) words.now)
+    ensures nothing { invocation_of (map (λ s. s.now) words.now) ≡ Invocation.Nothing
         → TellsNone (stream O.contents out.old) (stream O.contents out.new)
+        (stream E.contents err.old) (stream E.contents err.new) result }
+    ensures unknown { invocation_of (map (λ s. s.now) words.now) ≡ Invocation.Unknown
+        → TellsUnknown (map (λ s. s.now) words.now)
+        (stream O.contents out.old) (stream O.contents out.new)
         (stream E.contents err.old) (stream E.contents err.new) result }
 {
     match invocation_of(words) {
@@ -173,8 +177,10 @@ fn invocation_of(words: &[&str]) -> Invocation
     Invocation::Unknown
 }
 
-// The first word, if there is one.
-fn first_of<'a>(words: &[&'a str]) -> &'a str {
+// The first word, empty where there is none.
+fn first_of<'a>(words: &[&'a str]) -> &'a str
+    ensures { result.now ≡ first_word (map (λ s. s.now) words.now) }
+{
     match words.first() {
         Some(word) => word,
         None => "",

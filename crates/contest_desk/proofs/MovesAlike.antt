@@ -146,7 +146,7 @@ released_sight a x v team =
     let opened : map (open_record y) own ≡ map (open_with x team v) (map (open_record x) own) =
     map-filter_same (open_record y) (λ s. open_with x team v (open_record x s)) (λ s. s.team == team) (λ s e. open_more_record x team v s e) x.submissions ∙ sym (map-map (open_with x team v) (open_record x) own) in
     let go : (b c : Bool) → (if b then Whole (map (own_record y) own) else (if c then Open (map (open_record y) own) else Nothing))
-        ≡ sight_with x team v (if b then Whole (map (own_record x) own) else (if c then Open (map (open_record x) own) else Nothing)) = elim [
+    ≡ sight_with x team v (if b then Whole (map (own_record x) own) else (if c then Open (map (open_record x) own) else Nothing)) = elim [
       | true ↦ λ c. ap Whole whole
       | false ↦ elim [ true ↦ ap Open opened | false ↦ refl ]
     ] in

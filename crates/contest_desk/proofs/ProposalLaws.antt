@@ -117,7 +117,7 @@ named_loaded : (id : List ℕ) (ss : List Submission) → submission_named id (m
 named_loaded id [] = refl
 named_loaded id (s ∷ ss) =
     let go : (b : Bool) → option_map of_submission (if b then Some (without_file s) else find (λ (t : Submission). bytes_eq (submission_id t.team t.number) id) (map without_file ss))
-        ≡ option_map of_submission (if b then Some s else find (λ (t : Submission). bytes_eq (submission_id t.team t.number) id) ss) = elim [ true ↦ refl | false ↦ named_loaded id ss ] in
+    ≡ option_map of_submission (if b then Some s else find (λ (t : Submission). bytes_eq (submission_id t.team t.number) id) ss) = elim [ true ↦ refl | false ↦ named_loaded id ss ] in
     go (bytes_eq (submission_id s.team s.number) id)
 
 abbrev proposed_for : FixedPart → ContestState → (now : ℕ) → (account : List ℕ) → WantedVerdict → Option SubmissionRef → Result NewVerdict Refusal

@@ -24,11 +24,7 @@ use std::alloc::{AllocError, Global};
 /// # Errors
 ///
 /// `RoleForbids`, then `Malformed` where the body is off its form; else want of memory.
-pub fn post_proposal(
-    alloc: Global,
-    judge: Option<&Id>,
-    request: Request,
-) -> Result<Posted, Refusal>
+pub fn post_proposal(alloc: Global, judge: Option<&Id>, request: Request) -> Result<Posted, Refusal>
     ensures ok { IfOk result (λ posted. posted_proposal (option_map (λ id. id.now) judge.entry) request ≡ Ok posted) }
     ensures err { IfErr result (λ e. (e ≡ Refusal.Memory) ⊎ (posted_proposal (option_map (λ id. id.now) judge.entry) request ≡ Err e)) }
     ensures forbids { IfErr result (λ e. e ≡ Refusal.Memory → is_some judge.entry ≡ true) }
@@ -82,18 +78,22 @@ pub fn propose(
         lists.releases(),
     );
     let fixed = lists.fixed();
-    match decide_proposal(fixed, submissions, proposals, releases, now, account, wanted) {
+    match decide_proposal(
+        fixed,
+        submissions,
+        proposals,
+        releases,
+        now,
+        account,
+        wanted,
+    ) {
         Ok(verdict) => accept(alloc, &fixed.settings, verdict),
         Err(refusal) => Ok(Outcome::refusing(alloc, refusal)),
     }
 }
 
 // The proposal is added and answered, and its release after it where it has one.
-fn accept(
-    alloc: Global,
-    settings: &Settings,
-    verdict: NewVerdict,
-) -> Result<Outcome, AllocError>
+fn accept(alloc: Global, settings: &Settings, verdict: NewVerdict) -> Result<Outcome, AllocError>
     ensures outcome { (f : FixedPart) → f.settings ≡ settings.now → IfOk result (λ o. o ≡ verdict_outcome f (Ok verdict)) }
     ensures ordinary { IfOk result (λ o. IsOrdinary o.reply) }
 {

@@ -45,7 +45,7 @@ named_there : (id : List ℕ) (ss : List Submission) (r : SubmissionRef) → sub
 named_there id [] r h = absurd (cc h)
 named_there id (s ∷ ss) r h =
     let go : (b : Bool) → option_map of_submission (if b then Some s else find (λ (t : Submission). bytes_eq (submission_id t.team t.number) id) ss) ≡ Some r
-        → (names r.team r.number (of_submission s) || list_any (λ t. names r.team r.number (of_submission t)) ss) ≡ true = elim [
+    → (names r.team r.number (of_submission s) || list_any (λ t. names r.team r.number (of_submission t)) ss) ≡ true = elim [
       | true ↦ λ e. (let same : of_submission s ≡ r = cc e in or_first (names r.team r.number (of_submission s)) _ (subst (λ q. names r.team r.number q ≡ true) (sym same) (names_itself r)))
       | false ↦ λ e. or_second (names r.team r.number (of_submission s)) _ (named_there id ss r e)
     ] in

@@ -53,7 +53,9 @@ pub fn decide_proposal(
         return Err(Refusal::UnknownReference);
     };
     let (team, number) = (submission.team, submission.number);
-    propose_for(fixed, proposals, releases, now, account, team, number, verdict)
+    propose_for(
+        fixed, proposals, releases, now, account, team, number, verdict,
+    )
 }
 
 // The same, where the submission and the place of the judgement type are known.
@@ -91,9 +93,7 @@ fn propose_for(
 fn submission_named<'s>(submissions: &'s [Submission], id: &[u8]) -> Option<&'s Submission>
     ensures { option_map (λ s. of_submission s.now) result ≡ submission_named id.now submissions.now }
 {
-    submissions
-        .iter()
-        .find(|submission| has_submission_id(submission.team, submission.number, id))
+    submissions.iter().find(|submission| has_submission_id(submission.team, submission.number, id))
 }
 
 // Whether a release stands on a team's submission with this number.

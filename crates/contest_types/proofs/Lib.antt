@@ -5,6 +5,7 @@ pub mod IdLemmas
 pub mod TextLemmas
 pub mod StreamLemmas
 pub mod RefusalLemmas
+mod ExamplesRefusals
 pub mod RelTimeLemmas
 pub mod DateCounts
 pub mod Times
