@@ -1,5 +1,5 @@
 -- Worked examples: what becomes of a verdict that a judge proposes for the first team's first submission.
-use Rattle.std.proofs.Common.{◌≡◌, ℕ, zero, suc, true, List, [], ◌∷◌, refl, Some, None, Result, Ok, Err}
+use Rattle.std.proofs.Common.{◌≡◌, ℕ, true, List, [], ◌∷◌, refl, Some, None, Result, Ok, Err}
 use Rattle.std.specs.Prelude.{codes}
 use Rattle.std.specs.Fmt.{digits}
 use Rattle.contest_types.specs.State.{FixedPart}
@@ -13,7 +13,6 @@ use Rattle.contest_types.specs.declared.submission.Submission.{Submission}
 use Rattle.contest_types.proofs.ExampleContest.{accepted, empty, head, minutes, settings, submitted, wrong}
 use Rattle.contest_rules.specs.Proposing.{entries_of, propose}
 use Rattle.contest_rules.specs.declared.proposing.NewVerdict.{NewVerdict}
-use Rattle.contest_rules.specs.declared.proposing.WantedVerdict.{WantedVerdict}
 
 abbrev standing : List Submission
 standing = submitted 0 1 (minutes 5) 0 ∷ []

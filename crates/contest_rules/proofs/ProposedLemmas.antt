@@ -1,18 +1,17 @@
 -- A verdict that is proposed may be added, and its release after it.
-use Rattle.std.proofs.Common.{◌≡◌, ◌∙◌, ◌<◌, ◌≤◌, ◌+◌, ℕ, zero, suc, Bool, true, false, List, [], ◌∷◌, length, map, Option, Some, None, Result, Ok, Err, refl, sym, ap, subst, arith}
-use Rattle.std.specs.Prelude.{◌&&◌, ◌||◌, ◌==◌, nat_le, nat_lt, filter, find, is_some, if◌then◌else◌}
-use Rattle.std.specs.List.{list_any, count_by}
+use Rattle.std.proofs.Common.{◌≡◌, ◌<◌, ◌+◌, ℕ, Bool, true, false, List, [], ◌∷◌, length, map, Option, Some, None, Result, Ok, Err, refl, sym, subst, arith}
+use Rattle.std.specs.Prelude.{◌||◌, ◌==◌, nat_le, nat_lt, filter, find, is_some, if◌then◌else◌}
+use Rattle.std.specs.List.{list_any}
 use Rattle.std.specs.Option.{option_map}
 use Rattle.std.specs.Str.{bytes_eq}
 use Rattle.std.proofs.lemmas.Bool.{eq-eqb}
 use Rattle.std.proofs.lemmas.Bool.Decides.{nat_tests}
-use Rattle.std.proofs.lemmas.List.{length-map}
 use Rattle.std.proofs.lemmas.List.Sums.{length-filter}
 use Rattle.contest_types.specs.Accounts.{account_named}
-use Rattle.contest_types.specs.Addable.{is_addable, are_addable, is_next_proposal, is_next_release}
+use Rattle.contest_types.specs.Addable.{is_addable, are_addable}
 use Rattle.contest_types.specs.Places.{place_of}
-use Rattle.contest_types.specs.State.{FixedPart, ContestState, SubmissionRef, add, names, of_submission, of_proposal, of_release, proposals_for, releases_on}
-use Rattle.contest_types.specs.ValidSubmissions.{has_submission, is_valid_proposal, is_valid_release}
+use Rattle.contest_types.specs.State.{ContestState, SubmissionRef, add, names, of_submission, of_proposal, of_release, proposals_for, releases_on}
+use Rattle.contest_types.specs.ValidSubmissions.{has_submission}
 use Rattle.contest_types.specs.VisibleIds.{submission_id}
 use Rattle.contest_types.specs.declared.entry.Entry.{Entry}
 use Rattle.contest_types.specs.declared.entry.Entry.TheVariants.{NewProposal, NewRelease}

@@ -1,6 +1,6 @@
 -- The objects that are served, as JSON values (Contest API 2023-06; which members each object has is
 -- this desk's choice).
-use Rattle.std.specs.Prelude.{ℕ, ◌-ℤ◌, pos, List, [], ◌++◌, Option, Some, None, codes}
+use Rattle.std.specs.Prelude.{ℕ, ◌-ℤ◌, pos, List, ◌++◌, Option, Some, None, codes}
 use Rattle.std.specs.Option.{option_map, option_map_or, option_and_then}
 use Rattle.serde_json.specs.Data.{Data, null, string, array, object, item, no_items, Members, member, no_members}
 use Rattle.contest_types.specs.VisibleIds.{submission_id}
