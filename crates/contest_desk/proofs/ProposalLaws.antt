@@ -7,10 +7,8 @@ use Rattle.contest_types.specs.Accounts.{account_named}
 use Rattle.contest_types.specs.Addable.{are_addable}
 use Rattle.contest_types.specs.Loads.{without_file}
 use Rattle.contest_types.specs.Places.{place_of}
-use Rattle.contest_types.specs.Refusals.{status_of}
 use Rattle.contest_types.specs.State.{ContestState, FixedPart, SubmissionRef, add_all, of_submission}
 use Rattle.contest_types.specs.VisibleIds.{submission_id}
-use Rattle.contest_types.specs.declared.audience.Audience.TheVariants.{Jury}
 use Rattle.contest_types.specs.declared.entry.Entry.{Entry}
 use Rattle.contest_types.specs.declared.entry.Entry.TheVariants.{NewProposal, NewRelease}
 use Rattle.contest_types.specs.declared.limits.TheConstants.{PROPOSALS}
@@ -26,7 +24,6 @@ use Rattle.contest_rules.specs.declared.proposing.WantedVerdict.{WantedVerdict}
 use Rattle.contest_rules.proofs.ProposedLemmas.{proposed_is_addable}
 use Rattle.contest_store.specs.Lists.{loaded}
 use Rattle.contest_desk.specs.Callers.{Caller, judge_of}
-use Rattle.contest_desk.specs.Outcomes.{Outcome}
 use Rattle.contest_desk.specs.PostProposal.{IsSoundProposal, posted_proposal, proposal_outcome, proposed_as, verdict_in, verdict_outcome}
 use Rattle.contest_desk.specs.Repeats.{Continues}
 use Rattle.contest_desk.specs.Replies.{refused}

@@ -1,4 +1,4 @@
-use Rattle.std.proofs.Common.{◌≡◌, ◌∙◌, ap, sym}
+use Rattle.std.proofs.Common.{◌∙◌, ap, sym}
 use Rattle.std.proofs.lemmas.Result.{IfOk-weaker}
 use Rattle.contest_types.specs.State.{ContestState, FixedPart}
 use Rattle.contest_desk.specs.PostProposal.{verdict_outcome}
