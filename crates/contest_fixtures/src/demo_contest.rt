@@ -10,14 +10,15 @@ use std::test::Fail;
 /// 2024-03-02T09:00:00Z.
 const START: u64 = 1_709_370_000_000;
 
-const MEDALS: Medals = Medals {
+/// Four places of each kind.
+pub const MEDALS: Medals = Medals {
     gold: 4,
     silver: 4,
     bronze: 4,
 };
 
 /// Five hours, the last of them frozen, with twenty minutes for a penalty.
-fn demo_head(alloc: Global, medals: Medals) -> Result<ContestHead, Fail> {
+pub fn demo_head(alloc: Global, medals: Medals) -> Result<ContestHead, Fail> {
     Ok(ContestHead {
         id: id(alloc, "demo")?,
         name: name(alloc, "Demo Cup")?,

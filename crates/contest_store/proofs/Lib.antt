@@ -1,4 +1,6 @@
 pub mod AccountLemmas
+pub mod PartLemmas
+pub mod FiledLemmas
 pub mod FixedLemmas
 pub mod ChangeLemmas
 pub mod LeaveLemmas

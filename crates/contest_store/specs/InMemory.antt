@@ -4,6 +4,8 @@ use Rattle.std.specs.Option.{option_map}
 use Rattle.contest_types.specs.Streams.{one_more}
 use Rattle.contest_types.specs.Loads.{without_file}
 use Rattle.contest_types.specs.State.{FixedPart, ContestState}
+use Rattle.contest_types.specs.declared.entry.Entry.{Entry}
+use Rattle.contest_types.specs.declared.entry.Entry.TheVariants.{NewSubmission}
 use Rattle.contest_types.specs.declared.submission.Submission.{Submission}
 use Rattle.contest_store.specs.Keeping.{Kept}
 
@@ -42,6 +44,11 @@ lists_of s = latest s.committed s.pending
 -- the contest with these submissions
 abbrev pub filed : List Submission → ContestState → ContestState
 filed submissions x = record x { submissions = submissions }
+
+-- the submission that a change adds, if it adds one
+abbrev pub submission_in : Entry → Option Submission
+submission_in (NewSubmission s) = Some s
+submission_in e = None
 
 abbrev pub contest_of : Stored → ContestState
 contest_of s = filed s.submissions (lists_of s)

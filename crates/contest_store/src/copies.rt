@@ -3,7 +3,8 @@ ghost use Rattle.std.specs.Prelude.{◌≡◌, IfOk, map};
 ghost use Rattle.contest_types.specs.Loads.{without_file};
 
 use contest_types::{
-    Clarification, Member, MemberState, Proposal, Proposer, Rejudging, Release, Rows, Submission,
+    Account, Clarification, Fixed, Member, MemberState, Proposal, Proposer, Rejudging, Release,
+    Rows, Submission,
 };
 use std::alloc::{AllocError, Global};
 
@@ -50,6 +51,27 @@ pub fn without_file(alloc: Global, submission: &Submission) -> Result<Submission
         file: Rows::new(alloc),
         key: submission.key.clone()?,
     })
+}
+
+/// The same settings, accounts and marks again.
+pub fn copied_fixed(alloc: Global, fixed: &Fixed) -> Result<Fixed, AllocError>
+    ensures { IfOk result (λ copy. copy ≡ fixed.now) }
+{
+    Ok(Fixed {
+        settings: fixed.settings.copied(alloc)?,
+        accounts: Rows::from_vec(copies(alloc, fixed.accounts.as_slice())?),
+        marks: fixed.marks,
+    })
+}
+
+impl CopyRow for Account {
+    fn copied(&self, _alloc: Global) -> Result<Account, AllocError> {
+        Ok(Account {
+            id: self.id.clone()?,
+            role: self.role,
+            digest: self.digest,
+        })
+    }
 }
 
 impl CopyRow for Submission {

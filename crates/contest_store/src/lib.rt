@@ -2,6 +2,7 @@
 #![tactic(auto)]
 
 mod copies;
+mod fixed_changes;
 mod lists;
 mod memory;
 mod store;

@@ -1,12 +1,16 @@
 //! The lists of a contest in memory.
-ghost use Rattle.std.specs.Prelude.{◌≡◌, ◌<◌, ◌≤◌, ◌+◌, ◌⊎◌, List, [], IfOk, IfNone, IfSome, IsTrue, length, slice_get, slice_set, Some};
+ghost use Rattle.std.specs.Prelude.{◌≡◌, ◌<◌, ◌≤◌, ◌+◌, ◌⊎◌, ◌++◌, ◌∷◌, List, [], IfOk, IfNone, IfSome, OnOk, length, slice_get, slice_set, Some, true};
+ghost use Rattle.contest_types.specs.Addable.{is_addable};
+ghost use Rattle.contest_types.specs.Loads.{without_file};
 ghost use Rattle.contest_types.specs.State.{add, changed_at, with_member_state};
 ghost use Rattle.contest_types.specs.declared.submission.Submission.{Submission};
 ghost use Rattle.contest_types.specs.declared.rejudging.Member.{Member as TheMember};
 ghost use Rattle.contest_types.specs.declared.rejudging.Rejudging.{Rejudging as TheRejudging};
 ghost use Rattle.contest_store.specs.InMemory.{filed, with_submissions};
+ghost use Rattle.contest_store.specs.Lists.{unfiled};
 
 use crate::copies::copies;
+use crate::fixed_changes::changed_fixed;
 use contest_types::{
     Clarification, Entry, Fixed, Member, MemberState, Proposal, Rejudging, RejudgingState, Release,
     Rows, Submission,
@@ -118,25 +122,47 @@ impl Lists {
         })
     }
 
-    /// Makes one change, and answers whether it did: changes of the fixed part and submissions, which
-    /// have a file, aren't made here. Where memory is refused the lists are of no use any more.
-    pub(crate) fn add(&mut self, alloc: Global, entry: Entry) -> Result<bool, AllocError>
-        ensures added { IfOk result (λ added. IsTrue added → (submissions : List Submission) → filed submissions self.new ≡ add (filed submissions self.old) entry) }
-        ensures filed { IfOk result (λ added. IsTrue added → self.new.submissions ≡ self.old.submissions) }
+    /// Makes one change, which may be made; of a submission the file is left out. Where memory is
+    /// refused the lists are of no use any more.
+    pub(crate) fn add(&mut self, alloc: Global, entry: Entry) -> Result<(), AllocError>
+        requires { (submissions : List Submission) × (is_addable (filed submissions self.old) entry ≡ true) }
+        ensures { OnOk result (self.new ≡ add self.old (unfiled entry)) }
     {
         match entry {
-            Entry::NewProposal(proposal) => self.proposals.push(proposal)?,
-            Entry::NewRelease(release) => self.releases.push(release)?,
-            Entry::NewClarification(clarification) => self.clarifications.push(clarification)?,
-            Entry::NewRejudging(rejudging) => self.rejudgings.push(rejudging)?,
+            Entry::NewSubmission(row) => push(&mut self.submissions, unfiled(alloc, row)),
+            Entry::NewProposal(row) => push(&mut self.proposals, row),
+            Entry::NewRelease(row) => push(&mut self.releases, row),
+            Entry::NewClarification(row) => push(&mut self.clarifications, row),
+            Entry::NewRejudging(row) => push(&mut self.rejudgings, row),
             Entry::SetMember(n, place, state) => {
                 set_member(alloc, &mut self.rejudgings, n, place, state);
+                Ok(())
             }
-            Entry::SetRejudging(n, state) => set_rejudging(&mut self.rejudgings, n, state),
-            _ => return Ok(false),
+            Entry::SetRejudging(n, state) => {
+                set_rejudging(&mut self.rejudgings, n, state);
+                Ok(())
+            }
+            entry => {
+                self.fixed = changed_fixed(alloc, &self.fixed, entry)?;
+                Ok(())
+            }
         }
-        Ok(true)
     }
+}
+
+fn push<T: Drop>(rows: &mut Vec<T>, row: T) -> Result<(), AllocError>
+    ensures { OnOk result (rows.new.items ≡ rows.old.items ++ row ∷ []) }
+{
+    rows.push(row)?;
+    Ok(())
+}
+
+fn unfiled(alloc: Global, submission: Submission) -> Submission
+    ensures { result ≡ without_file submission }
+{
+    let mut submission = submission;
+    submission.file = Rows::new(alloc);
+    submission
 }
 
 // Rejudgings are counted from 1; where there is none with this number nothing changes.

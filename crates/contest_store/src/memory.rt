@@ -1,21 +1,21 @@
 //! A contest in memory: for tests of what stands above a store.
-ghost use Rattle.std.specs.Prelude.{◌≡◌, ◌==◌, ◌&&◌, IfOk, IsTrue, OnOk, OnErr, [], None, Some, false, find, map, option_map};
-ghost use Rattle.contest_store.specs.InMemory.{committed_of, contest_of, counted, failed, gone_on, is_due, lists_of, refused, rolled_back, with_submissions};
+ghost use Rattle.std.specs.Prelude.{◌≡◌, ◌==◌, ◌&&◌, ◌++◌, IfOk, IsTrue, OnOk, OnErr, [], None, Some, true, false, find, map, option_map};
+ghost use Rattle.std.specs.Option.{option_to_list};
+ghost use Rattle.contest_store.specs.InMemory.{committed_of, contest_of, counted, failed, filed, gone_on, is_due, lists_of, refused, rolled_back, submission_in, with_submissions};
+ghost use Rattle.contest_store.specs.Lists.{unfiled};
+ghost use Rattle.contest_types.specs.Addable.{is_addable};
 ghost use Rattle.contest_types.specs.Loads.{file_of, without_file};
 ghost use Rattle.contest_types.specs.State.{add};
 ghost use Rattle.contest_types.specs.Streams.{one_more};
-ghost use Rattle.contest_types.specs.declared.entry.Entry.TheVariants.{NewSubmission};
 
-use crate::copies::{copied_bytes, without_file};
-use crate::{ContestStore, Lists, StoreError};
+use crate::copies::copied_bytes;
+use crate::{ContestStore, CopyRow, Lists, StoreError};
 use contest_types::{Entry, Fixed, Rows, Submission};
 use std::alloc::{AllocError, Global};
 use std::marker::Model;
 use std::rc::Rc;
 
-/// A contest in memory, with all its rows; changes of the settings, the accounts and the marks it
-/// doesn't keep, and answers with a fault. A call can be made to fail, to see what its callers do
-/// then.
+/// A contest in memory. A call can be made to fail, to see what its callers do then.
 #[derive(Drop)]
 pub struct MemoryStore {
     // with their files
@@ -172,49 +172,29 @@ impl MemoryStore {
         }
     }
 
-    // Makes a change, and answers whether it did: those of the fixed part aren't made. Where memory is
-    // refused nothing is changed.
-    fn add(&mut self, alloc: Global, entry: Entry) -> Result<bool, AllocError>
-        ensures ok { IfOk result (λ added. IsTrue added → contest_of self.new ≡ add (contest_of self.old) entry) }
+    // Makes a change, which may be made. Where memory is refused nothing is changed.
+    fn add(&mut self, alloc: Global, entry: Entry) -> Result<(), AllocError>
+        requires { is_addable (contest_of self.old) entry ≡ true }
+        ensures ok { OnOk result (contest_of self.new ≡ add (contest_of self.old) entry) }
         ensures kept { OnOk result (committed_of self.new ≡ committed_of self.old) }
         ensures counts { OnOk result ((self.new.faults ≡ self.old.faults) × (self.new.refusals ≡ self.old.refusals) × (self.new.commits ≡ self.old.commits)) }
         ensures err { OnErr result (self.new ≡ self.old) }
-        ensures none { IfOk result (λ added. added ≡ false → self.new ≡ self.old) }
     {
-        match entry {
-            Entry::NewSubmission(submission) => {
-                self.add_submission(alloc, submission)?;
-                Ok(true)
-            }
-            entry => self.change_lists(alloc, entry),
-        }
+        let next = self.latest().copied(alloc)?;
+        self.put(alloc, next, entry)
     }
 
-    fn change_lists(&mut self, alloc: Global, entry: Entry) -> Result<bool, AllocError>
-        ensures ok { IfOk result (λ added. IsTrue added → contest_of self.new ≡ add (contest_of self.old) entry) }
-        ensures kept { OnOk result (committed_of self.new ≡ committed_of self.old) }
-        ensures counts { OnOk result ((self.new.faults ≡ self.old.faults) × (self.new.refusals ≡ self.old.refusals) × (self.new.commits ≡ self.old.commits)) }
-        ensures err { OnErr result (self.new ≡ self.old) }
-        ensures none { IfOk result (λ added. added ≡ false → self.new ≡ self.old) }
-    {
-        let mut next = self.latest().copied(alloc)?;
-        let added = next.add(alloc, entry)?;
-        if added {
-            self.pending = Some(next);
-        }
-        Ok(added)
-    }
-
-    // Where memory is refused nothing is added.
-    fn add_submission(&mut self, alloc: Global, submission: Submission) -> Result<(), AllocError>
-        ensures ok { OnOk result (contest_of self.new ≡ add (contest_of self.old) (NewSubmission submission)) }
+    // Puts these lists, with one change, in place of the latest.
+    fn put(&mut self, alloc: Global, next: Lists, entry: Entry) -> Result<(), AllocError>
+        requires latest { next ≡ lists_of self.old }
+        requires addable { is_addable (contest_of self.old) entry ≡ true }
+        ensures ok { OnOk result (contest_of self.new ≡ add (contest_of self.old) entry) }
         ensures kept { OnOk result (committed_of self.new ≡ committed_of self.old) }
         ensures counts { OnOk result ((self.new.faults ≡ self.old.faults) × (self.new.refusals ≡ self.old.refusals) × (self.new.commits ≡ self.old.commits)) }
         ensures err { OnErr result (self.new ≡ self.old) }
     {
-        let mut next = self.latest().copied(alloc)?;
-        next.submissions.push(without_file(alloc, &submission)?)?;
-        self.submissions.push(submission)?;
+        let mut next = next;
+        change(alloc, &mut self.submissions, &mut next, entry)?;
         self.pending = Some(next);
         Ok(())
     }
@@ -261,12 +241,7 @@ impl ContestStore for MemoryStore {
             return Err(StoreError::Fault);
         }
         match self.add(alloc, entry) {
-            Ok(true) => Ok(()),
-            Ok(false) => {
-                self.count();
-                self.roll_back();
-                Err(StoreError::Fault)
-            }
+            Ok(()) => Ok(()),
             Err(AllocError) => Err(self.refuse()),
         }
     }
@@ -288,6 +263,46 @@ fn one_more(count: u64) -> u64
     ensures { result ≡ one_more count }
 {
     if count < u64::MAX { count + 1 } else { count }
+}
+
+// Makes one change to the lists, and to the submissions with their files.
+fn change(
+    alloc: Global,
+    submissions: &mut Vec<Submission>,
+    lists: &mut Lists,
+    entry: Entry,
+) -> Result<(), AllocError>
+    requires { is_addable (filed submissions.old.items lists.old) entry ≡ true }
+    ensures lists { OnOk result (lists.new ≡ add lists.old (unfiled entry)) }
+    ensures submissions { OnOk result (submissions.new.items ≡ submissions.old.items ++ option_to_list (submission_in entry)) }
+    ensures err { OnErr result (submissions.new.items ≡ submissions.old.items) }
+{
+    let submission = submission_in(alloc, &entry)?;
+    lists.add(alloc, entry)?;
+    push(submissions, submission)
+}
+
+// The submission, with its file, that a change adds, if it adds one.
+fn submission_in(alloc: Global, entry: &Entry) -> Result<Option<Submission>, AllocError>
+    ensures { IfOk result (λ found. found ≡ submission_in entry.now) }
+{
+    match entry {
+        Entry::NewSubmission(submission) => Ok(Some(submission.copied(alloc)?)),
+        _ => Ok(None),
+    }
+}
+
+fn push(submissions: &mut Vec<Submission>, submission: Option<Submission>) -> Result<(), AllocError>
+    ensures ok { OnOk result (submissions.new.items ≡ submissions.old.items ++ option_to_list submission) }
+    ensures err { OnErr result (submissions.new.items ≡ submissions.old.items) }
+{
+    match submission {
+        Some(submission) => {
+            submissions.push(submission)?;
+            Ok(())
+        }
+        None => Ok(()),
+    }
 }
 
 fn with_number(submissions: &[Submission], team: usize, number: usize) -> Option<&Submission>

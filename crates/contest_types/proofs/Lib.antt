@@ -1,5 +1,6 @@
 pub mod PlaceLemmas
 pub mod AdditionLemmas
+pub mod CopyLemmas
 pub mod SetupLemmas
 pub mod IdLemmas
 pub mod TextLemmas

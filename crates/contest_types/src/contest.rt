@@ -1,5 +1,8 @@
 //! What a contest is set up with before any other setting.
+ghost use Rattle.std.specs.Prelude.{◌≡◌, IfOk};
+
 use crate::{Id, Moment, Name, TimeSpan};
+use std::alloc::AllocError;
 
 /// The head of a contest: all of its contest object but the marks of the clock (Contest API 2023-06,
 /// contest object).
@@ -20,6 +23,27 @@ pub struct ContestHead {
     pub verification: bool,
     /// How many places each kind of medal has.
     pub medals: Medals,
+}
+
+impl ContestHead {
+    /// The same head again.
+    ///
+    /// # Errors
+    ///
+    /// Want of memory alone.
+    pub(crate) fn copied(&self) -> Result<ContestHead, AllocError>
+        ensures { IfOk result (λ copy. copy ≡ self.now) }
+    {
+        Ok(ContestHead {
+            id: self.id.clone()?,
+            name: self.name.clone()?,
+            duration: self.duration,
+            freeze: self.freeze,
+            penalty_time: self.penalty_time,
+            verification: self.verification,
+            medals: self.medals,
+        })
+    }
 }
 
 /// How many ranks win each kind of medal, at most 100 each.

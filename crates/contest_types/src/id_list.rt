@@ -19,6 +19,14 @@ pub trait Identified {
     /// Its id.
     fn id(&self) -> &Id
         ensures { result.now ≡ id self.now };
+
+    /// The same row again.
+    ///
+    /// # Errors
+    ///
+    /// Want of memory alone.
+    fn copied(&self, alloc: Global) -> Result<Self, AllocError>
+        ensures { IfOk result (λ row. row ≡ self.now) };
 }
 
 /// What a list has under a row's id.
@@ -96,6 +104,23 @@ impl<T: Identified + Drop> IdList<T> {
             Ok(()) => Ok(()),
             Err(_) => unreachable!(),
         }
+    }
+}
+
+impl<T: Identified + Drop> IdList<T> {
+    /// The same rows again.
+    ///
+    /// # Errors
+    ///
+    /// Want of memory alone.
+    pub fn copied(&self, alloc: Global) -> Result<Self, AllocError>
+        ensures { IfOk result (λ copy. copy ≡ self.now) }
+    {
+        let mut copy = IdList::new(alloc);
+        for row in self.as_slice() {
+            copy.push(alloc, row.copied(alloc)?)?;
+        }
+        Ok(copy)
     }
 }
 

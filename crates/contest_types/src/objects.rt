@@ -1,6 +1,7 @@
 //! The objects that settings list.
 use crate::id_list::Identified;
 use crate::{Id, Name, Rows};
+use std::alloc::{AllocError, Global};
 
 /// A judgement type (Contest API 2023-06, judgement-types).
 #[derive(PartialEq, Eq, Drop)]
@@ -67,6 +68,15 @@ impl Identified for JudgementType {
     fn id(&self) -> &Id {
         &self.id
     }
+
+    fn copied(&self, _alloc: Global) -> Result<JudgementType, AllocError> {
+        Ok(JudgementType {
+            id: self.id.clone()?,
+            name: self.name.clone()?,
+            solved: self.solved,
+            penalty: self.penalty,
+        })
+    }
 }
 
 impl Identified for Language {
@@ -74,6 +84,14 @@ impl Identified for Language {
 
     fn id(&self) -> &Id {
         &self.id
+    }
+
+    fn copied(&self, _alloc: Global) -> Result<Language, AllocError> {
+        Ok(Language {
+            id: self.id.clone()?,
+            name: self.name.clone()?,
+            entry_point_required: self.entry_point_required,
+        })
     }
 }
 
@@ -83,6 +101,15 @@ impl Identified for Problem {
     fn id(&self) -> &Id {
         &self.id
     }
+
+    fn copied(&self, _alloc: Global) -> Result<Problem, AllocError> {
+        Ok(Problem {
+            id: self.id.clone()?,
+            label: self.label.clone()?,
+            name: self.name.clone()?,
+            ordinal: self.ordinal,
+        })
+    }
 }
 
 impl Identified for Group {
@@ -91,6 +118,13 @@ impl Identified for Group {
     fn id(&self) -> &Id {
         &self.id
     }
+
+    fn copied(&self, _alloc: Global) -> Result<Group, AllocError> {
+        Ok(Group {
+            id: self.id.clone()?,
+            name: self.name.clone()?,
+        })
+    }
 }
 
 impl Identified for Team {
@@ -98,5 +132,14 @@ impl Identified for Team {
 
     fn id(&self) -> &Id {
         &self.id
+    }
+
+    fn copied(&self, alloc: Global) -> Result<Team, AllocError> {
+        Ok(Team {
+            id: self.id.clone()?,
+            name: self.name.clone()?,
+            groups: Rows::from_vec(Vec::from_slice(alloc, self.groups.as_slice())?),
+            hidden: self.hidden,
+        })
     }
 }

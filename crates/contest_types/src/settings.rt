@@ -11,7 +11,7 @@ use crate::{
     Cause, ContestHead, Group, JudgementType, Language, Medals, Name, Problem, RowFault, Team,
     TimeSpan, limits,
 };
-use std::alloc::Global;
+use std::alloc::{AllocError, Global};
 use std::marker::Model;
 
 /// The settings of a contest, always valid: ids and labels stand once, references hold, and all is
@@ -56,6 +56,24 @@ impl Settings {
             problems: IdList::new(alloc),
             groups: IdList::new(alloc),
             teams: IdList::new(alloc),
+        })
+    }
+
+    /// The same settings again.
+    ///
+    /// # Errors
+    ///
+    /// Want of memory alone.
+    pub fn copied(&self, alloc: Global) -> Result<Settings, AllocError>
+        ensures { IfOk result (λ copy. copy ≡ self.now) }
+    {
+        Ok(Settings {
+            head: self.head.copied()?,
+            types: self.types.copied(alloc)?,
+            languages: self.languages.copied(alloc)?,
+            problems: self.problems.copied(alloc)?,
+            groups: self.groups.copied(alloc)?,
+            teams: self.teams.copied(alloc)?,
         })
     }
 

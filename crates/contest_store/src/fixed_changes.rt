@@ -1,0 +1,125 @@
+//! Changes of the settings and the accounts.
+ghost use Rattle.std.specs.Prelude.{◌≡◌, ◌++◌, ◌∷◌, [], true, Bool, Ok, Result, IfOk, IfErr, OnOk, filter};
+ghost use Rattle.contest_types.specs.Accounts.{comes_before, with_account};
+ghost use Rattle.contest_types.specs.Addable.{is_addable, is_added};
+ghost use Rattle.contest_types.specs.Additions.{IsFaultOf};
+ghost use Rattle.contest_types.specs.State.{ContestState, add};
+ghost use Rattle.contest_types.specs.declared.refusal.Cause.{Cause as TheCause};
+
+use crate::copies::copied_fixed;
+use contest_types::{Account, Entry, Fixed, RowFault, Rows};
+use std::alloc::{AllocError, Global};
+use std::mem::replace;
+use std::rc::Rc;
+
+/// The settings, the accounts and the marks as a change leaves them.
+///
+/// # Errors
+///
+/// Want of memory alone.
+pub fn changed_fixed(alloc: Global, fixed: &Fixed, entry: Entry) -> Result<Rc<Fixed>, AllocError>
+    requires { (x : ContestState) × ((x.fixed ≡ fixed.now) × (is_addable x entry ≡ true)) }
+    ensures { IfOk result (λ changed. (x : ContestState) → x.fixed ≡ fixed.now → changed.value ≡ (add x entry).fixed) }
+{
+    let mut changed = copied_fixed(alloc, fixed)?;
+    change(alloc, &mut changed, entry)?;
+    Ok(Rc::new(alloc, changed)?)
+}
+
+// Rows of what isn't the fixed part change nothing of it.
+fn change(alloc: Global, fixed: &mut Fixed, entry: Entry) -> Result<(), AllocError>
+    requires { (x : ContestState) × ((x.fixed ≡ fixed.old) × (is_addable x entry ≡ true)) }
+    ensures { OnOk result ((x : ContestState) → x.fixed ≡ fixed.old → fixed.new ≡ (add x entry).fixed) }
+{
+    match entry {
+        Entry::NewType(row) => added(fixed.settings.add_judgement_type(alloc, row)),
+        Entry::NewLanguage(row) => added(fixed.settings.add_language(alloc, row)),
+        Entry::NewProblem(row) => added(fixed.settings.add_problem(alloc, row)),
+        Entry::NewGroup(row) => added(fixed.settings.add_group(alloc, row)),
+        Entry::NewTeam(row) => added(fixed.settings.add_team(alloc, row)),
+        Entry::NewAccount(row) => add_account(alloc, &mut fixed.accounts, row),
+        Entry::SetStart(start) => {
+            fixed.marks.start = start;
+            Ok(())
+        }
+        Entry::SetThaw(thaw) => {
+            fixed.marks.thaw = Some(thaw);
+            Ok(())
+        }
+        Entry::SetFinalized(finalized) => {
+            fixed.marks.finalized = Some(finalized);
+            Ok(())
+        }
+        _ => Ok(()),
+    }
+}
+
+// What came of a row that may be added: it is added, unless memory was refused.
+fn added(outcome: Result<bool, RowFault>) -> Result<(), AllocError>
+    requires { (answer : Result Bool TheCause) × ((is_added answer ≡ true) × (IfOk outcome (λ done. answer ≡ Ok done) × IfErr outcome (λ e. IsFaultOf e answer))) }
+    ensures { OnOk result (outcome ≡ Ok true) }
+{
+    match outcome {
+        Ok(true) => Ok(()),
+        Err(RowFault::Memory) => Err(AllocError),
+        Ok(false) | Err(RowFault::Fault(_)) => unreachable!(),
+    }
+}
+
+// Adds an account at the place that its id has. Where memory is refused the accounts are of no use any
+// more.
+fn add_account(
+    alloc: Global,
+    accounts: &mut Rows<Account>,
+    account: Account,
+) -> Result<(), AllocError>
+    ensures { OnOk result (accounts.new ≡ with_account accounts.old account) }
+{
+    let mut lower = Vec::new(alloc);
+    let mut higher = Vec::new(alloc);
+    let others = replace(accounts, Rows::new(alloc)).into_vec();
+    part(others, &account, &mut lower, &mut higher)?;
+    lower.push(account)?;
+    lower.append(&mut higher)?;
+    *accounts = Rows::from_vec(lower);
+    Ok(())
+}
+
+// Those that come before an account, and those that come after it.
+fn part(
+    others: Vec<Account>,
+    account: &Account,
+    lower: &mut Vec<Account>,
+    higher: &mut Vec<Account>,
+) -> Result<(), AllocError>
+    ensures lower { OnOk result (lower.new.items ≡ lower.old.items ++ filter (λ b. comes_before b account.now) others.items) }
+    ensures higher { OnOk result (higher.new.items ≡ higher.old.items ++ filter (λ b. comes_before account.now b) others.items) }
+{
+    for other in others {
+        put(other, account, lower, higher)?;
+    }
+    Ok(())
+}
+
+fn put(
+    other: Account,
+    account: &Account,
+    lower: &mut Vec<Account>,
+    higher: &mut Vec<Account>,
+) -> Result<(), AllocError>
+    ensures lower { OnOk result (lower.new.items ≡ lower.old.items ++ filter (λ b. comes_before b account.now) (other ∷ [])) }
+    ensures higher { OnOk result (higher.new.items ≡ higher.old.items ++ filter (λ b. comes_before account.now b) (other ∷ [])) }
+{
+    if comes_before(&other, account) {
+        lower.push(other)?;
+    } else if comes_before(account, &other) {
+        higher.push(other)?;
+    }
+    Ok(())
+}
+
+fn comes_before(a: &Account, b: &Account) -> bool
+    ensures { result ≡ comes_before a.now b.now }
+{
+    a.id.cmp(&b.id).is_lt()
+}
