@@ -1,4 +1,4 @@
-//! Changes of the settings and the accounts.
+//! Changes of the settings, the accounts and the marks.
 ghost use Rattle.std.specs.Prelude.{◌≡◌, ◌++◌, ◌∷◌, [], true, Bool, Ok, Result, IfOk, IfErr, OnOk, filter};
 ghost use Rattle.contest_types.specs.Accounts.{comes_before, with_account};
 ghost use Rattle.contest_types.specs.Addable.{is_addable, is_added};
@@ -12,7 +12,8 @@ use std::alloc::{AllocError, Global};
 use std::mem::replace;
 use std::rc::Rc;
 
-/// The settings, the accounts and the marks as a change leaves them.
+/// The settings, the accounts and the marks as a change, which may be made, leaves them: they are
+/// shared, so it is made in a copy.
 ///
 /// # Errors
 ///
