@@ -18,7 +18,7 @@ use Rattle.contest_types.specs.declared.account.Role.{Role}
 use Rattle.contest_types.specs.declared.account.Role.TheVariants as role
 use Rattle.contest_types.proofs.PlaceLemmas.{and_left, and_right}
 use Rattle.contest_types.proofs.ValidParts.{parts, four}
-use Rattle.contest_desk.specs.Callers.{Caller, holder_of, caller_of, is_jury, judge_of, judging_id, team_for, team_of}
+use Rattle.contest_desk.specs.Callers.{Caller, holder_of, caller_of, judge_of, judging_id, team_for, team_of}
 use Rattle.contest_desk.specs.declared.request.Credential.{Credential}
 use Rattle.contest_desk.specs.declared.request.Credential.TheVariants.{Absent, Token, Bad}
 use Rattle.contest_desk.proofs.PostLemmas.{number_fits}
@@ -75,16 +75,16 @@ found_named p (b ∷ bs) a h =
     ] in
     go (p b) h (bytes_eq b.id a.id) refl
 
-named_judge : (accounts : List Account) (a : Account) → is_some (account_named accounts a.id) ≡ true → IfSome (judging_id a) (λ account. is_some (account_named accounts account) ≡ true)
-named_judge accounts a there =
-    let go : (b : Bool) → IfSome (if b then Some a.id else None) (λ account. is_some (account_named accounts account) ≡ true) = elim [ true ↦ there | false ↦ tt ] in
-    go (is_jury a.role)
+named_judge : (accounts : List Account) (id : List ℕ) (r : Role) → is_some (account_named accounts id) ≡ true → IfSome (judging_id r id) (λ account. is_some (account_named accounts account) ≡ true)
+named_judge accounts id (role.Team team) there = tt
+named_judge accounts id role.Judge there = there
+named_judge accounts id role.Admin there = there
 
 held_judge : (accounts : List Account) (p : Account → Bool) (who : Caller) (o : Option Account) → find p accounts ≡ o → option_map Some o ≡ Some who → IfSome (judge_of who) (λ account. is_some (account_named accounts account) ≡ true)
 held_judge accounts p who None at is = absurd (cc is)
 held_judge accounts p who (Some a) at is =
     let e : Some a ≡ who = cc is in
-    subst (λ w. IfSome (judge_of w) (λ account. is_some (account_named accounts account) ≡ true)) e (named_judge accounts a (found_named p accounts a at))
+    subst (λ w. IfSome (judge_of w) (λ account. is_some (account_named accounts account) ≡ true)) e (named_judge accounts a.id a.role (found_named p accounts a at))
 
 -- a caller who judges does so by an account that is there
 pub judge_there : (f : FixedPart) (credential : Credential) (who : Caller) → caller_of f credential ≡ Some who → IfSome (judge_of who) (λ account. is_some (account_named f.accounts account) ≡ true)

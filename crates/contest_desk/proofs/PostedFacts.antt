@@ -1,6 +1,6 @@
 -- What every command keeps to.
-use Rattle.std.proofs.Common.{◌≡◌, ◌+◌, ◌<◌, ℕ, Bool, true, false, List, [], length, Some, None, Result, Ok, Err, refl, ap}
-use Rattle.std.specs.Prelude.{◌⊎◌, ◌==◌, IfSome, is_some, if◌then◌else◌}
+use Rattle.std.proofs.Common.{◌≡◌, ◌+◌, ◌<◌, ℕ, true, false, List, [], length, Some, None, Result, Ok, Err, refl, ap}
+use Rattle.std.specs.Prelude.{◌⊎◌, ◌==◌, IfSome, is_some}
 use Rattle.contest_types.specs.Accounts.{account_named}
 use Rattle.contest_types.specs.Refusals.{status_of}
 use Rattle.contest_types.specs.State.{FixedPart}
@@ -8,7 +8,7 @@ use Rattle.contest_types.specs.declared.account.Role.{Role}
 use Rattle.contest_types.specs.declared.account.Role.TheVariants as role
 use Rattle.contest_types.specs.declared.audience.Audience.TheVariants as audience
 use Rattle.contest_types.specs.declared.refusal.Refusal.{Refusal}
-use Rattle.contest_desk.specs.Callers.{Caller, audience_for, audience_of, is_jury, judge_of, team_for, team_of}
+use Rattle.contest_desk.specs.Callers.{Caller, audience_for, audience_of, judge_of, judging_id, team_for, team_of}
 use Rattle.contest_desk.specs.Commands.{IsSoundPost, poster}
 use Rattle.contest_desk.specs.Outcomes.{Outcome}
 use Rattle.contest_desk.specs.declared.command.Posted.{Posted}
@@ -41,18 +41,14 @@ pub team_sight : (who : Caller) (team : ℕ) → team_of who ≡ Some team → a
 team_sight None team is = absurd (cc is)
 team_sight (Some account) team is = role_sight account.role team is
 
-jury_role : (r : Role) → is_jury r ≡ true → audience_for r ≡ audience.Jury
-jury_role (role.Team team) is = absurd (cc is)
-jury_role role.Judge is = refl
-jury_role role.Admin is = refl
-
-judging_sight : (r : Role) (id account : List ℕ) (b : Bool) → is_jury r ≡ b → (if b then Some id else None) ≡ Some account → audience_for r ≡ audience.Jury
-judging_sight r id account true is h = jury_role r is
-judging_sight r id account false is h = absurd (cc h)
+judging_sight : (r : Role) (id account : List ℕ) → judging_id r id ≡ Some account → audience_for r ≡ audience.Jury
+judging_sight (role.Team team) id account is = absurd (cc is)
+judging_sight role.Judge id account is = refl
+judging_sight role.Admin id account is = refl
 
 pub jury_sight : (who : Caller) (account : List ℕ) → judge_of who ≡ Some account → audience_of who ≡ audience.Jury
 jury_sight None account is = absurd (cc is)
-jury_sight (Some a) account is = judging_sight a.role a.id account (is_jury a.role) refl is
+jury_sight (Some a) account is = judging_sight a.role a.id account is
 
 -- a caller speaks for a team that is there, or judges by an account that is
 pub record IsThere (f : FixedPart) (who : Caller) : Type 0 where

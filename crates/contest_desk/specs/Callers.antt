@@ -1,5 +1,5 @@
 -- Who asks, and what each role may do (Contest Control System Requirements, "Users and Roles"; RFC 6750).
-use Rattle.std.specs.Prelude.{ℕ, Bool, true, false, List, Option, Some, None, find, if◌then◌else◌}
+use Rattle.std.specs.Prelude.{ℕ, List, Option, Some, None, find}
 use Rattle.std.specs.Option.{option_map, option_and_then}
 use Rattle.std.specs.Str.{bytes_eq}
 use Rattle.sha2.specs.Sha256.{sha256}
@@ -42,18 +42,15 @@ team_for (role.Team team) = Some team
 team_for role.Judge = None
 team_for role.Admin = None
 
--- a judge or an administrator
-abbrev pub is_jury : Role → Bool
-is_jury (role.Team team) = false
-is_jury role.Judge = true
-is_jury role.Admin = true
-
-abbrev pub judging_id : Account → Option (List ℕ)
-judging_id account = if is_jury account.role then Some account.id else None
+-- a judge and an administrator judge by the id of their account
+abbrev pub judging_id : Role → (id : List ℕ) → Option (List ℕ)
+judging_id (role.Team team) id = None
+judging_id role.Judge id = Some id
+judging_id role.Admin id = Some id
 
 -- the id of the account that a caller judges by
 abbrev pub judge_of : Caller → Option (List ℕ)
-judge_of who = option_and_then judging_id who
+judge_of who = option_and_then (λ (a : Account). judging_id a.role a.id) who
 
 -- the team that the caller speaks for
 abbrev pub team_of : Caller → Option ℕ

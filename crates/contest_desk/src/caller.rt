@@ -3,7 +3,7 @@ ghost use Rattle.std.specs.Prelude.{◌≡◌, ◌<◌, ◌+◌, ◌^◌, Option
 ghost use Rattle.std.specs.Option.{option_map};
 ghost use Rattle.contest_types.specs.declared.account.Account.{Account as TheAccount};
 ghost use Rattle.contest_types.specs.Masks.{audience_at};
-ghost use Rattle.contest_desk.specs.Callers.{audience_of, audience_for, caller_of, holder_of, is_jury, judge_of, team_for, team_of};
+ghost use Rattle.contest_desk.specs.Callers.{audience_of, audience_for, caller_of, holder_of, judge_of, team_for, team_of};
 
 use crate::Credential;
 use contest_types::{Account, Audience, Fixed, Id, Role};
@@ -96,18 +96,8 @@ pub fn judge_of<'a>(caller: &Caller<'a>) -> Option<&'a Id>
     ensures { option_map (λ id. id.now) result ≡ judge_of caller.now }
 {
     let account = caller.account?;
-    if is_jury(account.role) {
-        Some(&account.id)
-    } else {
-        None
-    }
-}
-
-fn is_jury(role: Role) -> bool
-    ensures { result ≡ is_jury role }
-{
-    match role {
-        Role::Team(_) => false,
-        Role::Judge | Role::Admin => true,
+    match account.role {
+        Role::Team(_) => None,
+        Role::Judge | Role::Admin => Some(&account.id),
     }
 }

@@ -24,7 +24,8 @@ use Rattle.contest_types.specs.declared.submission.Release.{Release}
 use Rattle.contest_types.specs.declared.submission.Submission.{Submission}
 use Rattle.contest_types.proofs.PlaceLemmas.{both_true, or_left, or_right, place_within}
 use Rattle.contest_rules.specs.Laws.{ProposedIsAddable}
-use Rattle.contest_rules.specs.Proposing.{entries_of, is_released, new_verdict, proposals_made, propose, propose_for, submission_named}
+use Rattle.contest_types.specs.ValidRejudgings.{is_released}
+use Rattle.contest_rules.specs.Proposing.{entries_of, new_verdict, proposals_made, propose, propose_for, submission_named}
 use Rattle.contest_rules.specs.declared.proposing.NewVerdict.{NewVerdict}
 use Rattle.contest_rules.specs.declared.proposing.WantedVerdict.{WantedVerdict}
 

@@ -1,11 +1,12 @@
 -- What becomes of a verdict that a judge proposes (DOMjudge manual, "Judging": verification; ids and the order
 -- of refusals are own).
-use Rattle.std.specs.Prelude.{ℕ, Bool, nat_le, List, [], ◌∷◌, map, Option, Some, None, Result, Ok, Err, find, if◌then◌else◌}
-use Rattle.std.specs.List.{list_any, count_by}
+use Rattle.std.specs.Prelude.{ℕ, nat_le, List, [], ◌∷◌, map, Option, Some, None, Result, Ok, Err, find, if◌then◌else◌}
+use Rattle.std.specs.List.{count_by}
 use Rattle.std.specs.Option.{option_map}
 use Rattle.std.specs.Str.{bytes_eq}
 use Rattle.contest_types.specs.Places.{place_of}
-use Rattle.contest_types.specs.State.{FixedPart, SubmissionRef, names, of_submission, of_proposal, of_release}
+use Rattle.contest_types.specs.State.{FixedPart, SubmissionRef, names, of_submission, of_proposal}
+use Rattle.contest_types.specs.ValidRejudgings.{is_released}
 use Rattle.contest_types.specs.VisibleIds.{submission_id}
 use Rattle.contest_types.specs.declared.entry.Entry.{Entry}
 use Rattle.contest_types.specs.declared.entry.Entry.TheVariants.{NewProposal, NewRelease}
@@ -24,11 +25,7 @@ use Rattle.contest_rules.specs.declared.proposing.WantedVerdict.{WantedVerdict}
 abbrev pub submission_named : List ℕ → List Submission → Option SubmissionRef
 submission_named id ss = option_map of_submission (find (λ (s : Submission). bytes_eq (submission_id s.team s.number) id) ss)
 
--- a release stands on a team's submission with this number
-abbrev pub is_released : (team number : ℕ) → List Release → Bool
-is_released team number vs = list_any (λ (v : Release). names team number (of_release v)) vs
-
--- how many verdicts were proposed for it
+-- how many verdicts were proposed for a team's submission with this number
 abbrev pub proposals_made : (team number : ℕ) → List Proposal → ℕ
 proposals_made team number ps = count_by (λ (p : Proposal). names team number (of_proposal p)) ps
 

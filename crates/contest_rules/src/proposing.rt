@@ -2,7 +2,8 @@
 ghost use Rattle.std.specs.Prelude.{◌≡◌};
 ghost use Rattle.std.specs.Option.{option_map};
 ghost use Rattle.contest_types.specs.State.{of_submission};
-ghost use Rattle.contest_rules.specs.Proposing.{is_released, propose, propose_for, proposals_made, release_at_once, submission_named};
+ghost use Rattle.contest_types.specs.ValidRejudgings.{is_released};
+ghost use Rattle.contest_rules.specs.Proposing.{propose, propose_for, proposals_made, release_at_once, submission_named};
 
 use contest_types::limits::PROPOSALS;
 use contest_types::{Fixed, Id, Moment, Proposal, Proposer, Refusal, Release, Submission};

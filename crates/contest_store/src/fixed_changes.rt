@@ -6,8 +6,8 @@ ghost use Rattle.contest_types.specs.Additions.{IsFaultOf};
 ghost use Rattle.contest_types.specs.State.{ContestState, add};
 ghost use Rattle.contest_types.specs.declared.refusal.Cause.{Cause as TheCause};
 
-use crate::copies::copied_fixed;
-use contest_types::{Account, Entry, Fixed, RowFault, Rows};
+use crate::copies::{CopyRow, copied_fixed};
+use contest_types::{Account, Entry, Fixed, Identified, RowFault, Rows};
 use std::alloc::{AllocError, Global};
 use std::mem::replace;
 use std::rc::Rc;
@@ -18,37 +18,51 @@ use std::rc::Rc;
 /// # Errors
 ///
 /// Want of memory alone.
-pub fn changed_fixed(alloc: Global, fixed: &Fixed, entry: Entry) -> Result<Rc<Fixed>, AllocError>
-    requires { (x : ContestState) × ((x.fixed ≡ fixed.now) × (is_addable x entry ≡ true)) }
-    ensures { IfOk result (λ changed. (x : ContestState) → x.fixed ≡ fixed.now → changed.value ≡ (add x entry).fixed) }
+pub fn changed_fixed(alloc: Global, fixed: &Fixed, entry: &Entry) -> Result<Rc<Fixed>, AllocError>
+    requires { (x : ContestState) × ((x.fixed ≡ fixed.now) × (is_addable x entry.now ≡ true)) }
+    ensures { IfOk result (λ changed. (x : ContestState) → x.fixed ≡ fixed.now → changed.value ≡ (add x entry.now).fixed) }
 {
-    let mut changed = copied_fixed(alloc, fixed)?;
-    change(alloc, &mut changed, entry)?;
-    Ok(Rc::new(alloc, changed)?)
+    shared(alloc, changed(alloc, copied_fixed(alloc, fixed)?, entry)?)
+}
+
+fn changed(alloc: Global, fixed: Fixed, entry: &Entry) -> Result<Fixed, AllocError>
+    requires { (x : ContestState) × ((x.fixed ≡ fixed) × (is_addable x entry.now ≡ true)) }
+    ensures { IfOk result (λ changed. (x : ContestState) → x.fixed ≡ fixed → changed ≡ (add x entry.now).fixed) }
+{
+    let mut fixed = fixed;
+    change(alloc, &mut fixed, entry)?;
+    Ok(fixed)
+}
+
+fn shared(alloc: Global, fixed: Fixed) -> Result<Rc<Fixed>, AllocError>
+    ensures { IfOk result (λ shared. shared.value ≡ fixed) }
+{
+    Ok(Rc::new(alloc, fixed)?)
 }
 
 // Rows of what isn't the fixed part change nothing of it.
-fn change(alloc: Global, fixed: &mut Fixed, entry: Entry) -> Result<(), AllocError>
-    requires { (x : ContestState) × ((x.fixed ≡ fixed.old) × (is_addable x entry ≡ true)) }
-    ensures { OnOk result ((x : ContestState) → x.fixed ≡ fixed.old → fixed.new ≡ (add x entry).fixed) }
+fn change(alloc: Global, fixed: &mut Fixed, entry: &Entry) -> Result<(), AllocError>
+    requires { (x : ContestState) × ((x.fixed ≡ fixed.old) × (is_addable x entry.now ≡ true)) }
+    ensures { OnOk result ((x : ContestState) → x.fixed ≡ fixed.old → fixed.new ≡ (add x entry.now).fixed) }
 {
+    let settings = &mut fixed.settings;
     match entry {
-        Entry::NewType(row) => added(fixed.settings.add_judgement_type(alloc, row)),
-        Entry::NewLanguage(row) => added(fixed.settings.add_language(alloc, row)),
-        Entry::NewProblem(row) => added(fixed.settings.add_problem(alloc, row)),
-        Entry::NewGroup(row) => added(fixed.settings.add_group(alloc, row)),
-        Entry::NewTeam(row) => added(fixed.settings.add_team(alloc, row)),
-        Entry::NewAccount(row) => add_account(alloc, &mut fixed.accounts, row),
+        Entry::NewType(row) => added(settings.add_judgement_type(alloc, row.copied(alloc)?)),
+        Entry::NewLanguage(row) => added(settings.add_language(alloc, row.copied(alloc)?)),
+        Entry::NewProblem(row) => added(settings.add_problem(alloc, row.copied(alloc)?)),
+        Entry::NewGroup(row) => added(settings.add_group(alloc, row.copied(alloc)?)),
+        Entry::NewTeam(row) => added(settings.add_team(alloc, row.copied(alloc)?)),
+        Entry::NewAccount(row) => add_account(alloc, &mut fixed.accounts, row.copied(alloc)?),
         Entry::SetStart(start) => {
-            fixed.marks.start = start;
+            fixed.marks.start = *start;
             Ok(())
         }
         Entry::SetThaw(thaw) => {
-            fixed.marks.thaw = Some(thaw);
+            fixed.marks.thaw = Some(*thaw);
             Ok(())
         }
         Entry::SetFinalized(finalized) => {
-            fixed.marks.finalized = Some(finalized);
+            fixed.marks.finalized = Some(*finalized);
             Ok(())
         }
         _ => Ok(()),

@@ -1,7 +1,6 @@
 //! The lists of a contest in memory.
-ghost use Rattle.std.specs.Prelude.{◌≡◌, ◌<◌, ◌≤◌, ◌+◌, ◌⊎◌, ◌++◌, ◌∷◌, List, [], IfOk, IfNone, IfSome, OnOk, length, slice_get, slice_set, Some, true};
+ghost use Rattle.std.specs.Prelude.{◌≡◌, ◌<◌, ◌≤◌, ◌+◌, ◌⊎◌, ◌++◌, ◌∷◌, List, [], IfOk, IfNone, IfSome, OnOk, OnErr, length, slice_get, slice_set, Some, true};
 ghost use Rattle.contest_types.specs.Addable.{is_addable};
-ghost use Rattle.contest_types.specs.Loads.{without_file};
 ghost use Rattle.contest_types.specs.State.{add, changed_at, with_member_state};
 ghost use Rattle.contest_types.specs.declared.submission.Submission.{Submission};
 ghost use Rattle.contest_types.specs.declared.rejudging.Member.{Member as TheMember};
@@ -9,7 +8,7 @@ ghost use Rattle.contest_types.specs.declared.rejudging.Rejudging.{Rejudging as 
 ghost use Rattle.contest_store.specs.InMemory.{filed, with_submissions};
 ghost use Rattle.contest_store.specs.Lists.{unfiled};
 
-use crate::copies::copies;
+use crate::copies::{CopyRow, copies, without_file};
 use crate::fixed_changes::changed_fixed;
 use contest_types::{
     Clarification, Entry, Fixed, Member, MemberState, Proposal, Rejudging, RejudgingState, Release,
@@ -122,24 +121,29 @@ impl Lists {
         })
     }
 
-    /// Makes one change, which may be made; of a submission the file is left out. Where memory is
-    /// refused the lists are of no use any more.
-    pub(crate) fn add(&mut self, alloc: Global, entry: Entry) -> Result<(), AllocError>
-        requires { (submissions : List Submission) × (is_addable (filed submissions self.old) entry ≡ true) }
-        ensures { OnOk result (self.new ≡ add self.old (unfiled entry)) }
+    /// Makes one change, which may be made; of a submission the file is left out.
+    ///
+    /// # Errors
+    ///
+    /// Want of memory alone. The lists are then as before.
+    pub(crate) fn add(&mut self, alloc: Global, entry: &Entry) -> Result<(), AllocError>
+        requires { (submissions : List Submission) × (is_addable (filed submissions self.old) entry.now ≡ true) }
+        ensures ok { OnOk result (self.new ≡ add self.old (unfiled entry.now)) }
+        ensures err { OnErr result (self.new ≡ self.old) }
     {
         match entry {
-            Entry::NewSubmission(row) => push(&mut self.submissions, unfiled(alloc, row)),
-            Entry::NewProposal(row) => push(&mut self.proposals, row),
-            Entry::NewRelease(row) => push(&mut self.releases, row),
-            Entry::NewClarification(row) => push(&mut self.clarifications, row),
-            Entry::NewRejudging(row) => push(&mut self.rejudgings, row),
+            Entry::NewSubmission(row) => push(&mut self.submissions, without_file(alloc, row)?),
+            Entry::NewProposal(row) => push(&mut self.proposals, row.copied(alloc)?),
+            Entry::NewRelease(row) => push(&mut self.releases, *row),
+            Entry::NewClarification(row) => push(&mut self.clarifications, row.copied(alloc)?),
+            Entry::NewRejudging(row) => push(&mut self.rejudgings, row.copied(alloc)?),
             Entry::SetMember(n, place, state) => {
-                set_member(alloc, &mut self.rejudgings, n, place, state);
+                let state = state.copied(alloc)?;
+                set_member(alloc, &mut self.rejudgings, *n, *place, state);
                 Ok(())
             }
             Entry::SetRejudging(n, state) => {
-                set_rejudging(&mut self.rejudgings, n, state);
+                set_rejudging(&mut self.rejudgings, *n, *state);
                 Ok(())
             }
             entry => {
@@ -150,19 +154,17 @@ impl Lists {
     }
 }
 
-fn push<T: Drop>(rows: &mut Vec<T>, row: T) -> Result<(), AllocError>
-    ensures { OnOk result (rows.new.items ≡ rows.old.items ++ row ∷ []) }
+/// Adds a row at the end. Where memory is refused the rows are as before.
+///
+/// # Errors
+///
+/// Want of memory alone.
+pub fn push<T: Drop>(rows: &mut Vec<T>, row: T) -> Result<(), AllocError>
+    ensures ok { OnOk result (rows.new.items ≡ rows.old.items ++ row ∷ []) }
+    ensures err { OnErr result (rows.new.items ≡ rows.old.items) }
 {
     rows.push(row)?;
     Ok(())
-}
-
-fn unfiled(alloc: Global, submission: Submission) -> Submission
-    ensures { result ≡ without_file submission }
-{
-    let mut submission = submission;
-    submission.file = Rows::new(alloc);
-    submission
 }
 
 // Rejudgings are counted from 1; where there is none with this number nothing changes.

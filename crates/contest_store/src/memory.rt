@@ -9,6 +9,7 @@ ghost use Rattle.contest_types.specs.State.{add};
 ghost use Rattle.contest_types.specs.Streams.{one_more};
 
 use crate::copies::copied_bytes;
+use crate::lists::push;
 use crate::{ContestStore, CopyRow, Lists, StoreError};
 use contest_types::{Entry, Fixed, Rows, Submission};
 use std::alloc::{AllocError, Global};
@@ -72,7 +73,7 @@ impl MemoryStore {
     }
 
     /// Lets so many more calls go on, and the one after them fail. That it then fails is shown by tests
-    /// (store_tests and desk_walks): the clauses of the calls are those of any store.
+    /// (library_tests and desk_walks): the clauses of the calls are those of any store.
     pub fn fail_after(&mut self, calls: u32)
         ensures { self.new ≡ record self.old { calls_left = Some calls } }
     {
@@ -173,9 +174,9 @@ impl MemoryStore {
     }
 
     // Makes a change, which may be made. Where memory is refused nothing is changed.
-    fn add(&mut self, alloc: Global, entry: Entry) -> Result<(), AllocError>
-        requires { is_addable (contest_of self.old) entry ≡ true }
-        ensures ok { OnOk result (contest_of self.new ≡ add (contest_of self.old) entry) }
+    fn add(&mut self, alloc: Global, entry: &Entry) -> Result<(), AllocError>
+        requires { is_addable (contest_of self.old) entry.now ≡ true }
+        ensures ok { OnOk result (contest_of self.new ≡ add (contest_of self.old) entry.now) }
         ensures kept { OnOk result (committed_of self.new ≡ committed_of self.old) }
         ensures counts { OnOk result ((self.new.faults ≡ self.old.faults) × (self.new.refusals ≡ self.old.refusals) × (self.new.commits ≡ self.old.commits)) }
         ensures err { OnErr result (self.new ≡ self.old) }
@@ -185,10 +186,10 @@ impl MemoryStore {
     }
 
     // Puts these lists, with one change, in place of the latest.
-    fn put(&mut self, alloc: Global, next: Lists, entry: Entry) -> Result<(), AllocError>
+    fn put(&mut self, alloc: Global, next: Lists, entry: &Entry) -> Result<(), AllocError>
         requires latest { next ≡ lists_of self.old }
-        requires addable { is_addable (contest_of self.old) entry ≡ true }
-        ensures ok { OnOk result (contest_of self.new ≡ add (contest_of self.old) entry) }
+        requires addable { is_addable (contest_of self.old) entry.now ≡ true }
+        ensures ok { OnOk result (contest_of self.new ≡ add (contest_of self.old) entry.now) }
         ensures kept { OnOk result (committed_of self.new ≡ committed_of self.old) }
         ensures counts { OnOk result ((self.new.faults ≡ self.old.faults) × (self.new.refusals ≡ self.old.refusals) × (self.new.commits ≡ self.old.commits)) }
         ensures err { OnErr result (self.new ≡ self.old) }
@@ -240,7 +241,7 @@ impl ContestStore for MemoryStore {
         if self.fails() {
             return Err(StoreError::Fault);
         }
-        match self.add(alloc, entry) {
+        match self.add(alloc, &entry) {
             Ok(()) => Ok(()),
             Err(AllocError) => Err(self.refuse()),
         }
@@ -270,38 +271,17 @@ fn change(
     alloc: Global,
     submissions: &mut Vec<Submission>,
     lists: &mut Lists,
-    entry: Entry,
+    entry: &Entry,
 ) -> Result<(), AllocError>
-    requires { is_addable (filed submissions.old.items lists.old) entry ≡ true }
-    ensures lists { OnOk result (lists.new ≡ add lists.old (unfiled entry)) }
-    ensures submissions { OnOk result (submissions.new.items ≡ submissions.old.items ++ option_to_list (submission_in entry)) }
+    requires { is_addable (filed submissions.old.items lists.old) entry.now ≡ true }
+    ensures lists { OnOk result (lists.new ≡ add lists.old (unfiled entry.now)) }
+    ensures submissions { OnOk result (submissions.new.items ≡ submissions.old.items ++ option_to_list (submission_in entry.now)) }
     ensures err { OnErr result (submissions.new.items ≡ submissions.old.items) }
 {
-    let submission = submission_in(alloc, &entry)?;
     lists.add(alloc, entry)?;
-    push(submissions, submission)
-}
-
-// The submission, with its file, that a change adds, if it adds one.
-fn submission_in(alloc: Global, entry: &Entry) -> Result<Option<Submission>, AllocError>
-    ensures { IfOk result (λ found. found ≡ submission_in entry.now) }
-{
     match entry {
-        Entry::NewSubmission(submission) => Ok(Some(submission.copied(alloc)?)),
-        _ => Ok(None),
-    }
-}
-
-fn push(submissions: &mut Vec<Submission>, submission: Option<Submission>) -> Result<(), AllocError>
-    ensures ok { OnOk result (submissions.new.items ≡ submissions.old.items ++ option_to_list submission) }
-    ensures err { OnErr result (submissions.new.items ≡ submissions.old.items) }
-{
-    match submission {
-        Some(submission) => {
-            submissions.push(submission)?;
-            Ok(())
-        }
-        None => Ok(()),
+        Entry::NewSubmission(submission) => push(submissions, submission.copied(alloc)?),
+        _ => Ok(()),
     }
 }
 

@@ -12,8 +12,12 @@ use Rattle.contest_types.specs.declared.rejudging.Member.{Member}
 use Rattle.contest_types.specs.declared.rejudging.MemberState.{MemberState}
 use Rattle.contest_types.specs.declared.rejudging.MemberState.TheVariants as member
 
+-- a release stands on a team's submission with this number
+abbrev pub is_released : (team number : ℕ) → List Release → Bool
+is_released team number vs = list_any (λ (v : Release). names team number (of_release v)) vs
+
 abbrev pub has_release : ContestState → (team number : ℕ) → Bool
-has_release x team number = list_any (λ (v : Release). names team number (of_release v)) x.releases
+has_release x team number = is_released team number x.releases
 
 -- the judgement type and the account of a member's state are there
 abbrev pub is_valid_state : FixedPart → MemberState → Bool

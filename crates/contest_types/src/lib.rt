@@ -46,6 +46,7 @@ pub use digest::Digest;
 pub use entry::Entry;
 pub use fixed::Fixed;
 pub use id::{Id, ids_are_ascii, is_id};
+pub use id_list::Identified;
 pub use marks::Marks;
 pub use minute::Minute;
 pub use moment::{Moment, one_moment, one_text, print_time, text_is_counted};

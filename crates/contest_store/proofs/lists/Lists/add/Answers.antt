@@ -4,8 +4,8 @@ use Rattle.contest_store.specs.Lists.{unfiled}
 use Rattle.contest_store.proofs.FiledLemmas.{OfNoRow, fixed_changed}
 use Rattle.contest_store.proofs.lists.Lists.add.Goals as goal
 
-pub returns-in_ok-self-inside-in_default : goal.returns-in_ok-self-inside-in_default
-returns-in_ok-self-inside-in_default c =
+pub returns-in_ok-self-inside-in_default-clause-ok : goal.returns-in_ok-self-inside-in_default-clause-ok
+returns-in_ok-self-inside-in_default-clause-ok c =
     let was : ContestState = record {
       fixed = c.self.inside.fixed.value;
       submissions = c.self.inside.submissions.items;
@@ -14,7 +14,7 @@ returns-in_ok-self-inside-in_default c =
       clarifications = c.self.inside.clarifications.items;
       rejudgings = c.self.inside.rejudgings.items;
     } in
-    let other : OfNoRow c.args.entry = record {
+    let other : OfNoRow c.args.entry.now = record {
       submission = c.in_default.not-NewSubmission;
       proposal = c.in_default.not-NewProposal;
       release = c.in_default.not-NewRelease;
@@ -23,5 +23,5 @@ returns-in_ok-self-inside-in_default c =
       member = c.in_default.not-SetMember;
       state = c.in_default.not-SetRejudging;
     } in
-    fixed_changed was c.args.entry c.in_ok-self-inside-in_default.field-0.value other (c.in_ok-self-inside-in_default.ensures was (sym c.deref.ensures))
-    ∙ ap (λ x. add x (unfiled c.args.entry)) c.self.view_is
+    fixed_changed was c.args.entry.now c.in_ok-self-inside-in_default.field-0.value other (c.in_ok-self-inside-in_default.ensures was (sym c.deref.ensures))
+    ∙ ap (λ x. add x (unfiled c.args.entry.now)) c.self.view_is

@@ -2,7 +2,7 @@
 ghost use Rattle.std.specs.Prelude.{◌≡◌, []};
 ghost use Rattle.contest_types.specs.State.{FixedPart};
 ghost use Rattle.contest_store.specs.InMemory.{contest_of, with_submissions};
-ghost use Rattle.store_tests.specs.FirstChanges.{IsBare};
+ghost use Rattle.library_tests.specs.FirstChanges.{IsBare};
 
 use crate::first_changes::{bare, first_change};
 use contest_store::{ContestStore, Lists, MemoryStore, StoreError};
