@@ -1,0 +1,5 @@
+mod StepLemmas
+mod NumberLemmas
+mod KeyLemmas
+mod TimeLemmas
+mod SubmissionLemmas

@@ -1,0 +1,9 @@
+//! Whether the lists of a contest are a valid contest: one test for each list, each with work that
+//! grows little faster than the list.
+#![tactic(auto)]
+
+mod keys;
+mod numbering;
+mod standing;
+mod submissions;
+mod times;
