@@ -3,3 +3,5 @@ mod NumberLemmas
 mod KeyLemmas
 mod TimeLemmas
 mod SubmissionLemmas
+mod PairLemmas
+mod ReleaseLemmas

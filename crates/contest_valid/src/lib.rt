@@ -3,7 +3,9 @@
 #![tactic(auto)]
 
 mod keys;
+mod named;
 mod numbering;
+mod releases;
 mod standing;
 mod submissions;
 mod times;
