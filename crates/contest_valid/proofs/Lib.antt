@@ -5,3 +5,6 @@ mod TimeLemmas
 mod SubmissionLemmas
 mod PairLemmas
 mod ReleaseLemmas
+mod AccountLemmas
+mod CountLemmas
+mod ProposalLemmas

@@ -2,9 +2,11 @@
 //! grows little faster than the list.
 #![tactic(auto)]
 
+mod accounts;
 mod keys;
 mod named;
 mod numbering;
+mod proposals;
 mod releases;
 mod standing;
 mod submissions;
