@@ -1,8 +1,10 @@
 -- Accounts by their ids, as one more comes to them.
-use Rattle.std.proofs.Common.{◌≡◌, ℕ, ◌+◌, ◌<◌, get_or, take, length, Bool, true, false, List, [], ◌∷◌, ◌++◌, Some, refl, sym, ◌∙◌, ap}
-use Rattle.std.specs.Prelude.{unwrap_or, if◌then◌else◌}
+use Rattle.std.proofs.Common.{Option, None, ◌≡◌, ℕ, ◌+◌, ◌<◌, get_or, take, length, Bool, true, false, List, [], ◌∷◌, ◌++◌, Some, refl, sym, ◌∙◌, ap}
+use Rattle.std.specs.Prelude.{unwrap_or, if◌then◌else◌, is_some}
+use Rattle.std.specs.Option.{option_map, option_map_or}
 use Rattle.std.specs.Str.{bytes_eq}
 use Rattle.std.proofs.lemmas.List.{take_more}
+use Rattle.contest_types.specs.Accounts.{account_named}
 use Rattle.contest_types.specs.declared.account.Account.{Account}
 use Rattle.contest_types.specs.declared.account.Role.{Role}
 use Rattle.contest_types.proofs.PlaceLemmas.{same_bytes}
@@ -36,3 +38,14 @@ pub next_role : (accounts : List Account) (i : ℕ) (a : Account) (id : List ℕ
 next_role accounts i a id l e =
     let grown : take (i + 1) accounts ≡ take i accounts ++ a ∷ [] = rw (← e) at (take_more accounts i a l) in
     role_more (take i accounts) a id ∙ ap (λ as'. role_named as' id) (sym grown)
+
+pub has_role : (accounts : List Account) (id : List ℕ) → is_some (account_named accounts id) ≡ is_some (role_named accounts id)
+has_role accounts id =
+    let go : (o : Option Account) → is_some o ≡ is_some (option_map (λ (a : Account). a.role) o) = elim [ None ↦ refl | Some a ↦ refl ] in
+    go (account_named accounts id)
+
+-- what an account may do goes by its role
+pub by_role : (accounts : List Account) (id : List ℕ) (may : Role → Bool) → option_map_or (λ (a : Account). may a.role) (account_named accounts id) false ≡ option_map_or may (role_named accounts id) false
+by_role accounts id may =
+    let go : (o : Option Account) → option_map_or (λ (a : Account). may a.role) o false ≡ option_map_or may (option_map (λ (a : Account). a.role) o) false = elim [ None ↦ refl | Some a ↦ refl ] in
+    go (account_named accounts id)

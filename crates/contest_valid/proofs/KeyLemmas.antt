@@ -73,7 +73,7 @@ first_of_its_own p ks = none_kept p ks ∙ ap (λ n. nat_le (n + 1) 1) (length-f
 pub different_numbered : {K : Type 0} (same : K → K → Bool) (ks : List K) → different same ks ≡ list_all (λ n. nat_le n 1) (numbered same ks)
 different_numbered same = alike (different_grows same) (numbers_grow same 1) (λ before k. first_of_its_own (λ j. same j k) before)
 
-any_same : {X : Type 0} (p q : X → Bool) → ((x : X) → p x ≡ q x) → (xs : List X) → list_any p xs ≡ list_any q xs
+pub any_same : {X : Type 0} (p q : X → Bool) → ((x : X) → p x ≡ q x) → (xs : List X) → list_any p xs ≡ list_any q xs
 any_same p q h [] = refl
 any_same p q h (x ∷ xs) = ap (λ b. b || list_any p xs) (h x) ∙ ap (λ b. q x || b) (any_same p q h xs)
 

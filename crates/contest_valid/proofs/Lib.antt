@@ -8,3 +8,4 @@ mod ReleaseLemmas
 mod AccountLemmas
 mod CountLemmas
 mod ProposalLemmas
+mod TalkLemmas

@@ -1,16 +1,13 @@
 -- The proposals for each submission, by which of those each one is.
-use Rattle.std.proofs.Common.{◌≡◌, ℕ, List, length, map, filter, Option, Some, None, refl, sym, ◌∙◌, ap}
-use Rattle.std.specs.Prelude.{◌&&◌, nat_eq, nat_le, nat_lt, count_by, is_some}
+use Rattle.std.proofs.Common.{◌≡◌, ℕ, List, length, map, filter, refl, sym, ◌∙◌, ap}
+use Rattle.std.specs.Prelude.{◌&&◌, nat_eq, nat_le, nat_lt, count_by}
 use Rattle.std.specs.List.{list_all}
-use Rattle.std.specs.Option.{option_map}
 use Rattle.std.proofs.Math.Bool.{and_assoc}
 use Rattle.std.proofs.lemmas.List.Folds.{list_all-map}
-use Rattle.contest_types.specs.Accounts.{account_named}
 use Rattle.contest_types.specs.Series.{in_each}
 use Rattle.contest_types.specs.State.{FixedPart, ContestState, of_proposal}
 use Rattle.contest_types.specs.ValidSubmissions.{has_submission, is_valid_proposal, has_valid_proposals, for_one_submission, is_imported, is_there}
 use Rattle.contest_types.specs.declared.limits.TheConstants.{PROPOSALS}
-use Rattle.contest_types.specs.declared.account.Account.{Account}
 use Rattle.contest_types.specs.declared.proposal.Proposal.{Proposal}
 use Rattle.contest_types.specs.declared.proposal.Proposer.{Proposer}
 use Rattle.contest_types.specs.declared.proposal.Proposer.TheVariants as proposer
@@ -41,9 +38,7 @@ pub for_submissions : (x : ContestState) (ps : List Proposal) (pairs : List (ℕ
 for_submissions x ps pairs h = ap (list_all (λ k. has_submission x k.0 k.1)) h ∙ list_all-map (λ k. has_submission x k.0 k.1) pair ps
 
 there_by_role : (f : FixedPart) (p : Proposer) → has_proposer f.accounts p ≡ is_there f p
-there_by_role f (proposer.Account id) =
-    let go : (o : Option Account) → is_some (option_map (λ (a : Account). a.role) o) ≡ is_some o = elim [ None ↦ refl | Some a ↦ refl ] in
-    go (account_named f.accounts id)
+there_by_role f (proposer.Account id) = refl
 there_by_role f proposer.Import = refl
 
 pub have_proposers : (f : FixedPart) (ps : List Proposal) → list_all (λ (p : Proposal). has_proposer f.accounts p.proposer) ps ≡ list_all (λ (p : Proposal). is_there f p.proposer) ps

@@ -16,7 +16,7 @@ role_named accounts id = option_map (λ (a : Account). a.role) (account_named ac
 
 -- who proposed is one of the accounts, or a file of verdicts
 abbrev pub has_proposer : List Account → Proposer → Bool
-has_proposer accounts (proposer.Account id) = is_some (role_named accounts id)
+has_proposer accounts (proposer.Account id) = is_some (account_named accounts id)
 has_proposer accounts proposer.Import = true
 
 -- the role that a map has for an id

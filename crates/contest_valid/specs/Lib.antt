@@ -1,3 +1,4 @@
 pub mod Numbering
 pub mod Keys
 pub mod Accounts
+pub mod Talk

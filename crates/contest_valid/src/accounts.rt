@@ -1,6 +1,7 @@
 //! The accounts of a contest, found by their ids.
-ghost use Rattle.std.specs.Prelude.{◌≡◌, ℕ, List, Option, IfOk, OnOk};
+ghost use Rattle.std.specs.Prelude.{◌≡◌, ℕ, List, Option, IfOk, OnOk, is_some};
 ghost use Rattle.std.specs.Borrow.{Bor};
+ghost use Rattle.contest_types.specs.Accounts.{account_named};
 ghost use Rattle.contest_types.specs.declared.account.Role.{Role as TheRole};
 ghost use Rattle.contest_valid.specs.Accounts.{AreRoles, role_named, role_in, with_role};
 
@@ -39,6 +40,14 @@ impl<'a> Accounts<'a> {
     {
         let roles = roles_of(alloc, accounts)?;
         Ok(Accounts { accounts, roles })
+    }
+
+    /// Whether there is an account with this id.
+    #[tactic(auto, using(crate::proofs::AccountLemmas::has_role))]
+    pub(crate) fn has(&self, id: &Id) -> bool
+        ensures { result ≡ is_some (account_named self.now id.now) }
+    {
+        self.role(id).is_some()
     }
 
     /// The role of the account with this id, if there is one.

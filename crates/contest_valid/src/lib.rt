@@ -3,11 +3,15 @@
 #![tactic(auto)]
 
 mod accounts;
+mod addressees;
+mod clarifications;
 mod keys;
 mod named;
 mod numbering;
 mod proposals;
 mod releases;
+mod replies;
+mod senders;
 mod standing;
 mod submissions;
 mod times;

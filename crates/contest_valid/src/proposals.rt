@@ -80,7 +80,7 @@ fn has_proposer(accounts: &Accounts<'_>, proposer: &Proposer) -> bool
     ensures { result ≡ has_proposer accounts.now proposer.now }
 {
     match proposer {
-        Proposer::Account(id) => accounts.role(id).is_some(),
+        Proposer::Account(id) => accounts.has(id),
         Proposer::Import => true,
     }
 }
