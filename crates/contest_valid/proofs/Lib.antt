@@ -9,3 +9,4 @@ mod AccountLemmas
 mod CountLemmas
 mod ProposalLemmas
 mod TalkLemmas
+mod MemberLemmas

@@ -102,3 +102,10 @@ all_both p q (x ∷ xs) = ap (λ b. (p x && q x) && b) (all_both p q xs) ∙ bot
 
 pub in_each_both : {X : Type 0} (together : X → X → Bool) (p q : List X → Bool) (xs : List X) → in_each together (λ own. p own && q own) xs ≡ (in_each together p xs && in_each together q xs)
 in_each_both together p q xs = all_both (λ x. p (filter (together x) xs)) (λ x. q (filter (together x) xs)) xs
+
+-- two tests of which the second is looked at where the first holds
+pub and_then : (a b both : Bool) → (a && b) ≡ both → a ≡ true → b ≡ both
+and_then a b both h e = ap (λ c. c && b) (sym e) ∙ h
+
+pub and_else : (a b both : Bool) → (a && b) ≡ both → a ≡ false → a ≡ both
+and_else a b both h e = e ∙ (ap (λ c. c && b) (sym e) ∙ h)

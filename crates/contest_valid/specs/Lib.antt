@@ -2,3 +2,4 @@ pub mod Numbering
 pub mod Keys
 pub mod Accounts
 pub mod Talk
+pub mod Members
