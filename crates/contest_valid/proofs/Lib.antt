@@ -10,3 +10,4 @@ mod CountLemmas
 mod ProposalLemmas
 mod TalkLemmas
 mod MemberLemmas
+mod WholeLemmas

@@ -3,3 +3,4 @@ pub mod Keys
 pub mod Accounts
 pub mod Talk
 pub mod Members
+pub mod Files

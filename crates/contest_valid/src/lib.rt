@@ -17,3 +17,6 @@ mod senders;
 mod standing;
 mod submissions;
 mod times;
+mod valid;
+
+pub use valid::is_valid;
