@@ -11,3 +11,5 @@ mod ProposalLemmas
 mod TalkLemmas
 mod MemberLemmas
 mod WholeLemmas
+mod Examples
+mod TableLemmas

@@ -1,5 +1,5 @@
 //! Whether the clarifications of each addressee count up and aren't too many.
-ghost use Rattle.std.specs.Prelude.{◌≡◌, ◌++◌, ◌∷◌, [], nat_le, count_by, filter, IfOk, OnOk, map};
+ghost use Rattle.std.specs.Prelude.{◌≡◌, nat_le, count_by, filter, IfOk, map};
 ghost use Rattle.contest_types.specs.Series.{in_each, count_up};
 ghost use Rattle.contest_types.specs.ValidClarifications.{to_one_addressee, are_valid_clarifications};
 ghost use Rattle.contest_types.specs.declared.clarification.Clarification.{Clarification as TheClarification};
@@ -69,21 +69,19 @@ fn addressees_of(
 ) -> Result<Vec<Option<usize>>, AllocError>
     ensures { IfOk result (λ addressees. addressees.items ≡ map addressee_of clarifications.now) }
 {
-    let mut addressees = Vec::new(alloc);
-    for clarification in clarifications {
-        addressees.push(team_in(clarification.addressee))?;
-    }
-    Ok(addressees)
+    clarifications
+        .iter()
+        .map(|clarification| team_in(clarification.addressee))
+        .collect(alloc)
 }
 
 fn numbers_of(alloc: Global, clarifications: &[Clarification]) -> Result<Vec<usize>, AllocError>
     ensures { IfOk result (λ numbers. numbers.items ≡ map (λ (c : TheClarification). c.number) clarifications.now) }
 {
-    let mut numbers = Vec::new(alloc);
-    for clarification in clarifications {
-        numbers.push(clarification.number)?;
-    }
-    Ok(numbers)
+    clarifications
+        .iter()
+        .map(|clarification| clarification.number)
+        .collect(alloc)
 }
 
 fn addressees_of_direction(
@@ -93,22 +91,15 @@ fn addressees_of_direction(
 ) -> Result<Vec<Option<usize>>, AllocError>
     ensures { IfOk result (λ addressees. addressees.items ≡ map addressee_of (filter (is_of from_jury) clarifications.now)) }
 {
-    let mut addressees = Vec::new(alloc);
-    for clarification in clarifications {
-        push_addressee(&mut addressees, from_jury, clarification)?;
-    }
-    Ok(addressees)
+    clarifications
+        .iter()
+        .filter(|clarification| is_of(from_jury, clarification))
+        .map(|clarification| team_in(clarification.addressee))
+        .collect(alloc)
 }
 
-fn push_addressee(
-    addressees: &mut Vec<Option<usize>>,
-    from_jury: bool,
-    clarification: &Clarification,
-) -> Result<(), AllocError>
-    ensures { OnOk result (addressees.new.items ≡ addressees.old.items ++ map addressee_of (filter (is_of from_jury) (clarification.now ∷ []))) }
+fn is_of(from_jury: bool, clarification: &Clarification) -> bool
+    ensures { result ≡ is_of from_jury clarification.now }
 {
-    if clarification.from_jury == from_jury {
-        addressees.push(team_in(clarification.addressee))?;
-    }
-    Ok(())
+    clarification.from_jury == from_jury
 }

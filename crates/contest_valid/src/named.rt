@@ -30,9 +30,8 @@ pub(crate) fn submissions_stand(
 fn pairs_of(alloc: Global, submissions: &[Submission]) -> Result<Vec<(usize, usize)>, AllocError>
     ensures { IfOk result (λ pairs. pairs.items ≡ map (λ (s : TheSubmission). pair_of (of_submission s)) submissions.now) }
 {
-    let mut pairs = Vec::new(alloc);
-    for submission in submissions {
-        pairs.push((submission.team, submission.number))?;
-    }
-    Ok(pairs)
+    submissions
+        .iter()
+        .map(|submission| (submission.team, submission.number))
+        .collect(alloc)
 }

@@ -1,5 +1,5 @@
 //! Whether the proposed verdicts of a contest are valid.
-ghost use Rattle.std.specs.Prelude.{◌≡◌, ◌++◌, ◌∷◌, [], nat_le, nat_lt, count_by, filter, IfOk, OnOk, length, map};
+ghost use Rattle.std.specs.Prelude.{◌≡◌, nat_le, nat_lt, count_by, filter, IfOk, length, map};
 ghost use Rattle.std.specs.List.{list_all};
 ghost use Rattle.contest_types.specs.Series.{in_each};
 ghost use Rattle.contest_types.specs.State.{of_proposal};
@@ -103,11 +103,10 @@ fn are_imported_once(alloc: Global, proposals: &[Proposal]) -> Result<bool, Allo
 fn pairs_of(alloc: Global, proposals: &[Proposal]) -> Result<Vec<(usize, usize)>, AllocError>
     ensures { IfOk result (λ pairs. pairs.items ≡ map (λ (p : TheProposal). pair_of (of_proposal p)) proposals.now) }
 {
-    let mut pairs = Vec::new(alloc);
-    for proposal in proposals {
-        pairs.push((proposal.team, proposal.number))?;
-    }
-    Ok(pairs)
+    proposals
+        .iter()
+        .map(|proposal| (proposal.team, proposal.number))
+        .collect(alloc)
 }
 
 // The submissions that imported proposals are for.
@@ -117,18 +116,18 @@ fn pairs_of_imported(
 ) -> Result<Vec<(usize, usize)>, AllocError>
     ensures { IfOk result (λ pairs. pairs.items ≡ map (λ (p : TheProposal). pair_of (of_proposal p)) (filter is_imported proposals.now)) }
 {
-    let mut pairs = Vec::new(alloc);
-    for proposal in proposals {
-        push_imported(&mut pairs, proposal)?;
-    }
-    Ok(pairs)
+    proposals
+        .iter()
+        .filter(|proposal| is_imported(proposal))
+        .map(|proposal| (proposal.team, proposal.number))
+        .collect(alloc)
 }
 
-fn push_imported(pairs: &mut Vec<(usize, usize)>, proposal: &Proposal) -> Result<(), AllocError>
-    ensures { OnOk result (pairs.new.items ≡ pairs.old.items ++ map (λ (p : TheProposal). pair_of (of_proposal p)) (filter is_imported (proposal.now ∷ []))) }
+fn is_imported(proposal: &Proposal) -> bool
+    ensures { result ≡ is_imported proposal.now }
 {
-    if let Proposer::Import = proposal.proposer {
-        pairs.push((proposal.team, proposal.number))?;
+    match proposal.proposer {
+        Proposer::Account(_) => false,
+        Proposer::Import => true,
     }
-    Ok(())
 }

@@ -59,19 +59,14 @@ pub(crate) fn pairs_of(
 ) -> Result<Vec<(usize, usize)>, AllocError>
     ensures { IfOk result (λ pairs. pairs.items ≡ map (λ (v : TheRelease). pair_of (of_release v)) releases.now) }
 {
-    let mut pairs = Vec::new(alloc);
-    for release in releases {
-        pairs.push((release.team, release.number))?;
-    }
-    Ok(pairs)
+    releases
+        .iter()
+        .map(|release| (release.team, release.number))
+        .collect(alloc)
 }
 
 fn rounds_of(alloc: Global, releases: &[Release]) -> Result<Vec<usize>, AllocError>
     ensures { IfOk result (λ rounds. rounds.items ≡ map (λ (v : TheRelease). v.round) releases.now) }
 {
-    let mut rounds = Vec::new(alloc);
-    for release in releases {
-        rounds.push(release.round)?;
-    }
-    Ok(rounds)
+    releases.iter().map(|release| release.round).collect(alloc)
 }

@@ -1,5 +1,5 @@
 //! Whether the clarifications that others answer stand.
-ghost use Rattle.std.specs.Prelude.{◌≡◌, ◌++◌, ◌∷◌, [], true, IfOk, OnOk, map};
+ghost use Rattle.std.specs.Prelude.{◌≡◌, true, IfOk, map};
 ghost use Rattle.std.specs.List.{list_all, filter_map};
 ghost use Rattle.std.specs.Option.{option_map, option_map_or};
 ghost use Rattle.contest_types.specs.declared.clarification.Clarification.{Clarification as TheClarification};
@@ -32,11 +32,10 @@ fn pairs_of(
 ) -> Result<Vec<(Option<usize>, usize)>, AllocError>
     ensures { IfOk result (λ pairs. pairs.items ≡ map pair_of_clarification clarifications.now) }
 {
-    let mut pairs = Vec::new(alloc);
-    for clarification in clarifications {
-        pairs.push((team_in(clarification.addressee), clarification.number))?;
-    }
-    Ok(pairs)
+    clarifications
+        .iter()
+        .map(|clarification| (team_in(clarification.addressee), clarification.number))
+        .collect(alloc)
 }
 
 // What the clarifications answer.
@@ -46,21 +45,14 @@ fn pairs_of_replies(
 ) -> Result<Vec<(Option<usize>, usize)>, AllocError>
     ensures { IfOk result (λ pairs. pairs.items ≡ filter_map (λ (c : TheClarification). option_map pair_in c.reply) clarifications.now) }
 {
-    let mut pairs = Vec::new(alloc);
-    for clarification in clarifications {
-        push_reply(&mut pairs, clarification.reply)?;
-    }
-    Ok(pairs)
+    clarifications
+        .iter()
+        .filter_map(|clarification| clarification.reply.map(pair_in))
+        .collect(alloc)
 }
 
-fn push_reply(
-    pairs: &mut Vec<(Option<usize>, usize)>,
-    reply: Option<Reference>,
-) -> Result<(), AllocError>
-    ensures { OnOk result (pairs.new.items ≡ pairs.old.items ++ filter_map (option_map pair_in) (reply ∷ [])) }
+fn pair_in(reference: Reference) -> (Option<usize>, usize)
+    ensures { result ≡ pair_in reference }
 {
-    if let Some(reference) = reply {
-        pairs.push((team_in(reference.addressee), reference.number))?;
-    }
-    Ok(())
+    (team_in(reference.addressee), reference.number)
 }

@@ -81,7 +81,7 @@ fn is_to(team: usize, to: Addressee) -> bool
 {
     match to {
         Addressee::All => false,
-        Addressee::Team(other) => team == other,
+        Addressee::Team(addressed) => team == addressed,
     }
 }
 

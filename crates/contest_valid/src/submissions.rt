@@ -104,21 +104,19 @@ fn are_few(alloc: Global, submissions: &[Submission]) -> Result<bool, AllocError
 fn teams_of(alloc: Global, submissions: &[Submission]) -> Result<Vec<usize>, AllocError>
     ensures { IfOk result (λ teams. teams.items ≡ map (λ (s : TheSubmission). s.team) submissions.now) }
 {
-    let mut teams = Vec::new(alloc);
-    for submission in submissions {
-        teams.push(submission.team)?;
-    }
-    Ok(teams)
+    submissions
+        .iter()
+        .map(|submission| submission.team)
+        .collect(alloc)
 }
 
 fn numbers_of(alloc: Global, submissions: &[Submission]) -> Result<Vec<usize>, AllocError>
     ensures { IfOk result (λ numbers. numbers.items ≡ map (λ (s : TheSubmission). s.number) submissions.now) }
 {
-    let mut numbers = Vec::new(alloc);
-    for submission in submissions {
-        numbers.push(submission.number)?;
-    }
-    Ok(numbers)
+    submissions
+        .iter()
+        .map(|submission| submission.number)
+        .collect(alloc)
 }
 
 // Whether no team has a key twice.

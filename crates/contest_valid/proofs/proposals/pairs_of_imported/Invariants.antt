@@ -1,9 +1,0 @@
-use Rattle.std.proofs.Common.{◌≡◌, map, filter, take}
-use Rattle.contest_types.specs.State.{of_proposal}
-use Rattle.contest_types.specs.ValidSubmissions.{is_imported}
-use Rattle.contest_types.specs.declared.proposal.Proposal.{Proposal}
-use Rattle.contest_valid.specs.Keys.{pair_of}
-use Rattle.contest_valid.proofs.proposals.pairs_of_imported.Given as goal
-
-abbrev pub invariant-loop-proposal : goal.invariant-loop-proposal
-invariant-loop-proposal l = l.pairs.items ≡ map (λ (p : Proposal). pair_of (of_proposal p)) (filter is_imported (take l.proposal-index l.proposals))

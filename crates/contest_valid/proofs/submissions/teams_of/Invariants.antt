@@ -1,6 +1,0 @@
-use Rattle.std.proofs.Common.{◌≡◌, map, take}
-use Rattle.contest_types.specs.declared.submission.Submission.{Submission}
-use Rattle.contest_valid.proofs.submissions.teams_of.Given as goal
-
-abbrev pub invariant-loop-submission : goal.invariant-loop-submission
-invariant-loop-submission l = l.teams.items ≡ map (λ (s : Submission). s.team) (take l.submission-index l.submissions)
