@@ -1,0 +1,15 @@
+mod StepLemmas
+mod NumberLemmas
+mod KeyLemmas
+mod TimeLemmas
+mod SubmissionLemmas
+mod PairLemmas
+mod ReleaseLemmas
+mod AccountLemmas
+mod CountLemmas
+mod ProposalLemmas
+mod TalkLemmas
+mod MemberLemmas
+mod WholeLemmas
+mod Examples
+mod TableLemmas
