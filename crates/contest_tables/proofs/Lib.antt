@@ -1,0 +1,9 @@
+pub mod TextMeanings
+pub mod OneWordTexts
+pub mod UndoLemmas
+pub mod SortedLemmas
+pub mod LoadLemmas
+pub mod HoldLemmas
+pub mod StepLemmas
+pub mod InsertLemmas
+pub mod RowLemmas

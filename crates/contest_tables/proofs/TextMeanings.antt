@@ -1,0 +1,86 @@
+-- What the texts of the statements on the tables mean.
+use Rattle.std.proofs.Common.{[], ◌∷◌, codes, refl}
+use Rattle.sqlite_tied.specs.Compute.{everything}
+use Rattle.sqlite.specs.Listing.{understood}
+use Rattle.contest_tables.specs.Statements.{Inserts, Loads}
+use Rattle.contest_tables.specs.declared.table_name.TableName.TheVariants.{Desk, Contest, Items, Accounts, Submissions, Proposals, Releases, Rejudgings, Members, Clarifications}
+
+pub desk_inserted : Inserts Desk (codes "INSERT INTO desk (one, version) VALUES (?1, ?2)")
+unfolding understood everything
+desk_inserted = record { is = refl; plain = (refl, refl) }
+
+pub contest_inserted : Inserts Contest (codes "INSERT INTO contest (one, id, name, duration, freeze, penalty, verification, gold, silver, bronze, start, thaw, finalized) VALUES (?1, ?2, ?3, ?4, ?5, ?6, ?7, ?8, ?9, ?10, ?11, ?12, ?13)")
+unfolding understood everything
+contest_inserted = record { is = refl; plain = (refl, refl) }
+
+pub items_inserted : Inserts Items (codes "INSERT INTO items (kind, place, id, name, label, ordinal, flag_a, flag_b, group_ids) VALUES (?1, ?2, ?3, ?4, ?5, ?6, ?7, ?8, ?9)")
+unfolding understood everything
+items_inserted = record { is = refl; plain = (refl, refl) }
+
+pub accounts_inserted : Inserts Accounts (codes "INSERT INTO accounts (id, role, team, token) VALUES (?1, ?2, ?3, ?4)")
+unfolding understood everything
+accounts_inserted = record { is = refl; plain = (refl, refl) }
+
+pub submissions_inserted : Inserts Submissions (codes "INSERT INTO submissions (seq, team, k, time, problem, language, entry, file, key) VALUES (?1, ?2, ?3, ?4, ?5, ?6, ?7, ?8, ?9)")
+unfolding understood everything
+submissions_inserted = record { is = refl; plain = (refl, refl) }
+
+pub proposals_inserted : Inserts Proposals (codes "INSERT INTO proposals (seq, team, k, type, account, time) VALUES (?1, ?2, ?3, ?4, ?5, ?6)")
+unfolding understood everything
+proposals_inserted = record { is = refl; plain = (refl, refl) }
+
+pub releases_inserted : Inserts Releases (codes "INSERT INTO releases (seq, team, k, n, type, time) VALUES (?1, ?2, ?3, ?4, ?5, ?6)")
+unfolding understood everything
+releases_inserted = record { is = refl; plain = (refl, refl) }
+
+pub rejudgings_inserted : Inserts Rejudgings (codes "INSERT INTO rejudgings (n, reason, state) VALUES (?1, ?2, ?3)")
+unfolding understood everything
+rejudgings_inserted = record { is = refl; plain = (refl, refl) }
+
+pub members_inserted : Inserts Members (codes "INSERT INTO members (rejudging, place, team, k, type, account, ready) VALUES (?1, ?2, ?3, ?4, ?5, ?6, ?7)")
+unfolding understood everything
+members_inserted = record { is = refl; plain = (refl, refl) }
+
+pub clarifications_inserted : Inserts Clarifications (codes "INSERT INTO clarifications (seq, audience, k, from_jury, account, problem, reply, text, time, key) VALUES (?1, ?2, ?3, ?4, ?5, ?6, ?7, ?8, ?9, ?10)")
+unfolding understood everything
+clarifications_inserted = record { is = refl; plain = (refl, refl) }
+
+pub desk_loaded : Loads Desk (codes "SELECT one, version FROM desk ORDER BY one")
+unfolding understood everything
+desk_loaded = record { names = codes "one" ∷ codes "version" ∷ []; is = refl; plain = (refl, refl); unlisted = refl }
+
+pub contest_loaded : Loads Contest (codes "SELECT one, id, name, duration, freeze, penalty, verification, gold, silver, bronze, start, thaw, finalized FROM contest ORDER BY one")
+unfolding understood everything
+contest_loaded = record { names = codes "one" ∷ codes "id" ∷ codes "name" ∷ codes "duration" ∷ codes "freeze" ∷ codes "penalty" ∷ codes "verification" ∷ codes "gold" ∷ codes "silver" ∷ codes "bronze" ∷ codes "start" ∷ codes "thaw" ∷ codes "finalized" ∷ []; is = refl; plain = (refl, refl); unlisted = refl }
+
+pub items_loaded : Loads Items (codes "SELECT kind, place, id, name, label, ordinal, flag_a, flag_b, group_ids FROM items ORDER BY kind, place")
+unfolding understood everything
+items_loaded = record { names = codes "kind" ∷ codes "place" ∷ codes "id" ∷ codes "name" ∷ codes "label" ∷ codes "ordinal" ∷ codes "flag_a" ∷ codes "flag_b" ∷ codes "group_ids" ∷ []; is = refl; plain = (refl, refl); unlisted = refl }
+
+pub accounts_loaded : Loads Accounts (codes "SELECT id, role, team, token FROM accounts ORDER BY id")
+unfolding understood everything
+accounts_loaded = record { names = codes "id" ∷ codes "role" ∷ codes "team" ∷ codes "token" ∷ []; is = refl; plain = (refl, refl); unlisted = refl }
+
+pub submissions_loaded : Loads Submissions (codes "SELECT seq, team, k, time, problem, language, entry, typeof(file), length(file), key FROM submissions ORDER BY seq")
+unfolding understood everything
+submissions_loaded = record { names = codes "seq" ∷ codes "team" ∷ codes "k" ∷ codes "time" ∷ codes "problem" ∷ codes "language" ∷ codes "entry" ∷ codes "typeof(file)" ∷ codes "length(file)" ∷ codes "key" ∷ []; is = refl; plain = (refl, refl); unlisted = refl }
+
+pub proposals_loaded : Loads Proposals (codes "SELECT seq, team, k, type, account, time FROM proposals ORDER BY seq")
+unfolding understood everything
+proposals_loaded = record { names = codes "seq" ∷ codes "team" ∷ codes "k" ∷ codes "type" ∷ codes "account" ∷ codes "time" ∷ []; is = refl; plain = (refl, refl); unlisted = refl }
+
+pub releases_loaded : Loads Releases (codes "SELECT seq, team, k, n, type, time FROM releases ORDER BY seq")
+unfolding understood everything
+releases_loaded = record { names = codes "seq" ∷ codes "team" ∷ codes "k" ∷ codes "n" ∷ codes "type" ∷ codes "time" ∷ []; is = refl; plain = (refl, refl); unlisted = refl }
+
+pub rejudgings_loaded : Loads Rejudgings (codes "SELECT n, reason, state FROM rejudgings ORDER BY n")
+unfolding understood everything
+rejudgings_loaded = record { names = codes "n" ∷ codes "reason" ∷ codes "state" ∷ []; is = refl; plain = (refl, refl); unlisted = refl }
+
+pub members_loaded : Loads Members (codes "SELECT rejudging, place, team, k, type, account, ready FROM members ORDER BY rejudging, place")
+unfolding understood everything
+members_loaded = record { names = codes "rejudging" ∷ codes "place" ∷ codes "team" ∷ codes "k" ∷ codes "type" ∷ codes "account" ∷ codes "ready" ∷ []; is = refl; plain = (refl, refl); unlisted = refl }
+
+pub clarifications_loaded : Loads Clarifications (codes "SELECT seq, audience, k, from_jury, account, problem, reply, text, time, key FROM clarifications ORDER BY seq")
+unfolding understood everything
+clarifications_loaded = record { names = codes "seq" ∷ codes "audience" ∷ codes "k" ∷ codes "from_jury" ∷ codes "account" ∷ codes "problem" ∷ codes "reply" ∷ codes "text" ∷ codes "time" ∷ codes "key" ∷ []; is = refl; plain = (refl, refl); unlisted = refl }

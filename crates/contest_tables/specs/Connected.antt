@@ -1,0 +1,19 @@
+-- What a connection shows, and what is undone where a call failed (own).
+use Rattle.std.specs.Prelude.{◌≡◌, false, IsTrue}
+use Rattle.sqlite.specs.State.{State}
+use Rattle.sqlite.specs.Held.{state}
+use Rattle.sqlite_trees.specs.declared.store.Store.{Ghosts}
+use Rattle.contest_tables.specs.declared.counts.Counts.{Counts}
+use Rattle.contest_tables.specs.declared.tables.Tables.{Tables}
+
+abbrev pub shown_by : {S : Type 0} → Ghosts S → Tables S → State
+shown_by g t = state g t.conn
+
+abbrev pub counts_of : {S : Type 0} → Tables S → Counts
+counts_of t = t.counts
+
+-- no change stands that was not committed
+pub record IsUndone (old new : State) : Type 0 where
+  pub was_open : IsTrue new.is_open → IsTrue old.is_open
+  pub undone : IsTrue new.is_open → (new.now ≡ old.committed) × (new.committed ≡ old.committed)
+  pub autocommit : new.in_transaction ≡ false

@@ -1,0 +1,89 @@
+//! The calls of the connection: each failure is counted and rolls the transaction back.
+ghost use Rattle.std.specs.Prelude.{◌≡◌, ℕ, Ok, Err, IfOk, OnOk, OnErr};
+ghost use Rattle.sqlite.specs.Values.{bound};
+ghost use Rattle.sqlite.specs.Held.{state};
+ghost use Rattle.sqlite.specs.State.{HasCleanDisk, Survives, Executes, CommitsBy, CommitsShowing, Shown};
+ghost use Rattle.contest_tables.specs.Counts.{counted, CountsCall};
+ghost use Rattle.contest_tables.specs.Connected.{shown_by, counts_of, IsUndone};
+
+use crate::Counts;
+use crate::counts::cause_of;
+use contest_store::StoreError;
+use sqlite::types::ValueRef;
+use sqlite::{Alter, Connection, Row};
+
+/// A connection to the tables of a contest, whose statements are those of this crate.
+///
+/// # Errors
+///
+/// Each call answers `Memory` where a growth was refused, and `Fault` where the connection failed for
+/// another cause. Both are counted, and no change stands then that wasn't committed.
+#[derive(Drop)]
+pub struct Tables<S: Alter> {
+    conn: Connection<S>,
+    counts: Counts,
+}
+
+impl<S: Alter> Tables<S> {
+    /// How many of its calls failed.
+    pub fn counts(&self) -> Counts
+        ensures { result ≡ counts_of self.now }
+    {
+        self.counts
+    }
+
+    /// What failed after a call that was answered.
+    pub fn give_up(&mut self, error: StoreError) -> StoreError
+        ensures error { result ≡ error }
+        ensures undone { HasCleanDisk (shown_by S.Store self.new) → IsUndone (shown_by S.Store self.old) (shown_by S.Store self.new) }
+        ensures counts { counts_of self.new ≡ counted error (counts_of self.old) }
+        ensures survives { Survives (shown_by S.Store self.old) (shown_by S.Store self.new) (λ _. ⊥) }
+    {
+        roll_back(&mut self.conn);
+        self.counts.count(error);
+        error
+    }
+
+    pub(crate) fn execute(&mut self, sql: &str, params: &[ValueRef<'_>]) -> Result<(), StoreError>
+        ensures ok { HasCleanDisk (shown_by S.Store self.new) → OnOk result ((count : ℕ) × Executes sql.now (bound params.now) (shown_by S.Store self.old) (shown_by S.Store self.new) (Ok count)) }
+        ensures err { HasCleanDisk (shown_by S.Store self.new) → OnErr result (IsUndone (shown_by S.Store self.old) (shown_by S.Store self.new)) }
+        ensures counts { CountsCall result (counts_of self.old) (counts_of self.new) }
+        ensures survives { Survives (shown_by S.Store self.old) (shown_by S.Store self.new) (CommitsBy sql.now (bound params.now) (shown_by S.Store self.old)) }
+    {
+        match self.conn.execute(sql, params) {
+            Ok(_) => Ok(()),
+            Err(error) => Err(self.give_up(cause_of(&error))),
+        }
+    }
+
+    pub(crate) fn query_all(
+        &mut self,
+        sql: &str,
+        params: &[ValueRef<'_>],
+    ) -> Result<Vec<Row>, StoreError>
+        ensures ok { HasCleanDisk (shown_by S.Store self.new) → IfOk result (λ rows. Shown sql.now (bound params.now) (shown_by S.Store self.old) (shown_by S.Store self.new) rows.items) }
+        ensures err { HasCleanDisk (shown_by S.Store self.new) → OnErr result (IsUndone (shown_by S.Store self.old) (shown_by S.Store self.new)) }
+        ensures counts { CountsCall result (counts_of self.old) (counts_of self.new) }
+        ensures survives { Survives (shown_by S.Store self.old) (shown_by S.Store self.new) (CommitsShowing sql.now (bound params.now) (shown_by S.Store self.old)) }
+    {
+        match self.conn.query_all(sql, params) {
+            Ok(rows) => Ok(rows),
+            Err(error) => Err(self.give_up(cause_of(&error))),
+        }
+    }
+
+    pub(crate) fn is_in_transaction(&self) -> bool
+        ensures { result ≡ (shown_by S.Store self.now).in_transaction }
+    {
+        !self.conn.is_autocommit()
+    }
+}
+
+fn roll_back<S: Alter>(conn: &mut Connection<S>)
+    ensures undone { HasCleanDisk (state S.Store conn.new) → IsUndone (state S.Store conn.old) (state S.Store conn.new) }
+    ensures survives { Survives (state S.Store conn.old) (state S.Store conn.new) (λ _. ⊥) }
+{
+    if !conn.is_autocommit() {
+        let _ = conn.execute("ROLLBACK", &[]);
+    }
+}
