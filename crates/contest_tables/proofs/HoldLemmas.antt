@@ -1,18 +1,16 @@
 -- What BEGIN, COMMIT, a query and a call that is undone make of the rows that the tables show.
-use Rattle.std.proofs.Common.{◌≡◌, inl, inr, ℕ, List, [], codes, Some, None, Option, Ok, Err, Result, IsTrue, OnOk, OnErr, IfOk, sym, ap, subst, ◌∙◌, arith}
+use Rattle.std.proofs.Common.{◌≡◌, inl, inr, ℕ, List, [], codes, Some, None, Option, Ok, Err, Result, IsTrue, OnOk, OnErr, IfOk, sym, subst, arith}
 use Rattle.sqlite.specs.Tree.{Trees}
 use Rattle.sqlite.specs.Effect.{Database}
 use Rattle.sqlite.specs.Command.TheVariants.{Begin, Commit}
-use Rattle.sqlite.specs.State.{State, CommitsBy, Executes, Shown, ShowsRows, IsUnchanged, CommitsShowing}
+use Rattle.sqlite.specs.State.{State, CommitsBy, Executes, Shown, ShowsRows, IsUnchanged}
 use Rattle.sqlite.specs.Order.{Row}
 use Rattle.sqlite.specs.Listing.{understood}
 use Rattle.sqlite_resolve.specs.declared.compiled.Compiled.{Compiled}
 use Rattle.sqlite_schema.specs.declared.command.Returning.{Returning}
-use Rattle.sqlite.proofs.Callers.{IsPlain, never_commits}
-use Rattle.contest_tables.specs.Schema.{desk_schema}
-use Rattle.contest_tables.specs.Tables.{TableRows, rows_in}
+use Rattle.sqlite.proofs.Callers.{IsPlain}
 use Rattle.contest_tables.specs.Connected.{IsUndone}
-use Rattle.contest_tables.specs.Steps.{Holds, Within}
+use Rattle.contest_tables.specs.Steps.{Content, OnlyMade, Showing, HasContent, Spells, Holds, Within}
 use Rattle.contest_tables.proofs.OneWordTexts.{begin_is, commit_is}
 use Rattle.contest_tables.proofs.UndoLemmas.{runs_word, commits_word}
 
@@ -28,17 +26,15 @@ pub if_ok : {T E : Type 0} {P Q : T → Type 0} (r : Result T E) → IfOk r P �
 if_ok (Ok x) h f = f x h
 if_ok (Err e) h f = tt
 
--- a connection that sees the same databases holds the same rows
-pub same_holds : (old new : State) (now kept : TableRows) → IsTrue new.is_open → new.now ≡ old.now → new.committed ≡ old.committed → Holds old now kept → Holds new now kept
+-- a connection that sees the same databases holds the same
+pub same_holds : (old new : State) (now kept : Content) → IsTrue new.is_open → new.now ≡ old.now → new.committed ≡ old.committed → Holds old now kept → Holds new now kept
 same_holds old new now kept up same committed h = record {
   is_open = up;
-  schema = ap (λ (d : Database). d.schema) same ∙ h.schema;
-  kept_schema = ap (λ (d : Database). d.schema) committed ∙ h.kept_schema;
-  shows = ap (λ (d : Database). rows_in d.trees) same ∙ h.shows;
-  keeps = ap (λ (d : Database). rows_in d.trees) committed ∙ h.keeps;
+  shows = subst (λ d. HasContent d now) (sym same) h.shows;
+  keeps = subst (λ d. HasContent d kept) (sym committed) h.keeps;
 }
 
-pub begun : (old new : State) (now kept : TableRows) (count : ℕ) → Holds old now kept → Executes (codes "BEGIN") [] old new (Ok count) → Within new now kept
+pub begun : (old new : State) (now kept : Content) (count : ℕ) → Holds old now kept → Executes (codes "BEGIN") [] old new (Ok count) → Within new now kept
 begun old new now kept count h ran =
     let shown = (runs_word (codes "BEGIN") Begin 5 begin_is (omega arith) old new count ran).1 in
     (same_holds old new now kept shown.is_open shown.now_is shown.committed_is h, shown.mode)
@@ -52,49 +48,39 @@ begin_keeps s db h = elim (commits_word (codes "BEGIN") Begin 5 begin_is (omega 
   | inr write ↦ (let x = write.3 in cc)
 ]
 
-pub committed : (old new : State) (now kept : TableRows) (count : ℕ) → Holds old now kept → Executes (codes "COMMIT") [] old new (Ok count) → Holds new now now
+pub committed : (old new : State) (now kept : Content) (count : ℕ) → Holds old now kept → Executes (codes "COMMIT") [] old new (Ok count) → Holds new now now
 committed old new now kept count h ran =
     let shown = (runs_word (codes "COMMIT") Commit 6 commit_is (omega arith) old new count ran).1 in
     record {
       is_open = shown.is_open;
-      schema = ap (λ (d : Database). d.schema) shown.now_is ∙ h.schema;
-      kept_schema = ap (λ (d : Database). d.schema) shown.committed_is ∙ h.schema;
-      shows = ap (λ (d : Database). rows_in d.trees) shown.now_is ∙ h.shows;
-      keeps = ap (λ (d : Database). rows_in d.trees) shown.committed_is ∙ h.shows;
+      shows = subst (λ d. HasContent d now) (sym shown.now_is) h.shows;
+      keeps = subst (λ d. HasContent d now) (sym shown.committed_is) h.shows;
     }
 
+spelled : (d : Database) (x : Content) → HasContent d x → Spells d.trees x
+spelled d (OnlyMade made) h = tt
+spelled d (Showing rows) h = h.1
+
 -- a crash in the commit leaves what it could leave before, or the rows of the transaction
-pub commit_leaves : (s : State) (now kept : TableRows) (db : Trees) → Holds s now kept → CommitsBy (codes "COMMIT") [] s db → rows_in db ≡ now
+pub commit_leaves : (s : State) (now kept : Content) (db : Trees) → Holds s now kept → CommitsBy (codes "COMMIT") [] s db → Spells db now
 commit_leaves s now kept db h it = elim (commits_word (codes "COMMIT") Commit 6 commit_is (omega arith) s db it) [
-  | inl ends ↦ subst (λ t. rows_in t ≡ now) (sym ends.1) h.shows
+  | inl ends ↦ subst (λ t. Spells t now) (sym ends.1) (spelled s.now now h.shows)
   | inr write ↦ absurd (let x = write.3 in cc)
 ]
 
 -- what the last commit left is what the next call works on
-pub undone_holds : (old new : State) (now kept : TableRows) → Holds old now kept → IsTrue new.is_open → IsUndone old new → Holds new kept kept
+pub undone_holds : (old new : State) (now kept : Content) → Holds old now kept → IsTrue new.is_open → IsUndone old new → Holds new kept kept
 undone_holds old new now kept h is u =
     let same = u.undone is in
-    record {
-      is_open = is;
-      schema = ap (λ (d : Database). d.schema) same.0 ∙ h.kept_schema;
-      kept_schema = ap (λ (d : Database). d.schema) same.1 ∙ h.kept_schema;
-      shows = ap (λ (d : Database). rows_in d.trees) same.0 ∙ h.keeps;
-      keeps = ap (λ (d : Database). rows_in d.trees) same.1 ∙ h.keeps;
-    }
-
-plain_at : (sql : List ℕ) (s : State) → s.now.schema ≡ desk_schema → IsPlain (understood desk_schema sql) → IsPlain (understood s.now.schema sql)
-plain_at sql s has plain = subst (λ t. IsPlain (understood t sql)) (sym has) plain
+    record { is_open = is; shows = subst (λ d. HasContent d kept) (sym same.0) h.keeps; keeps = subst (λ d. HasContent d kept) (sym same.1) h.keeps }
 
 shows_unchanged : (old new : State) (sql : List ℕ) (c : Compiled) (params : Row) (rows : List Row) (o : Option Returning) → o ≡ None → ShowsRows old new sql c params rows o → IsUnchanged old new
 shows_unchanged old new sql c params rows None e h = h.3
 shows_unchanged old new sql c params rows (Some x) e h = absurd (cc)
 
--- a query leaves the rows
-pub shown_within : (sql : List ℕ) (params : Row) (old new : State) (now kept : TableRows) (rows : List Row) → Within old now kept → IsPlain (understood desk_schema sql) → Shown sql params old new rows → Within new now kept
+-- a query leaves what there is
+pub shown_within : (sql : List ℕ) (params : Row) (old new : State) (now kept : Content) (rows : List Row) → Within old now kept → IsPlain (understood old.now.schema sql) → Shown sql params old new rows → Within new now kept
 unfolding Shown
 shown_within sql params old new now kept rows h plain shown =
-    let same = shows_unchanged old new sql shown.0 _ rows shown.0.returning (subst IsPlain shown.1.is (plain_at sql old h.0.schema plain)).0 shown.2 in
+    let same = shows_unchanged old new sql shown.0 _ rows shown.0.returning (subst IsPlain shown.1.is plain).0 shown.2 in
     (same_holds old new now kept same.0.is_open same.0.now_is same.0.committed_is h.0, subst IsTrue (sym same.0.mode) h.1)
-
-pub never_shown : (sql : List ℕ) (params : Row) (s : State) (now kept : TableRows) (db : Trees) → Holds s now kept → IsPlain (understood desk_schema sql) → CommitsShowing sql params s db → ⊥
-never_shown sql params s now kept db h plain = never_commits sql params s db (plain_at sql s h.schema plain)

@@ -13,7 +13,8 @@ use Rattle.sqlite_resolve.specs.declared.compiled.Compiled.{Compiled}
 use Rattle.sqlite.specs.Command.TheVariants.{Insert}
 use Rattle.sqlite_schema.specs.declared.schema.Keys.TheVariants.{Enforced}
 use Rattle.sqlite_trees.specs.Tree.{Trees, rowid, put_row}
-use Rattle.sqlite.specs.Edit.{edit_of, put_all, taken_by, is_taken, are_fresh}
+use Rattle.sqlite.specs.Edit.{edit_of, put_all, taken_by, is_taken, are_fresh, have_rowids}
+use Rattle.sqlite_trees.specs.View.{is_int}
 use Rattle.sqlite_rules.specs.Edit.{with_rowid}
 use Rattle.sqlite_rules.specs.Action.{works}
 use Rattle.sqlite_rules.specs.Action as rules
@@ -41,6 +42,7 @@ pub record Puts (schema : Schema) (table : Table) (new : Row) (old next : Databa
   pub schema_is : next.schema ≡ schema
   pub rows : next.trees table.tree ≡ put_row new (old.trees table.tree)
   pub free : is_taken (old.trees table.tree) new ≡ false
+  pub keyed : IsTrue (is_int (rowid new))
   pub others : AllByRecursion (λ t. t.tree ≢ table.tree → next.trees t.tree ≡ old.trees t.tree) schema.tables
 
 -- a part that gave a value did not stop on the way
@@ -61,6 +63,9 @@ chosen table top e = ap (λ b. cond b (Above top) Chosen) e
 not_taken : (b : Bool) → (not b && true) ≡ true → b ≡ false
 not_taken true h = cc
 not_taken false h = refl
+
+is_keyed : (r : Row) → have_rowids (r ∷ []) ≡ true → IsTrue (is_int (rowid r))
+is_keyed r h = search rules
 
 -- an INSERT of one row of values, into a table with no AUTOINCREMENT, no default that reads the time and no foreign key about
 module _ (sql : List ℕ) (params : Row) (schema : Schema) (at : ℕ) (table : Table) (terms : List Term) (width : ℕ) (source : Row)
@@ -93,6 +98,7 @@ module _ (sql : List ℕ) (params : Row) (schema : Schema) (at : ℕ) (table : T
       record {
         schema_is = ap (λ (d : Database). d.schema) now;
         rows = ap (λ (d : Database). d.trees table.tree) now ∙ ap (λ (t : Trees). t table.tree) trees ∙ step.rows ∙ ap (λ rs. put_all (old.now.trees table.tree) rs) news;
+        keyed = is_keyed (new (old.now.trees table.tree)) (subst (λ rs. have_rowids rs ≡ true) news step.keyed);
         free = not_taken _ (subst (λ rs. are_fresh (old.now.trees table.tree) rs ≡ true) news step.fresh);
         others = subst (λ (d : Database). AllByRecursion (λ t. t.tree ≢ table.tree → d.trees t.tree ≡ old.now.trees t.tree) schema.tables) (sym now)
             (subst (λ ts. AllByRecursion (λ t. t.tree ≢ table.tree → ts t.tree ≡ old.now.trees t.tree) schema.tables) (sym trees) step.tables);

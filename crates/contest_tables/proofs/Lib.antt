@@ -3,7 +3,9 @@ pub mod OneWordTexts
 pub mod UndoLemmas
 pub mod SortedLemmas
 pub mod LoadLemmas
+pub mod FileLemmas
 pub mod HoldLemmas
 pub mod StepLemmas
 pub mod InsertLemmas
 pub mod RowLemmas
+pub mod MakingLemmas

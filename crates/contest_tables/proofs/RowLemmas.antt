@@ -1,5 +1,5 @@
 -- What an INSERT makes of the rows that the tables show.
-use Rattle.std.proofs.Common.{◌≡◌, ◌≢◌, ◌==◌, ◌/◌, ℕ, List, [], ◌∷◌, length, map, slice_get, Bool, true, false, Some, Ok, IsPermutation, refl, sym, ap, subst, ◌∙◌, cond, append-nil}
+use Rattle.std.proofs.Common.{◌≡◌, ◌≢◌, ◌==◌, ◌/◌, ℕ, List, [], ◌∷◌, length, map, slice_get, Bool, true, false, Some, Ok, IsPermutation, refl, sym, ap, subst, ◌∙◌, cond, append-nil, IsTrue}
 use Rattle.std.specs.Prelude.{find, unwrap_or}
 use Rattle.std.specs.List.{AllByRecursion}
 use Rattle.std.proofs.lemmas.Bool.{eqb-true, eq-eqb}
@@ -8,25 +8,28 @@ use Rattle.sqlite.specs.Order.{Row}
 use Rattle.sqlite.specs.Table.{Table}
 use Rattle.sqlite.specs.Tree.{Trees}
 use Rattle.sqlite.specs.Term.{Env, eval_all}
-use Rattle.sqlite.specs.Effect.{Database, value_rows}
+use Rattle.sqlite.specs.Effect.{value_rows}
 use Rattle.sqlite.specs.State.{State, Executes, CommitsBy}
 use Rattle.sqlite.specs.Rowids.TheVariants.{Chosen}
 use Rattle.sqlite_rules.specs.Action.{works}
 use Rattle.sqlite_rules.specs.Cast.{cast_row}
 use Rattle.sqlite_rules.specs.Edit.{with_rowid}
 use Rattle.sqlite_schema.specs.declared.schema.Keys.TheVariants.{Enforced}
-use Rattle.sqlite_trees.specs.Tree.{put_row}
+use Rattle.sqlite_trees.specs.Tree.{IsTable, rowid, put_row}
+use Rattle.sqlite_trees.specs.View.{is_int}
+use Rattle.sqlite_trees.proofs.TreeLemmas.{IsTable-put_row, all-put_row}
 use Rattle.sqlite_keyed.specs.Lists.{sort_by}
 use Rattle.sqlite_sql.proofs.QueryLemmas.{key_cmp_total}
 use Rattle.contest_tables.specs.Schema.{form_of, index_of, all_tables, desk_schema}
 use Rattle.contest_tables.specs.Tables.{TableRows, rows_in, show, by_key}
 use Rattle.contest_tables.specs.Statements.{given_terms, Inserts}
-use Rattle.contest_tables.specs.Steps.{Within, with_rows, HasInserted}
+use Rattle.contest_tables.specs.Steps.{Within, with_rows, HasInserted, Content, HasContent, Full, AreNumbered}
 use Rattle.contest_tables.specs.declared.table_name.TableName.{TableName}
 use Rattle.contest_tables.specs.declared.table_name.TableName.TheVariants.{Desk, Contest, Items, Accounts, Submissions, Proposals, Releases, Rejudgings, Members, Clarifications}
 use Rattle.contest_tables.proofs.InsertLemmas.{Puts, put_permutes, inserts, insert_shows, insert_keeps}
 use Rattle.contest_tables.proofs.LoadLemmas.{sorted_rows}
 use Rattle.contest_tables.proofs.SortedLemmas.{one_order}
+use Rattle.contest_tables.proofs.StepLemmas.{full_schema}
 
 -- what holds of each table of the schema holds of this one
 pub at_table : (P : Table → Type 0) (name : TableName) → AllByRecursion P desk_schema.tables → P (form_of name)
@@ -75,6 +78,9 @@ one_changed name next old new now was changed others i other = each other i
             let tree = at_table (λ t. t.tree ≢ (form_of name).tree → new t.tree ≡ old t.tree) other others apart in
             ap (λ rows. sort_by (by_key (form_of other)) (map (show (form_of other)) rows)) tree ∙ ap (λ all. all other) was
 
+abbrev IsNumbered : List Row → Type 0
+IsNumbered rows = IsTable rows × AllByRecursion (λ r. IsTrue (is_int (rowid r))) rows
+
 -- what is asked of a table for an INSERT to be one put
 record IsPlainTable (name : TableName) : Type 0 where
   found : slice_get desk_schema.tables (index_of name) ≡ Some (form_of name)
@@ -107,28 +113,38 @@ puts name row sql means =
     inserts sql row desk_schema (index_of name) (form_of name) (given_terms (form_of name)) (length (given_terms (form_of name))) (eval_all (given_terms (form_of name)) (row ∷ []))
     means.is means.plain p.found p.uncounted p.keyless (ap (λ ps. value_rows ps _ _ _) (append-nil row) ∙ p.values row) p.stamps
 
-pub inserted : (name : TableName) (row : Row) (sql : List ℕ) → Inserts name sql → (old new : State) (now kept : TableRows) (count : ℕ) → Within old now kept → Executes sql row old new (Ok count) → HasInserted name row new now kept
-inserted name row sql means old new now kept count within ran next with =
-    let h = within.0 in
+-- the trees are numbered still where one takes a row
+still_numbered : (name : TableName) (old new : Trees) (row : Row) → AreNumbered old → IsTrue (is_int (rowid row)) → new (form_of name).tree ≡ put_row row (old (form_of name).tree)
+    → AllByRecursion (λ t. t.tree ≢ (form_of name).tree → new t.tree ≡ old t.tree) desk_schema.tables → AreNumbered new
+still_numbered name old new row was keyed rows others other = go ((form_of other).tree == (form_of name).tree) refl
+  where
+    go : (b : Bool) → ((form_of other).tree == (form_of name).tree) ≡ b → IsNumbered (new (form_of other).tree)
+    go true e = subst (λ (t : ℕ). IsNumbered (new t)) (sym (eqb-true _ _ e)) (subst IsNumbered (sym rows)
+        (IsTable-put_row row _ (was name).0, all-put_row (λ r. IsTrue (is_int (rowid r))) row _ keyed (was name).1))
+    go false e =
+        let apart : (form_of other).tree ≢ (form_of name).tree = λ same. (let x : true ≡ false = sym (eq-eqb _ _ same) ∙ e in cc) in
+        subst IsNumbered (sym (at_table (λ t. t.tree ≢ (form_of name).tree → new t.tree ≡ old t.tree) other others apart)) (was other)
+
+pub inserted : (name : TableName) (row : Row) (sql : List ℕ) → Inserts name sql → (old new : State) (now kept : Content) (count : ℕ) → Within old now kept → Executes sql row old new (Ok count) → HasInserted name row new now kept
+inserted name row sql means old new now kept count within ran before next is with =
+    let shows = subst (HasContent old.now) is within.0.shows in
     let t = form_of name in
     let rows = old.now.trees t.tree in
-    let put = puts name row sql means old new count h.schema ran in
-    let shown = insert_shows sql row desk_schema (index_of name) _ means.is means.plain old new h.schema within.1 count ran in
+    let put = puts name row sql means old new count shows.0 ran in
+    let shown = insert_shows sql row desk_schema (index_of name) _ means.is means.plain old new shows.0 within.1 count ran in
     let more : IsPermutation (row ∷ map (show t) rows) (map (show t) (put_row (put_for name row rows) rows)) =
     subst (λ y. IsPermutation (y ∷ map (show t) rows) (map (show t) (put_row (put_for name row rows) rows))) (with.as_given rows) (IsPermutation-map (show t) _ _ (put_permutes (put_for name row rows) rows put.free)) in
-    let was : IsPermutation (map (show t) rows) (now name) = subst (IsPermutation (map (show t) rows)) (ap (λ all. all name) h.shows) (IsPermutation-sym _ _ (sorted_rows name old.now.trees)) in
+    let was : IsPermutation (map (show t) rows) (before name) = subst (IsPermutation (map (show t) rows)) (ap (λ all. all name) shows.1) (IsPermutation-sym _ _ (sorted_rows name old.now.trees)) in
     let same : IsPermutation (map (show t) (new.now.trees t.tree)) next =
     subst (λ rs. IsPermutation (map (show t) rs) next) (sym put.rows) (IsPermutation-trans _ _ _ (IsPermutation-sym _ _ more) (IsPermutation-trans _ _ _ (IsPermutation-cons row _ _ was) with.among)) in
     let changed : rows_in new.now.trees name ≡ next = one_order (by_key t) (key_cmp_total _ _) _ next with.rises same in (
       record {
         is_open = shown.is_open;
-        schema = put.schema_is;
-        kept_schema = ap (λ (d : Database). d.schema) shown.committed_is ∙ h.kept_schema;
-        shows = one_changed name next old.now.trees new.now.trees now h.shows changed put.others;
-        keeps = ap (λ (d : Database). rows_in d.trees) shown.committed_is ∙ h.keeps;
+        shows = (put.schema_is, one_changed name next old.now.trees new.now.trees before shows.1 changed put.others, still_numbered name old.now.trees new.now.trees (put_for name row rows) shows.2 put.keyed put.rows put.others);
+        keeps = subst (λ d. HasContent d kept) (sym shown.committed_is) within.0.keeps;
       },
       shown.mode,
     )
 
-pub insert_makes_none : (name : TableName) (row : Row) (sql : List ℕ) → Inserts name sql → (old new : State) (now kept : TableRows) (db : Trees) → Within old now kept → CommitsBy sql row old db → ⊥
-insert_makes_none name row sql means old new now kept db within may = insert_keeps sql row desk_schema (index_of name) _ means.is means.plain old new within.0.schema within.1 db may
+pub insert_makes_none : (name : TableName) (row : Row) (sql : List ℕ) → Inserts name sql → (old new : State) (now kept : Content) (db : Trees) → Full old now kept → CommitsBy sql row old db → ⊥
+insert_makes_none name row sql means old new now kept db h may = insert_keeps sql row desk_schema (index_of name) _ means.is means.plain old new (full_schema old now kept h) h.0.1 db may

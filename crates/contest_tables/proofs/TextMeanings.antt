@@ -2,8 +2,50 @@
 use Rattle.std.proofs.Common.{[], ◌∷◌, codes, refl}
 use Rattle.sqlite_tied.specs.Compute.{everything}
 use Rattle.sqlite.specs.Listing.{understood}
-use Rattle.contest_tables.specs.Statements.{Inserts, Loads}
+use Rattle.contest_tables.specs.Making.{Creates}
+use Rattle.contest_tables.specs.Schema.{form_of}
+use Rattle.contest_tables.specs.Statements.{Inserts, Loads, FindsFile}
 use Rattle.contest_tables.specs.declared.table_name.TableName.TheVariants.{Desk, Contest, Items, Accounts, Submissions, Proposals, Releases, Rejudgings, Members, Clarifications}
+
+pub desk_created : Creates Desk (codes "CREATE TABLE desk (one INTEGER PRIMARY KEY, version INTEGER NOT NULL) STRICT")
+unfolding understood everything
+desk_created = record { is = refl; whole = refl; plain = (refl, refl); table = record (form_of Desk) { tree = 0 }; defined = refl; made = refl; uncounted = refl }
+
+pub contest_created : Creates Contest (codes "CREATE TABLE contest (one INTEGER PRIMARY KEY, id TEXT NOT NULL, name TEXT NOT NULL, duration INTEGER NOT NULL, freeze INTEGER, penalty INTEGER NOT NULL, verification INTEGER NOT NULL, gold INTEGER NOT NULL, silver INTEGER NOT NULL, bronze INTEGER NOT NULL, start INTEGER, thaw INTEGER, finalized INTEGER) STRICT")
+unfolding understood everything
+contest_created = record { is = refl; whole = refl; plain = (refl, refl); table = record (form_of Contest) { tree = 0 }; defined = refl; made = refl; uncounted = refl }
+
+pub items_created : Creates Items (codes "CREATE TABLE items (kind INTEGER NOT NULL, place INTEGER NOT NULL, id TEXT NOT NULL, name TEXT NOT NULL, label TEXT NOT NULL, ordinal INTEGER NOT NULL, flag_a INTEGER NOT NULL, flag_b INTEGER NOT NULL, group_ids TEXT NOT NULL, PRIMARY KEY (kind, place), UNIQUE (kind, id)) STRICT")
+unfolding understood everything
+items_created = record { is = refl; whole = refl; plain = (refl, refl); table = record (form_of Items) { tree = 0 }; defined = refl; made = refl; uncounted = refl }
+
+pub accounts_created : Creates Accounts (codes "CREATE TABLE accounts (id TEXT NOT NULL PRIMARY KEY, role INTEGER NOT NULL, team TEXT, token BLOB NOT NULL UNIQUE) STRICT")
+unfolding understood everything
+accounts_created = record { is = refl; whole = refl; plain = (refl, refl); table = record (form_of Accounts) { tree = 0 }; defined = refl; made = refl; uncounted = refl }
+
+pub submissions_created : Creates Submissions (codes "CREATE TABLE submissions (seq INTEGER PRIMARY KEY, team INTEGER NOT NULL, k INTEGER NOT NULL, time INTEGER NOT NULL, problem TEXT NOT NULL, language TEXT NOT NULL, entry TEXT, file BLOB NOT NULL, key TEXT, UNIQUE (team, k), UNIQUE (team, key)) STRICT")
+unfolding understood everything
+submissions_created = record { is = refl; whole = refl; plain = (refl, refl); table = record (form_of Submissions) { tree = 0 }; defined = refl; made = refl; uncounted = refl }
+
+pub proposals_created : Creates Proposals (codes "CREATE TABLE proposals (seq INTEGER PRIMARY KEY, team INTEGER NOT NULL, k INTEGER NOT NULL, type TEXT NOT NULL, account TEXT NOT NULL, time INTEGER NOT NULL) STRICT")
+unfolding understood everything
+proposals_created = record { is = refl; whole = refl; plain = (refl, refl); table = record (form_of Proposals) { tree = 0 }; defined = refl; made = refl; uncounted = refl }
+
+pub releases_created : Creates Releases (codes "CREATE TABLE releases (seq INTEGER PRIMARY KEY, team INTEGER NOT NULL, k INTEGER NOT NULL, n INTEGER NOT NULL, type TEXT NOT NULL, time INTEGER NOT NULL, UNIQUE (team, k, n)) STRICT")
+unfolding understood everything
+releases_created = record { is = refl; whole = refl; plain = (refl, refl); table = record (form_of Releases) { tree = 0 }; defined = refl; made = refl; uncounted = refl }
+
+pub rejudgings_created : Creates Rejudgings (codes "CREATE TABLE rejudgings (n INTEGER PRIMARY KEY, reason TEXT NOT NULL, state INTEGER NOT NULL) STRICT")
+unfolding understood everything
+rejudgings_created = record { is = refl; whole = refl; plain = (refl, refl); table = record (form_of Rejudgings) { tree = 0 }; defined = refl; made = refl; uncounted = refl }
+
+pub members_created : Creates Members (codes "CREATE TABLE members (rejudging INTEGER NOT NULL, place INTEGER NOT NULL, team INTEGER NOT NULL, k INTEGER NOT NULL, type TEXT, account TEXT, ready INTEGER NOT NULL, PRIMARY KEY (rejudging, place)) STRICT")
+unfolding understood everything
+members_created = record { is = refl; whole = refl; plain = (refl, refl); table = record (form_of Members) { tree = 0 }; defined = refl; made = refl; uncounted = refl }
+
+pub clarifications_created : Creates Clarifications (codes "CREATE TABLE clarifications (seq INTEGER PRIMARY KEY, audience INTEGER NOT NULL, k INTEGER NOT NULL, from_jury INTEGER NOT NULL, account TEXT NOT NULL, problem TEXT, reply TEXT, text TEXT NOT NULL, time INTEGER NOT NULL, key TEXT, UNIQUE (audience, k)) STRICT")
+unfolding understood everything
+clarifications_created = record { is = refl; whole = refl; plain = (refl, refl); table = record (form_of Clarifications) { tree = 0 }; defined = refl; made = refl; uncounted = refl }
 
 pub desk_inserted : Inserts Desk (codes "INSERT INTO desk (one, version) VALUES (?1, ?2)")
 unfolding understood everything
@@ -84,3 +126,7 @@ members_loaded = record { names = codes "rejudging" ∷ codes "place" ∷ codes 
 pub clarifications_loaded : Loads Clarifications (codes "SELECT seq, audience, k, from_jury, account, problem, reply, text, time, key FROM clarifications ORDER BY seq")
 unfolding understood everything
 clarifications_loaded = record { names = codes "seq" ∷ codes "audience" ∷ codes "k" ∷ codes "from_jury" ∷ codes "account" ∷ codes "problem" ∷ codes "reply" ∷ codes "text" ∷ codes "time" ∷ codes "key" ∷ []; is = refl; plain = (refl, refl); unlisted = refl }
+
+pub file_found : FindsFile (codes "SELECT file FROM submissions WHERE team = ?1 AND k = ?2")
+unfolding understood everything
+file_found = record { names = codes "file" ∷ []; is = refl; plain = (refl, refl); unlisted = refl }

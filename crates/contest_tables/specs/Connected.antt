@@ -1,13 +1,16 @@
 -- What a connection shows, and what is undone where a call failed (own).
 use Rattle.std.specs.Prelude.{◌≡◌, false, IsTrue}
 use Rattle.sqlite.specs.State.{State}
-use Rattle.sqlite.specs.Held.{state}
+use Rattle.sqlite.specs.Held.{Held, state}
 use Rattle.sqlite_trees.specs.declared.store.Store.{Ghosts}
 use Rattle.contest_tables.specs.declared.counts.Counts.{Counts}
 use Rattle.contest_tables.specs.declared.tables.Tables.{Tables}
 
+abbrev pub connection_of : {S : Type 0} → Tables S → Held S
+connection_of t = t.conn
+
 abbrev pub shown_by : {S : Type 0} → Ghosts S → Tables S → State
-shown_by g t = state g t.conn
+shown_by g t = state g (connection_of t)
 
 abbrev pub counts_of : {S : Type 0} → Tables S → Counts
 counts_of t = t.counts

@@ -4,3 +4,4 @@ pub mod Statements
 pub mod Counts
 pub mod Connected
 pub mod Steps
+pub mod Making

@@ -1,17 +1,21 @@
 -- What the texts of statements mean, over the tables of a contest.
-use Rattle.std.specs.Prelude.{ℕ, ◌≡◌, ◌-◌, false, List, [], ◌∷◌, None, length, map, pos, negsuc}
+use Rattle.std.specs.Prelude.{ℕ, ◌≡◌, ◌-◌, ◌&&◌, Bool, true, false, List, [], ◌∷◌, None, length, map, filter, pos, negsuc}
 use Rattle.std.specs.List.{range_with_len}
 use Rattle.std.specs.Option.{option_map_or}
 use Rattle.sqlite.specs.Collation.TheVariants.{Binary}
+use Rattle.sqlite.specs.declared.types.Value.{Value}
 use Rattle.sqlite.specs.declared.types.Value.TheVariants.{Null, Int}
 use Rattle.sqlite.specs.Table.{Table}
-use Rattle.sqlite.specs.Term.{Term, lit, col, op1}
+use Rattle.sqlite.specs.Term.{Term, lit, col, op1, op2}
 use Rattle.sqlite.specs.Query.{Query, inner, end}
 use Rattle.sqlite.specs.Source.TheVariants.{Values}
 use Rattle.sqlite.specs.Command.TheVariants.{Insert, Select}
 use Rattle.sqlite.specs.Order.{Row, column}
 use Rattle.sqlite.specs.Listing.{understood, reads_listing}
 use Rattle.sqlite.proofs.Callers.{IsPlain, command_of}
+use Rattle.sqlite_schema.specs.Rules.{equal}
+use Rattle.sqlite_sql.specs.declared.ops.BinaryOp.TheVariants.{Compare}
+use Rattle.sqlite_sql.specs.declared.ops.CompareOp.TheVariants.{Eq}
 use Rattle.sqlite_sql.specs.declared.ops.UnaryOp.TheVariants.{TypeOf, Length}
 use Rattle.sqlite_sql.specs.Text.{length_of, type_of}
 use Rattle.sqlite_value.specs.Keys.{ascending}
@@ -58,5 +62,34 @@ load_query name = record {
 pub record Loads (name : TableName) (sql : List ℕ) : Type 0 where
   pub names : List (List ℕ)
   pub is : command_of (understood desk_schema sql) ≡ Select (record { lets = []; body = load_query name }) names
+  pub plain : IsPlain (understood desk_schema sql)
+  pub unlisted : reads_listing desk_schema sql ≡ false
+
+-- the team and the number are these, as SQL compares them
+abbrev pub is_submission : Value → Value → Row → Bool
+is_submission team number r = equal Binary (column r 1) team && (equal Binary (column r 2) number && true)
+
+-- the files of the submissions with this number of this team
+abbrev pub files_of : Value → Value → List Row → List Row
+files_of team number rows = map (λ r. column r 7 ∷ []) (filter (is_submission team number) rows)
+
+-- the files of the submissions whose team and number are the parameters
+abbrev pub file_query : Query
+file_query = record {
+  from = inner (form_of Submissions).tree end;
+  filter = op2 (Compare Eq Binary) (col 1 2) (col 0 0) ∷ op2 (Compare Eq Binary) (col 1 3) (col 0 1) ∷ [];
+  group = None;
+  project = col 1 8 ∷ [];
+  distinct = false;
+  collations = [];
+  order = [];
+  limit = lit (Int (negsuc 0));
+  offset = lit (Int (pos 0));
+}
+
+-- the text finds the file of a submission
+pub record FindsFile (sql : List ℕ) : Type 0 where
+  pub names : List (List ℕ)
+  pub is : command_of (understood desk_schema sql) ≡ Select (record { lets = []; body = file_query }) names
   pub plain : IsPlain (understood desk_schema sql)
   pub unlisted : reads_listing desk_schema sql ≡ false

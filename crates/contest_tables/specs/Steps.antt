@@ -1,5 +1,6 @@
--- What one call of the connection does to the rows that its tables show (own).
-use Rattle.std.specs.Prelude.{◌≡◌, ◌==◌, false, List, [], ◌∷◌, IsTrue, Result, OnOk, OnErr, if◌then◌else◌}
+-- What one call of the connection does to what its tables show (own).
+use Rattle.std.specs.Prelude.{ℕ, ◌≡◌, ◌==◌, false, List, [], ◌∷◌, fold, take, IsTrue, Result, OnOk, OnErr, if◌then◌else◌}
+use Rattle.std.specs.List.{AllByRecursion}
 use Rattle.std.specs.List.Sorted.{IsPermutation}
 use Rattle.std.specs.declared.cmp.Ordering.TheVariants.{Less}
 use Rattle.sqlite.specs.Order.{Row}
@@ -7,36 +8,76 @@ use Rattle.sqlite.specs.Tree.{Trees}
 use Rattle.sqlite.specs.State.{State, HasCleanDisk, Survives}
 use Rattle.sqlite.specs.Rowids.TheVariants.{Chosen}
 use Rattle.sqlite.specs.Table.{Table}
+use Rattle.sqlite.specs.Schema.{Schema}
+use Rattle.sqlite.specs.Effect.{Database}
+use Rattle.sqlite.specs.Change.{created}
 use Rattle.sqlite.specs.Term.{eval_all}
 use Rattle.sqlite_rules.specs.Edit.{with_rowid}
 use Rattle.sqlite_rules.specs.Cast.{cast_row}
-use Rattle.sqlite_trees.specs.Tree.{IsAscending}
+use Rattle.sqlite_trees.specs.Tree.{IsAscending, IsTable, rowid}
+use Rattle.sqlite_trees.specs.View.{is_int}
 use Rattle.contest_store.specs.declared.store_error.StoreError.{StoreError}
-use Rattle.contest_tables.specs.Schema.{form_of, desk_schema}
+use Rattle.contest_tables.specs.Schema.{form_of, all_tables, desk_schema}
 use Rattle.contest_tables.specs.Tables.{TableRows, rows_in, show, by_key}
 use Rattle.contest_tables.specs.Statements.{given_terms}
 use Rattle.contest_tables.specs.Counts.{CountsCall}
 use Rattle.contest_tables.specs.declared.counts.Counts.{Counts}
 use Rattle.contest_tables.specs.declared.table_name.TableName.{TableName}
 
--- an open connection to the tables of a desk shows these rows now, and those as they were last committed
-pub record Holds (s : State) (now kept : TableRows) : Type 0 where
-  pub is_open : IsTrue s.is_open
-  pub schema : s.now.schema ≡ desk_schema
-  pub kept_schema : s.committed.schema ≡ desk_schema
-  pub shows : rows_in s.now.trees ≡ now
-  pub keeps : rows_in s.committed.trees ≡ kept
+-- these tables, made one after the other
+abbrev pub schema_with : List TableName → Schema
+schema_with = fold (λ s name. created s (form_of name)) (record { tables = []; indexes = []; views = [] })
 
--- a relation of a state to the rows of now and of the last commit
+-- the rows of each tree rise by their numbers
+abbrev pub AreNumbered : Trees → Type 0
+AreNumbered db = (name : TableName) → IsTable (db (form_of name).tree) × AllByRecursion (λ r. IsTrue (is_int (rowid r))) (db (form_of name).tree)
+
+-- what a database has: these tables alone, all of them empty, or the tables of a desk with these rows
+pub data Content : Type 0 where
+  OnlyMade : List TableName → Content
+  Showing : TableRows → Content
+
+abbrev pub HasContent : Database → Content → Type 0
+HasContent d (OnlyMade made) = (d.schema ≡ schema_with made) × AllByRecursion (λ (t : Table). d.trees t.tree ≡ []) d.schema.tables
+HasContent d (Showing rows) = (d.schema ≡ desk_schema) × (rows_in d.trees ≡ rows) × AreNumbered d.trees
+
+-- trees that show these rows; of tables without a row nothing is said
+abbrev pub Spells : Trees → Content → Type 0
+Spells db (OnlyMade made) = Unit {0}
+Spells db (Showing rows) = rows_in db ≡ rows
+
+-- an open connection has this content now, and this one as it was last committed
+pub record Holds (s : State) (now kept : Content) : Type 0 where
+  pub is_open : IsTrue s.is_open
+  pub shows : HasContent s.now now
+  pub keeps : HasContent s.committed kept
+
+-- a relation of a state to the content of now and of the last commit
 abbrev pub Holding : Type 1
-Holding = State → TableRows → TableRows → Type 0
+Holding = State → Content → Content → Type 0
 
 abbrev pub Within : Holding
 Within s now kept = Holds s now kept × IsTrue s.in_transaction
 
--- the last commit became these
+-- the tables of a desk stand
+abbrev pub Full : Holding
+Full s now kept = Within s now kept × ((rows : TableRows) × (now ≡ Showing rows))
+
+-- the last commit became this
 abbrev pub Ended : Holding
 Ended s now kept = Holds s now now
+
+-- of all tables only the first so many are made
+abbrev pub HasFirst : ℕ → Holding
+HasFirst count s now kept = Within s now kept × (now ≡ OnlyMade (take count all_tables))
+
+-- so many of the tables were made, where there was none
+abbrev pub HasCreated : ℕ → Holding
+HasCreated count s now kept = Within s (OnlyMade (take count all_tables)) kept
+
+-- all tables are made, and are empty
+abbrev pub HasMade : Holding
+HasMade s now kept = Within s (Showing (λ _. [])) kept
 
 -- these rows in place of those of one table
 abbrev pub with_rows : TableName → List Row → TableRows → TableRows
@@ -56,9 +97,10 @@ pub record IsWith (name : TableName) (row : Row) (rows next : List Row) : Type 0
   pub among : IsPermutation (row ∷ rows) next
   pub rises : Rises name next
 
--- one more row stands in the table
+-- one more row stands in the table, and the other tables are as they were
 abbrev pub HasInserted : TableName → Row → Holding
-HasInserted name row s now kept = (next : List Row) → IsWith name row (now name) next → Within s (with_rows name next now) kept
+HasInserted name row s now kept =
+    (rows : TableRows) (next : List Row) → now ≡ Showing rows → IsWith name row (rows name) next → Within s (Showing (with_rows name next rows)) kept
 
 -- a transaction stands only in an open connection
 abbrev pub IsLive : State → Type 0
@@ -67,23 +109,23 @@ IsLive s = IsTrue s.in_transaction → IsTrue s.is_open
 -- no transaction is left, and an open connection shows the last commit
 pub record Undoes (old new : State) (From : Holding) : Type 0 where
   pub autocommit : new.in_transaction ≡ false
-  pub holds : IsTrue new.is_open → (now kept : TableRows) → From old now kept → Holds new kept kept
+  pub holds : IsTrue new.is_open → (now kept : Content) → From old now kept → Holds new kept kept
 
 -- On Ok what is to hold after it, on Err the last commit. What fails is counted. A crash leaves what it could
 -- leave before, or what is made.
 pub record Step {T : Type 0} (result : Result T StoreError) (old new : State) (before after : Counts) (From To : Holding) (Made : Trees → Type 0) : Type 0 where
-  pub ok : HasCleanDisk new → (now kept : TableRows) → From old now kept → OnOk result (To new now kept)
+  pub ok : HasCleanDisk new → (now kept : Content) → From old now kept → OnOk result (To new now kept)
   pub err : HasCleanDisk new → OnErr result (Undoes old new From)
   pub counts : CountsCall result before after
   pub survives : Survives old new Made
 
--- nothing is made of rows from which it starts
+-- nothing is made where it starts as it has to
 abbrev pub MakesNone : State → Holding → Trees → Type 0
-MakesNone old From db = (now kept : TableRows) → ¬ From old now kept
+MakesNone old From db = (now kept : Content) → ¬ From old now kept
 
--- the rows of now
+-- the content of now
 abbrev pub MakesNow : State → Holding → Trees → Type 0
-MakesNow old From db = (now kept : TableRows) → From old now kept → rows_in db ≡ now
+MakesNow old From db = (now kept : Content) → From old now kept → Spells db now
 
 -- a call that begins a transaction where there is none
 pub record Call {T : Type 0} (result : Result T StoreError) (old new : State) (before after : Counts) (From To : Holding) (Made : Trees → Type 0) : Type 0 where

@@ -24,3 +24,17 @@ pub enum TableName {
     /// The clarifications.
     Clarifications,
 }
+
+/// All tables, in the order in which they are made.
+pub(crate) const ALL_TABLES: [TableName; 10] = [
+    TableName::Desk,
+    TableName::Contest,
+    TableName::Items,
+    TableName::Accounts,
+    TableName::Submissions,
+    TableName::Proposals,
+    TableName::Releases,
+    TableName::Rejudgings,
+    TableName::Members,
+    TableName::Clarifications,
+];

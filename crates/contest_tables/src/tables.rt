@@ -4,7 +4,7 @@ ghost use Rattle.sqlite.specs.Values.{bound};
 ghost use Rattle.sqlite.specs.Held.{state};
 ghost use Rattle.sqlite.specs.State.{HasCleanDisk, Survives, Executes, CommitsBy, CommitsShowing, Shown};
 ghost use Rattle.contest_tables.specs.Counts.{counted, CountsCall};
-ghost use Rattle.contest_tables.specs.Connected.{shown_by, counts_of, IsUndone};
+ghost use Rattle.contest_tables.specs.Connected.{connection_of, shown_by, counts_of, IsUndone};
 
 use crate::Counts;
 use crate::counts::cause_of;
@@ -25,6 +25,28 @@ pub struct Tables<S: Alter> {
 }
 
 impl<S: Alter> Tables<S> {
+    /// The connection, of whose calls none failed yet.
+    pub fn new(conn: Connection<S>) -> Tables<S>
+        ensures shown { connection_of result ≡ conn }
+        ensures counts { counts_of result ≡ record { faults = 0; refusals = 0 } }
+    {
+        Tables {
+            conn,
+            counts: Counts {
+                faults: 0,
+                refusals: 0,
+            },
+        }
+    }
+
+    /// The connection alone.
+    pub fn into_connection(self) -> Connection<S>
+        ensures { result ≡ connection_of self }
+    {
+        let Tables { conn, counts: _ } = self;
+        conn
+    }
+
     /// How many of its calls failed.
     pub fn counts(&self) -> Counts
         ensures { result ≡ counts_of self.now }

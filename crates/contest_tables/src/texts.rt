@@ -1,7 +1,36 @@
 //! The texts of the statements on the tables.
-ghost use Rattle.contest_tables.specs.Statements.{Inserts, Loads};
+ghost use Rattle.contest_tables.specs.Making.{Creates};
+ghost use Rattle.contest_tables.specs.Statements.{Inserts, Loads, FindsFile};
 
 use crate::TableName;
+
+/// The statement that makes a table, where those before it are made.
+pub(crate) fn create_text(table: TableName) -> &'static str
+    ensures { Creates table result.now }
+{
+    match table {
+        TableName::Desk =>
+            "CREATE TABLE desk (one INTEGER PRIMARY KEY, version INTEGER NOT NULL) STRICT",
+        TableName::Contest =>
+            "CREATE TABLE contest (one INTEGER PRIMARY KEY, id TEXT NOT NULL, name TEXT NOT NULL, duration INTEGER NOT NULL, freeze INTEGER, penalty INTEGER NOT NULL, verification INTEGER NOT NULL, gold INTEGER NOT NULL, silver INTEGER NOT NULL, bronze INTEGER NOT NULL, start INTEGER, thaw INTEGER, finalized INTEGER) STRICT",
+        TableName::Items =>
+            "CREATE TABLE items (kind INTEGER NOT NULL, place INTEGER NOT NULL, id TEXT NOT NULL, name TEXT NOT NULL, label TEXT NOT NULL, ordinal INTEGER NOT NULL, flag_a INTEGER NOT NULL, flag_b INTEGER NOT NULL, group_ids TEXT NOT NULL, PRIMARY KEY (kind, place), UNIQUE (kind, id)) STRICT",
+        TableName::Accounts =>
+            "CREATE TABLE accounts (id TEXT NOT NULL PRIMARY KEY, role INTEGER NOT NULL, team TEXT, token BLOB NOT NULL UNIQUE) STRICT",
+        TableName::Submissions =>
+            "CREATE TABLE submissions (seq INTEGER PRIMARY KEY, team INTEGER NOT NULL, k INTEGER NOT NULL, time INTEGER NOT NULL, problem TEXT NOT NULL, language TEXT NOT NULL, entry TEXT, file BLOB NOT NULL, key TEXT, UNIQUE (team, k), UNIQUE (team, key)) STRICT",
+        TableName::Proposals =>
+            "CREATE TABLE proposals (seq INTEGER PRIMARY KEY, team INTEGER NOT NULL, k INTEGER NOT NULL, type TEXT NOT NULL, account TEXT NOT NULL, time INTEGER NOT NULL) STRICT",
+        TableName::Releases =>
+            "CREATE TABLE releases (seq INTEGER PRIMARY KEY, team INTEGER NOT NULL, k INTEGER NOT NULL, n INTEGER NOT NULL, type TEXT NOT NULL, time INTEGER NOT NULL, UNIQUE (team, k, n)) STRICT",
+        TableName::Rejudgings =>
+            "CREATE TABLE rejudgings (n INTEGER PRIMARY KEY, reason TEXT NOT NULL, state INTEGER NOT NULL) STRICT",
+        TableName::Members =>
+            "CREATE TABLE members (rejudging INTEGER NOT NULL, place INTEGER NOT NULL, team INTEGER NOT NULL, k INTEGER NOT NULL, type TEXT, account TEXT, ready INTEGER NOT NULL, PRIMARY KEY (rejudging, place)) STRICT",
+        TableName::Clarifications =>
+            "CREATE TABLE clarifications (seq INTEGER PRIMARY KEY, audience INTEGER NOT NULL, k INTEGER NOT NULL, from_jury INTEGER NOT NULL, account TEXT NOT NULL, problem TEXT, reply TEXT, text TEXT NOT NULL, time INTEGER NOT NULL, key TEXT, UNIQUE (audience, k)) STRICT",
+    }
+}
 
 /// The statement that inserts a row.
 pub(crate) fn insert_text(table: TableName) -> &'static str
@@ -51,4 +80,11 @@ pub(crate) fn load_text(table: TableName) -> &'static str
         TableName::Clarifications =>
             "SELECT seq, audience, k, from_jury, account, problem, reply, text, time, key FROM clarifications ORDER BY seq",
     }
+}
+
+/// The statement that finds the file of a submission by its team and its number.
+pub(crate) fn file_text() -> &'static str
+    ensures { FindsFile result.now }
+{
+    "SELECT file FROM submissions WHERE team = ?1 AND k = ?2"
 }

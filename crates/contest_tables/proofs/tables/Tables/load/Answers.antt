@@ -11,9 +11,9 @@ pub returns-clause-rows : goal.returns-clause-rows
 returns-clause-rows g c clean now kept h up =
     let old = shown_by g.S.Store c.args.self.now in
     let table = c.args.table in
-    let same = ap (λ all. all table) h.0.shows in
+    let same = ap (λ all. all table) h.0.shows.1 in
     if_ok c.query_all.result (c.query_all.ensures.ok clean) (λ rows shown.
-    loads table _ c.load_text.ensures old (shown_by g.S.Store c.query_all.new.self) rows.items h.0.schema (subst (Rises table) (sym same) up) shown ∙ ap (map (loaded_row table)) same)
+    loads table _ c.load_text.ensures old (shown_by g.S.Store c.query_all.new.self) rows.items h.0.shows.0 (subst (Rises table) (sym same) up) shown ∙ ap (map (loaded_row table)) same)
 
 pub returns-clause-step : goal.returns-clause-step
 returns-clause-step g c =
