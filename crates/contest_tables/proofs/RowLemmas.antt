@@ -78,7 +78,7 @@ one_changed name next old new now was changed others i other = each other i
             let tree = at_table (λ t. t.tree ≢ (form_of name).tree → new t.tree ≡ old t.tree) other others apart in
             ap (λ rows. sort_by (by_key (form_of other)) (map (show (form_of other)) rows)) tree ∙ ap (λ all. all other) was
 
-abbrev IsNumbered : List Row → Type 0
+abbrev pub IsNumbered : List Row → Type 0
 IsNumbered rows = IsTable rows × AllByRecursion (λ r. IsTrue (is_int (rowid r))) rows
 
 -- what is asked of a table for an INSERT to be one put
@@ -113,17 +113,22 @@ puts name row sql means =
     inserts sql row desk_schema (index_of name) (form_of name) (given_terms (form_of name)) (length (given_terms (form_of name))) (eval_all (given_terms (form_of name)) (row ∷ []))
     means.is means.plain p.found p.uncounted p.keyless (ap (λ ps. value_rows ps _ _ _) (append-nil row) ∙ p.values row) p.stamps
 
--- the trees are numbered still where one takes a row
-still_numbered : (name : TableName) (old new : Trees) (row : Row) → AreNumbered old → IsTrue (is_int (rowid row)) → new (form_of name).tree ≡ put_row row (old (form_of name).tree)
+-- the trees are numbered where this one is, and the others are as they were
+pub others_numbered : (name : TableName) (old new : Trees) → AreNumbered old → IsNumbered (new (form_of name).tree)
     → AllByRecursion (λ t. t.tree ≢ (form_of name).tree → new t.tree ≡ old t.tree) desk_schema.tables → AreNumbered new
-still_numbered name old new row was keyed rows others other = go ((form_of other).tree == (form_of name).tree) refl
+others_numbered name old new was this others other = go ((form_of other).tree == (form_of name).tree) refl
   where
     go : (b : Bool) → ((form_of other).tree == (form_of name).tree) ≡ b → IsNumbered (new (form_of other).tree)
-    go true e = subst (λ (t : ℕ). IsNumbered (new t)) (sym (eqb-true _ _ e)) (subst IsNumbered (sym rows)
-        (IsTable-put_row row _ (was name).0, all-put_row (λ r. IsTrue (is_int (rowid r))) row _ keyed (was name).1))
+    go true e = subst (λ (t : ℕ). IsNumbered (new t)) (sym (eqb-true _ _ e)) this
     go false e =
         let apart : (form_of other).tree ≢ (form_of name).tree = λ same. (let x : true ≡ false = sym (eq-eqb _ _ same) ∙ e in cc) in
         subst IsNumbered (sym (at_table (λ t. t.tree ≢ (form_of name).tree → new t.tree ≡ old t.tree) other others apart)) (was other)
+
+-- and so they are where one takes a row
+still_numbered : (name : TableName) (old new : Trees) (row : Row) → AreNumbered old → IsTrue (is_int (rowid row)) → new (form_of name).tree ≡ put_row row (old (form_of name).tree)
+    → AllByRecursion (λ t. t.tree ≢ (form_of name).tree → new t.tree ≡ old t.tree) desk_schema.tables → AreNumbered new
+still_numbered name old new row was keyed rows others = others_numbered name old new was
+    (subst IsNumbered (sym rows) (IsTable-put_row row _ (was name).0, all-put_row (λ r. IsTrue (is_int (rowid r))) row _ keyed (was name).1)) others
 
 pub inserted : (name : TableName) (row : Row) (sql : List ℕ) → Inserts name sql → (old new : State) (now kept : Content) (count : ℕ) → Within old now kept → Executes sql row old new (Ok count) → HasInserted name row new now kept
 inserted name row sql means old new now kept count within ran before next is with =

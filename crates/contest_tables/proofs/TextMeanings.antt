@@ -2,7 +2,10 @@
 use Rattle.std.proofs.Common.{[], ◌∷◌, codes, refl}
 use Rattle.sqlite_tied.specs.Compute.{everything}
 use Rattle.sqlite.specs.Listing.{understood}
+use Rattle.contest_tables.specs.Changes.{Changes}
+use Rattle.contest_tables.specs.Changes.{Changes}
 use Rattle.contest_tables.specs.Making.{Creates}
+use Rattle.contest_tables.specs.declared.row_change.RowChange.TheVariants.{Marks, RejudgingState, MemberState}
 use Rattle.contest_tables.specs.Schema.{form_of}
 use Rattle.contest_tables.specs.Statements.{Inserts, Loads, FindsFile}
 use Rattle.contest_tables.specs.declared.table_name.TableName.TheVariants.{Desk, Contest, Items, Accounts, Submissions, Proposals, Releases, Rejudgings, Members, Clarifications}
@@ -130,3 +133,15 @@ clarifications_loaded = record { names = codes "seq" ∷ codes "audience" ∷ co
 pub file_found : FindsFile (codes "SELECT file FROM submissions WHERE team = ?1 AND k = ?2")
 unfolding understood everything
 file_found = record { names = codes "file" ∷ []; is = refl; plain = (refl, refl); unlisted = refl }
+
+pub marks_changed : Changes Marks (codes "UPDATE contest SET start = ?2, thaw = ?3, finalized = ?4 WHERE one = ?1")
+unfolding understood everything
+marks_changed = record { is = refl; plain = (refl, refl) }
+
+pub rejudging_state_changed : Changes RejudgingState (codes "UPDATE rejudgings SET state = ?2 WHERE n = ?1")
+unfolding understood everything
+rejudging_state_changed = record { is = refl; plain = (refl, refl) }
+
+pub member_state_changed : Changes MemberState (codes "UPDATE members SET type = ?3, account = ?4, ready = ?5 WHERE rejudging = ?1 AND place = ?2")
+unfolding understood everything
+member_state_changed = record { is = refl; plain = (refl, refl) }

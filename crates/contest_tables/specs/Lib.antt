@@ -5,3 +5,4 @@ pub mod Counts
 pub mod Connected
 pub mod Steps
 pub mod Making
+pub mod Changes

@@ -2,11 +2,13 @@
 #![tactic(auto)]
 
 mod counts;
+mod row_change;
 mod statements;
 mod table_name;
 mod tables;
 mod texts;
 
 pub use counts::Counts;
+pub use row_change::RowChange;
 pub use table_name::TableName;
 pub use tables::Tables;

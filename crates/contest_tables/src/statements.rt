@@ -3,6 +3,7 @@ ghost use Rattle.std.specs.Prelude.{◌≡◌, ◌+◌, ◌∷◌, [], IfOk, map
 ghost use Rattle.sqlite.specs.declared.types.Value.{Value};
 ghost use Rattle.sqlite.specs.State.{HasCleanDisk};
 ghost use Rattle.sqlite.specs.Values.{bound};
+ghost use Rattle.contest_tables.specs.Changes.{HasChanged};
 ghost use Rattle.contest_tables.specs.Connected.{shown_by, counts_of};
 ghost use Rattle.contest_tables.specs.Schema.{index_of};
 ghost use Rattle.contest_tables.specs.Statements.{loaded_row, files_of};
@@ -11,8 +12,8 @@ ghost use Rattle.contest_tables.specs.Steps.{Call, Step, Content, Showing, Holds
 ghost use Rattle.contest_tables.specs.Tables.{TableRows};
 
 use crate::table_name::ALL_TABLES;
-use crate::texts::{create_text, file_text, insert_text, load_text};
-use crate::{TableName, Tables};
+use crate::texts::{change_text, create_text, file_text, insert_text, load_text};
+use crate::{RowChange, TableName, Tables};
 use contest_store::StoreError;
 use sqlite::types::ValueRef;
 use sqlite::{Alter, Row};
@@ -56,6 +57,15 @@ impl<S: Alter> Tables<S> {
             (MakesNone (shown_by S.Store self.old) Full) }
     {
         self.execute(insert_text(table), row)
+    }
+
+    /// Changes a row where it stands, within a transaction: what is given is the key of the row, and
+    /// then the new values.
+    pub fn change(&mut self, change: RowChange, given: &[ValueRef<'_>]) -> Result<(), StoreError>
+        ensures { Step result (shown_by S.Store self.old) (shown_by S.Store self.new) (counts_of self.old) (counts_of self.new) Full (HasChanged change (bound given.now))
+            (MakesNone (shown_by S.Store self.old) Full) }
+    {
+        self.execute(change_text(change), given)
     }
 
     /// The rows of a table, in the order of its key, within a transaction.

@@ -1,8 +1,9 @@
 //! The texts of the statements on the tables.
+ghost use Rattle.contest_tables.specs.Changes.{Changes};
 ghost use Rattle.contest_tables.specs.Making.{Creates};
 ghost use Rattle.contest_tables.specs.Statements.{Inserts, Loads, FindsFile};
 
-use crate::TableName;
+use crate::{RowChange, TableName};
 
 /// The statement that makes a table, where those before it are made.
 pub(crate) fn create_text(table: TableName) -> &'static str
@@ -79,6 +80,19 @@ pub(crate) fn load_text(table: TableName) -> &'static str
             "SELECT rejudging, place, team, k, type, account, ready FROM members ORDER BY rejudging, place",
         TableName::Clarifications =>
             "SELECT seq, audience, k, from_jury, account, problem, reply, text, time, key FROM clarifications ORDER BY seq",
+    }
+}
+
+/// The statement that changes a row.
+pub(crate) fn change_text(change: RowChange) -> &'static str
+    ensures { Changes change result.now }
+{
+    match change {
+        RowChange::Marks =>
+            "UPDATE contest SET start = ?2, thaw = ?3, finalized = ?4 WHERE one = ?1",
+        RowChange::RejudgingState => "UPDATE rejudgings SET state = ?2 WHERE n = ?1",
+        RowChange::MemberState =>
+            "UPDATE members SET type = ?3, account = ?4, ready = ?5 WHERE rejudging = ?1 AND place = ?2",
     }
 }
 
