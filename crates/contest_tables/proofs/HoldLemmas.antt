@@ -1,5 +1,5 @@
 -- What BEGIN, COMMIT, a query and a call that is undone make of the rows that the tables show.
-use Rattle.std.proofs.Common.{◌≡◌, inl, inr, ℕ, List, [], codes, Some, None, Option, Ok, Err, Result, IsTrue, OnOk, OnErr, IfOk, sym, subst, arith}
+use Rattle.std.proofs.Common.{◌≡◌, inl, inr, ℕ, List, [], codes, Some, None, Option, Ok, Err, Result, IsTrue, OnOk, OnErr, IfOk, sym, subst, arith, refl}
 use Rattle.sqlite.specs.Tree.{Trees}
 use Rattle.sqlite.specs.Effect.{Database}
 use Rattle.sqlite.specs.Command.TheVariants.{Begin, Commit}
@@ -9,8 +9,12 @@ use Rattle.sqlite.specs.Listing.{understood}
 use Rattle.sqlite_resolve.specs.declared.compiled.Compiled.{Compiled}
 use Rattle.sqlite_schema.specs.declared.command.Returning.{Returning}
 use Rattle.sqlite.proofs.Callers.{IsPlain}
-use Rattle.contest_tables.specs.Connected.{IsUndone}
-use Rattle.contest_tables.specs.Steps.{Content, OnlyMade, Showing, HasContent, Spells, Holds, Within}
+use Rattle.sqlite.specs.Schema.{Schema}
+use Rattle.sqlite.specs.Table.{Table}
+use Rattle.std.specs.List.{AllByRecursion}
+use Rattle.contest_tables.specs.Connected.{IsAtRest, IsOfDesk, IsBare, IsUndone}
+use Rattle.contest_tables.specs.Tables.{rows_in}
+use Rattle.contest_tables.specs.Steps.{Content, OnlyMade, Showing, HasContent, Spells, Holds, Within, AreNumbered}
 use Rattle.contest_tables.proofs.OneWordTexts.{begin_is, commit_is}
 use Rattle.contest_tables.proofs.UndoLemmas.{runs_word, commits_word}
 
@@ -33,6 +37,17 @@ same_holds old new now kept up same committed h = record {
   shows = subst (λ d. HasContent d now) (sym same) h.shows;
   keeps = subst (λ d. HasContent d kept) (sym committed) h.keeps;
 }
+
+-- what a connection holds at first
+pub bare_holds : (s : State) → IsAtRest s → IsBare s → Holds s (OnlyMade []) (OnlyMade [])
+bare_holds s rest bare =
+    let none : HasContent s.now (OnlyMade []) = (bare, subst (λ (schema : Schema). AllByRecursion (λ (t : Table). s.now.trees t.tree ≡ []) schema.tables) (sym bare) tt) in
+    record { is_open = rest.0; shows = none; keeps = subst (λ d. HasContent d (OnlyMade [])) rest.1 none }
+
+pub desk_holds : (s : State) → IsAtRest s → IsOfDesk s → AreNumbered s.now.trees → Holds s (Showing (rows_in s.now.trees)) (Showing (rows_in s.now.trees))
+desk_holds s rest desk numbered =
+    let all : HasContent s.now (Showing (rows_in s.now.trees)) = (desk, refl, numbered) in
+    record { is_open = rest.0; shows = all; keeps = subst (λ d. HasContent d (Showing (rows_in s.now.trees))) rest.1 all }
 
 pub begun : (old new : State) (now kept : Content) (count : ℕ) → Holds old now kept → Executes (codes "BEGIN") [] old new (Ok count) → Within new now kept
 begun old new now kept count h ran =

@@ -1,10 +1,12 @@
 //! The calls of the connection: each failure is counted and rolls the transaction back.
-ghost use Rattle.std.specs.Prelude.{◌≡◌, ℕ, Ok, Err, IfOk, OnOk, OnErr};
+ghost use Rattle.std.specs.Prelude.{◌≡◌, ◌⊎◌, ℕ, false, [], Ok, Err, IsTrue, IfOk, OnOk, OnErr};
 ghost use Rattle.sqlite.specs.Values.{bound};
 ghost use Rattle.sqlite.specs.Held.{state};
 ghost use Rattle.sqlite.specs.State.{HasCleanDisk, Survives, Executes, CommitsBy, CommitsShowing, Shown};
 ghost use Rattle.contest_tables.specs.Counts.{counted, CountsCall};
-ghost use Rattle.contest_tables.specs.Connected.{connection_of, shown_by, counts_of, IsUndone};
+ghost use Rattle.contest_tables.specs.Steps.{OnlyMade, Showing, AreNumbered, Holds};
+ghost use Rattle.contest_tables.specs.Tables.{rows_in};
+ghost use Rattle.contest_tables.specs.Connected.{connection_of, shown_by, counts_of, IsAtRest, IsOfDesk, IsBare, IsUndone};
 
 use crate::Counts;
 use crate::counts::cause_of;
@@ -27,8 +29,11 @@ pub struct Tables<S: Alter> {
 impl<S: Alter> Tables<S> {
     /// The connection, of whose calls none failed yet.
     pub fn new(conn: Connection<S>) -> Tables<S>
-        ensures shown { connection_of result ≡ conn }
+        ensures connection { connection_of result ≡ conn }
         ensures counts { counts_of result ≡ record { faults = 0; refusals = 0 } }
+        ensures bare { IsAtRest (state S.Store conn) → IsBare (state S.Store conn) → Holds (shown_by S.Store result) (OnlyMade []) (OnlyMade []) }
+        ensures desk { IsAtRest (state S.Store conn) → IsOfDesk (state S.Store conn) → AreNumbered (state S.Store conn).now.trees
+            → Holds (shown_by S.Store result) (Showing (rows_in (state S.Store conn).now.trees)) (Showing (rows_in (state S.Store conn).now.trees)) }
     {
         Tables {
             conn,
@@ -45,6 +50,15 @@ impl<S: Alter> Tables<S> {
     {
         let Tables { conn, counts: _ } = self;
         conn
+    }
+
+    /// Whether the tables of a contest stand, in a database that has these or none.
+    pub fn stand(&self) -> bool
+        requires { IsOfDesk (shown_by S.Store self.now) ⊎ IsBare (shown_by S.Store self.now) }
+        ensures stand { IsTrue result → IsOfDesk (shown_by S.Store self.now) }
+        ensures none { result ≡ false → IsBare (shown_by S.Store self.now) }
+    {
+        !self.conn.schema().tables.as_slice().is_empty()
     }
 
     /// How many of its calls failed.
