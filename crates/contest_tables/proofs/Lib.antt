@@ -1,0 +1,15 @@
+pub mod TextMeanings
+pub mod OneWordTexts
+pub mod UndoLemmas
+pub mod SortedLemmas
+pub mod LoadLemmas
+pub mod PlainQueryLemmas
+pub mod FileLemmas
+pub mod HoldLemmas
+pub mod StepLemmas
+pub mod InsertLemmas
+pub mod RowLemmas
+pub mod MakingLemmas
+pub mod UpdateLemmas
+pub mod PlaceLemmas
+pub mod ChangeLemmas

@@ -1,0 +1,14 @@
+//! The tables of a contest: what they show, and the statements on them.
+#![tactic(auto)]
+
+mod counts;
+mod row_change;
+mod statements;
+mod table_name;
+mod tables;
+mod texts;
+
+pub use counts::Counts;
+pub use row_change::RowChange;
+pub use table_name::TableName;
+pub use tables::Tables;

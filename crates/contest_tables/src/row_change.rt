@@ -1,0 +1,13 @@
+//! Changes of a row where it stands.
+
+/// Which columns of which row change, and what the statement is given for it: the key of the row, and
+/// then the new values in the order of the columns.
+#[derive(Clone, Copy, Debug, PartialEq, Eq)]
+pub enum RowChange {
+    /// Start, thaw and finalized, in the one row of `Contest`.
+    Marks,
+    /// The state, in a row of `Rejudgings`.
+    RejudgingState,
+    /// Type, account and ready, in a row of `Members`.
+    MemberState,
+}

@@ -1,0 +1,40 @@
+//! The tables of a contest.
+
+/// The tables of a contest, in the order in which they are made.
+#[derive(Clone, Copy, Debug, PartialEq, Eq)]
+pub enum TableName {
+    /// That the tables are a desk's, and of which schema: one row.
+    Desk,
+    /// The head of the contest and the marks of its clock: one row.
+    Contest,
+    /// Judgement types, languages, groups, problems and teams.
+    Items,
+    /// The accounts, by their ids.
+    Accounts,
+    /// The submissions, with their files.
+    Submissions,
+    /// The proposed verdicts.
+    Proposals,
+    /// The verdicts that were released.
+    Releases,
+    /// The rejudgings, without their members.
+    Rejudgings,
+    /// The members of the rejudgings.
+    Members,
+    /// The clarifications.
+    Clarifications,
+}
+
+/// All tables, in the order in which they are made.
+pub(crate) const ALL_TABLES: [TableName; 10] = [
+    TableName::Desk,
+    TableName::Contest,
+    TableName::Items,
+    TableName::Accounts,
+    TableName::Submissions,
+    TableName::Proposals,
+    TableName::Releases,
+    TableName::Rejudgings,
+    TableName::Members,
+    TableName::Clarifications,
+];

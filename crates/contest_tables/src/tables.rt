@@ -1,0 +1,125 @@
+//! The calls of the connection: each failure is counted and rolls the transaction back.
+ghost use Rattle.std.specs.Prelude.{◌≡◌, ◌⊎◌, ℕ, false, [], Ok, Err, IsTrue, IfOk, OnOk, OnErr};
+ghost use Rattle.sqlite.specs.Values.{bound};
+ghost use Rattle.sqlite.specs.Held.{state};
+ghost use Rattle.sqlite.specs.State.{HasCleanDisk, Survives, Executes, CommitsBy, CommitsShowing, Shown};
+ghost use Rattle.contest_tables.specs.Counts.{counted, CountsCall};
+ghost use Rattle.contest_tables.specs.Steps.{OnlyMade, Showing, AreNumbered, Holds};
+ghost use Rattle.contest_tables.specs.Tables.{rows_in};
+ghost use Rattle.contest_tables.specs.Connected.{connection_of, shown_by, counts_of, IsAtRest, IsOfDesk, IsBare, IsUndone};
+
+use crate::Counts;
+use crate::counts::cause_of;
+use contest_store::StoreError;
+use sqlite::types::ValueRef;
+use sqlite::{Alter, Connection, Row};
+
+/// A connection to the tables of a contest, whose statements are those of this crate.
+///
+/// # Errors
+///
+/// Each call answers `Memory` where a growth was refused, and `Fault` where the connection failed for
+/// another cause. Both are counted, and no change stands then that wasn't committed.
+#[derive(Drop)]
+pub struct Tables<S: Alter> {
+    conn: Connection<S>,
+    counts: Counts,
+}
+
+impl<S: Alter> Tables<S> {
+    /// The connection, of whose calls none failed yet.
+    pub fn new(conn: Connection<S>) -> Tables<S>
+        ensures connection { connection_of result ≡ conn }
+        ensures counts { counts_of result ≡ record { faults = 0; refusals = 0 } }
+        ensures bare { IsAtRest (state S.Store conn) → IsBare (state S.Store conn) → Holds (shown_by S.Store result) (OnlyMade []) (OnlyMade []) }
+        ensures desk { IsAtRest (state S.Store conn) → IsOfDesk (state S.Store conn) → AreNumbered (state S.Store conn).now.trees
+            → Holds (shown_by S.Store result) (Showing (rows_in (state S.Store conn).now.trees)) (Showing (rows_in (state S.Store conn).now.trees)) }
+    {
+        Tables {
+            conn,
+            counts: Counts {
+                faults: 0,
+                refusals: 0,
+            },
+        }
+    }
+
+    /// The connection alone.
+    pub fn into_connection(self) -> Connection<S>
+        ensures { result ≡ connection_of self }
+    {
+        let Tables { conn, counts: _ } = self;
+        conn
+    }
+
+    /// Whether the tables of a contest stand, in a database that has these or none.
+    pub fn stand(&self) -> bool
+        requires { IsOfDesk (shown_by S.Store self.now) ⊎ IsBare (shown_by S.Store self.now) }
+        ensures stand { IsTrue result → IsOfDesk (shown_by S.Store self.now) }
+        ensures none { result ≡ false → IsBare (shown_by S.Store self.now) }
+    {
+        !self.conn.schema().tables.as_slice().is_empty()
+    }
+
+    /// How many of its calls failed.
+    pub fn counts(&self) -> Counts
+        ensures { result ≡ counts_of self.now }
+    {
+        self.counts
+    }
+
+    /// What failed after a call that was answered.
+    pub fn give_up(&mut self, error: StoreError) -> StoreError
+        ensures error { result ≡ error }
+        ensures undone { HasCleanDisk (shown_by S.Store self.new) → IsUndone (shown_by S.Store self.old) (shown_by S.Store self.new) }
+        ensures counts { counts_of self.new ≡ counted error (counts_of self.old) }
+        ensures survives { Survives (shown_by S.Store self.old) (shown_by S.Store self.new) (λ _. ⊥) }
+    {
+        roll_back(&mut self.conn);
+        self.counts.count(error);
+        error
+    }
+
+    pub(crate) fn execute(&mut self, sql: &str, params: &[ValueRef<'_>]) -> Result<(), StoreError>
+        ensures ok { HasCleanDisk (shown_by S.Store self.new) → OnOk result ((count : ℕ) × Executes sql.now (bound params.now) (shown_by S.Store self.old) (shown_by S.Store self.new) (Ok count)) }
+        ensures err { HasCleanDisk (shown_by S.Store self.new) → OnErr result (IsUndone (shown_by S.Store self.old) (shown_by S.Store self.new)) }
+        ensures counts { CountsCall result (counts_of self.old) (counts_of self.new) }
+        ensures survives { Survives (shown_by S.Store self.old) (shown_by S.Store self.new) (CommitsBy sql.now (bound params.now) (shown_by S.Store self.old)) }
+    {
+        match self.conn.execute(sql, params) {
+            Ok(_) => Ok(()),
+            Err(error) => Err(self.give_up(cause_of(&error))),
+        }
+    }
+
+    pub(crate) fn query_all(
+        &mut self,
+        sql: &str,
+        params: &[ValueRef<'_>],
+    ) -> Result<Vec<Row>, StoreError>
+        ensures ok { HasCleanDisk (shown_by S.Store self.new) → IfOk result (λ rows. Shown sql.now (bound params.now) (shown_by S.Store self.old) (shown_by S.Store self.new) rows.items) }
+        ensures err { HasCleanDisk (shown_by S.Store self.new) → OnErr result (IsUndone (shown_by S.Store self.old) (shown_by S.Store self.new)) }
+        ensures counts { CountsCall result (counts_of self.old) (counts_of self.new) }
+        ensures survives { Survives (shown_by S.Store self.old) (shown_by S.Store self.new) (CommitsShowing sql.now (bound params.now) (shown_by S.Store self.old)) }
+    {
+        match self.conn.query_all(sql, params) {
+            Ok(rows) => Ok(rows),
+            Err(error) => Err(self.give_up(cause_of(&error))),
+        }
+    }
+
+    pub(crate) fn is_in_transaction(&self) -> bool
+        ensures { result ≡ (shown_by S.Store self.now).in_transaction }
+    {
+        !self.conn.is_autocommit()
+    }
+}
+
+fn roll_back<S: Alter>(conn: &mut Connection<S>)
+    ensures undone { HasCleanDisk (state S.Store conn.new) → IsUndone (state S.Store conn.old) (state S.Store conn.new) }
+    ensures survives { Survives (state S.Store conn.old) (state S.Store conn.new) (λ _. ⊥) }
+{
+    if !conn.is_autocommit() {
+        let _ = conn.execute("ROLLBACK", &[]);
+    }
+}

@@ -1,0 +1,272 @@
+//! One contest's tables: each is made, takes a row and shows it, and a row that may change changes.
+use contest_store::StoreError;
+use contest_tables::{Counts, RowChange, TableName, Tables};
+use sqlite::types::ValueRef;
+use sqlite::types::ValueRef::{Blob, Int, Null, Text};
+use sqlite::{Connection, MemStore, Row};
+use std::alloc::Global;
+
+/// A row of each table, in the order in which the tables are made.
+static ROWS: [(TableName, &[ValueRef<'static>]); 10] = [
+    (TableName::Desk, &[Int(1), Int(1)]),
+    (
+        TableName::Contest,
+        &[
+            Int(1),
+            Text(b"demo"),
+            Text(b"Demo Cup"),
+            Int(18_000_000),
+            Null,
+            Int(20),
+            Int(0),
+            Int(4),
+            Int(4),
+            Int(4),
+            Int(1_709_370_000_000),
+            Null,
+            Null,
+        ],
+    ),
+    (
+        TableName::Items,
+        &[
+            Int(0),
+            Int(1),
+            Text(b"AC"),
+            Text(b"correct"),
+            Text(b""),
+            Int(0),
+            Int(1),
+            Int(0),
+            Text(b""),
+        ],
+    ),
+    (
+        TableName::Accounts,
+        &[Text(b"a1"), Int(0), Text(b"t1"), Blob(b"digest")],
+    ),
+    (
+        TableName::Submissions,
+        &[
+            Int(1),
+            Int(1),
+            Int(1),
+            Int(1_709_370_300_000),
+            Text(b"a"),
+            Text(b"cpp"),
+            Null,
+            Blob(b"int main"),
+            Text(b"key"),
+        ],
+    ),
+    (
+        TableName::Proposals,
+        &[
+            Int(1),
+            Int(1),
+            Int(1),
+            Text(b"AC"),
+            Text(b"j1"),
+            Int(1_709_370_360_000),
+        ],
+    ),
+    (
+        TableName::Releases,
+        &[
+            Int(1),
+            Int(1),
+            Int(1),
+            Int(1),
+            Text(b"AC"),
+            Int(1_709_370_360_000),
+        ],
+    ),
+    (TableName::Rejudgings, &[Int(1), Text(b"tests"), Int(0)]),
+    (
+        TableName::Members,
+        &[Int(1), Int(0), Int(1), Int(1), Null, Null, Int(0)],
+    ),
+    (
+        TableName::Clarifications,
+        &[
+            Int(1),
+            Int(0),
+            Int(1),
+            Int(1),
+            Text(b"j1"),
+            Null,
+            Null,
+            Text(b"Welcome"),
+            Int(1_709_370_000_000),
+            Null,
+        ],
+    ),
+];
+
+fn open(alloc: Global) -> Result<Tables<MemStore>, StoreError> {
+    match Connection::open_in_memory(alloc) {
+        Ok(conn) => Ok(Tables::new(conn)),
+        Err(_) => Err(StoreError::Memory),
+    }
+}
+
+fn begin(tables: &mut Tables<MemStore>) -> Result<(), StoreError> {
+    tables.begin()
+}
+
+fn make(tables: &mut Tables<MemStore>) -> Result<(), StoreError> {
+    tables.make()
+}
+
+fn end(tables: &mut Tables<MemStore>) -> Result<(), StoreError> {
+    tables.end()
+}
+
+fn insert(
+    tables: &mut Tables<MemStore>,
+    table: TableName,
+    row: &[ValueRef<'_>],
+) -> Result<(), StoreError> {
+    tables.insert(table, row)
+}
+
+fn load(tables: &mut Tables<MemStore>, table: TableName) -> Result<Vec<Row>, StoreError> {
+    tables.load(table)
+}
+
+fn change(
+    tables: &mut Tables<MemStore>,
+    change: RowChange,
+    given: &[ValueRef<'_>],
+) -> Result<(), StoreError> {
+    tables.change(change, given)
+}
+
+fn files(tables: &mut Tables<MemStore>, number: i64) -> Result<usize, StoreError> {
+    let rows = tables.files(&[Int(1), Int(number)])?;
+    Ok(rows.len())
+}
+
+/// The tables with one row each.
+fn filled(alloc: Global) -> Result<Tables<MemStore>, StoreError> {
+    let mut tables = open(alloc)?;
+    begin(&mut tables)?;
+    make(&mut tables)?;
+    for (table, row) in ROWS {
+        insert(&mut tables, table, row)?;
+    }
+    Ok(tables)
+}
+
+/// How many rows the tables show in all.
+fn rows(tables: &mut Tables<MemStore>) -> Result<usize, StoreError> {
+    let mut count: usize = 0;
+    for (table, _) in ROWS {
+        count = count.saturating_add(load(tables, table)?.len());
+    }
+    Ok(count)
+}
+
+/// The number at a column of a table's first row; 7 where there is none.
+fn number(tables: &mut Tables<MemStore>, table: TableName, at: usize) -> Result<i64, StoreError> {
+    let rows = load(tables, table)?;
+    match rows.first() {
+        Some(row) => Ok(row.get(at).unwrap_or(7)),
+        None => Ok(7),
+    }
+}
+
+fn count_filled(alloc: Global) -> Result<(usize, usize, Counts), StoreError> {
+    let mut tables = filled(alloc)?;
+    let shown = rows(&mut tables)?;
+    end(&mut tables)?;
+    begin(&mut tables)?;
+    let kept = rows(&mut tables)?;
+    Ok((shown, kept, tables.counts()))
+}
+
+const NONE_FAILED: Counts = Counts {
+    faults: 0,
+    refusals: 0,
+};
+
+/// Each table is made and takes a row, which stands after the commit too.
+#[test]
+fn each_table_takes_a_row(rt: HostRuntime) {
+    let counted = count_filled(rt.alloc());
+    assert!(rt; counted == Ok((10, 10, NONE_FAILED)));
+}
+
+fn look_at_files(alloc: Global) -> Result<(usize, usize, i64), StoreError> {
+    let mut tables = filled(alloc)?;
+    let found = files(&mut tables, 1)?;
+    let other = files(&mut tables, 2)?;
+    Ok((
+        found,
+        other,
+        number(&mut tables, TableName::Submissions, 8)?,
+    ))
+}
+
+/// A file is found by its team and its number, and a load gives its length.
+#[test]
+fn a_file_is_found(rt: HostRuntime) {
+    let found = look_at_files(rt.alloc());
+    assert!(rt; found == Ok((1, 0, 8)));
+}
+
+fn changed(alloc: Global) -> Result<(i64, i64, i64), StoreError> {
+    let mut tables = filled(alloc)?;
+    change(
+        &mut tables,
+        RowChange::Marks,
+        &[Int(1), Int(1_709_370_000_000), Int(5), Null],
+    )?;
+    change(&mut tables, RowChange::RejudgingState, &[Int(1), Int(2)])?;
+    change(
+        &mut tables,
+        RowChange::MemberState,
+        &[Int(1), Int(0), Text(b"AC"), Null, Int(1)],
+    )?;
+    Ok((
+        number(&mut tables, TableName::Contest, 11)?,
+        number(&mut tables, TableName::Rejudgings, 2)?,
+        number(&mut tables, TableName::Members, 6)?,
+    ))
+}
+
+/// The marks, a rejudging's state and a member change where they stand.
+#[test]
+fn rows_change(rt: HostRuntime) {
+    let changed = changed(rt.alloc());
+    assert!(rt; changed == Ok((5, 2, 1)));
+}
+
+fn refused(alloc: Global) -> Result<(bool, bool, Counts), StoreError> {
+    let mut tables = filled(alloc)?;
+    end(&mut tables)?;
+    begin(&mut tables)?;
+    let again = insert(
+        &mut tables,
+        TableName::Rejudgings,
+        &[Int(1), Text(b"again"), Int(0)],
+    );
+    begin(&mut tables)?;
+    let stands = rows(&mut tables)?;
+    Ok((
+        again == Err(StoreError::Fault),
+        stands == 10,
+        tables.counts(),
+    ))
+}
+
+/// A second row of a key is a fault, and what was committed stands.
+#[test]
+fn a_key_stands_once(rt: HostRuntime) {
+    let refused = refused(rt.alloc());
+    let one_fault = Counts {
+        faults: 1,
+        refusals: 0,
+    };
+    assert!(rt; refused == Ok((true, true, one_fault)));
+}
