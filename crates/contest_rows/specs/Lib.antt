@@ -1,0 +1,5 @@
+pub mod Cells
+pub mod Readings
+pub mod FixedRows
+pub mod ListRows
+pub mod Submissions

@@ -1,0 +1,25 @@
+-- What cells of tables read as: some values are none of their kind, then there is none.
+use Rattle.std.specs.Prelude.{ℕ, List, Option, Some, None}
+use Rattle.std.specs.Option.{option_map, unwrap_or}
+use Rattle.sqlite_value.specs.declared.value.Value.{Value}
+use Rattle.sqlite_value.specs.declared.value.Value.TheVariants.{Null, Text}
+use Rattle.contest_types.specs.IdText.{id_of}
+use Rattle.contest_types.specs.NameText.{name_from}
+use Rattle.contest_types.specs.Places.{place_of}
+use Rattle.contest_rows.specs.Cells.{text_of}
+
+-- the place of the row with the id in the cell, and 0 where none has it
+abbrev pub place_in : List (List ℕ) → Value → ℕ
+place_in ids v = unwrap_or (place_of (text_of v) ids) 0
+
+-- an id or NULL
+abbrev pub id_if_any : Value → Option (Option (List ℕ))
+id_if_any Null = Some None
+id_if_any (Text t) = option_map Some (id_of t)
+id_if_any _ = None
+
+-- a name or NULL
+abbrev pub name_if_any : Value → Option (Option (List ℕ))
+name_if_any Null = Some None
+name_if_any (Text t) = option_map Some (name_from t)
+name_if_any _ = None
