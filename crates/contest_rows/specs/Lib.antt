@@ -1,4 +1,5 @@
 pub mod Cells
+pub mod Lists
 pub mod Readings
 pub mod FixedRows
 pub mod ListRows

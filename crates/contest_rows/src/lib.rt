@@ -2,6 +2,8 @@
 #![tactic(auto)]
 
 mod cells;
+mod lists;
 mod submissions;
 
-pub use submissions::{read_submission, submission_cells};
+pub use lists::{Listed, read_list};
+pub use submissions::submission_cells;

@@ -13,6 +13,7 @@ ghost use Rattle.contest_rows.specs.Submissions.{is_submission_row, submission_i
 use crate::cells::{
     id_if_any, id_or_null, is_row, name_if_any, name_or_null, number, number_at, text_at,
 };
+use crate::lists::Listed;
 use contest_types::limits::POSTED_FILE;
 use contest_types::{Moment, Rows, Settings, Submission};
 use sqlite::Row;
@@ -77,25 +78,21 @@ fn blob_type<'a>() -> ValueRef<'a>
     ValueRef::Text("blob".as_bytes())
 }
 
-/// The submission, without its file, that the loaded row with a number is; none where it is no row of
-/// one, or where the file is too large.
-///
-/// # Errors
-///
-/// Want of memory alone.
-pub fn read_submission(
-    alloc: Global,
-    settings: &Settings,
-    row_number: u64,
-    row: &Row,
-) -> Result<Option<Submission>, AllocError>
-    requires { row_number < 2 ^ 63 }
-    ensures { IfOk result (λ found. found ≡ submission_in settings.now row_number row.now) }
-{
-    let Some(submission) = submission_said(alloc, settings, row)? else {
-        return Ok(None);
-    };
-    Ok(if_its_row(settings, row_number, row, submission))
+impl Listed for Submission {
+    ghost row_in = { submission_in };
+
+    // Without its file, which a load doesn't show; none where that is too large.
+    fn read(
+        alloc: Global,
+        settings: &Settings,
+        number: u64,
+        row: &Row,
+    ) -> Result<Option<Submission>, AllocError> {
+        let Some(submission) = submission_said(alloc, settings, row)? else {
+            return Ok(None);
+        };
+        Ok(if_its_row(settings, number, row, submission))
+    }
 }
 
 // The submission, if the row is its and its file isn't too large.
