@@ -4,3 +4,5 @@ pub mod Readings
 pub mod FixedRows
 pub mod ListRows
 pub mod Submissions
+pub mod Releases
+pub mod Proposals

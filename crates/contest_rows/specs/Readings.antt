@@ -1,12 +1,13 @@
 -- What cells of tables read as: some values are none of their kind, then there is none.
-use Rattle.std.specs.Prelude.{ℕ, List, Option, Some, None}
+use Rattle.std.specs.Prelude.{ℕ, List, Option, Some, None, if◌then◌else◌}
 use Rattle.std.specs.Option.{option_map, unwrap_or}
 use Rattle.sqlite_value.specs.declared.value.Value.{Value}
 use Rattle.sqlite_value.specs.declared.value.Value.TheVariants.{Null, Text}
+use Rattle.sqlite_value.specs.Order.{Row}
 use Rattle.contest_types.specs.IdText.{id_of}
 use Rattle.contest_types.specs.NameText.{name_from}
 use Rattle.contest_types.specs.Places.{place_of}
-use Rattle.contest_rows.specs.Cells.{text_of}
+use Rattle.contest_rows.specs.Cells.{same_row, text_of}
 
 -- the place of the row with the id in the cell, and 0 where none has it
 abbrev pub place_in : List (List ℕ) → Value → ℕ
@@ -23,3 +24,7 @@ abbrev pub name_if_any : Value → Option (Option (List ℕ))
 name_if_any Null = Some None
 name_if_any (Text t) = option_map Some (name_from t)
 name_if_any _ = None
+
+-- what was said, if the row is its row, cell by cell
+abbrev pub if_its_row : {X : Type 0} → (X → Row) → Row → X → Option X
+if_its_row row_of r x = if same_row r (row_of x) then Some x else None

@@ -3,7 +3,11 @@
 
 mod cells;
 mod lists;
+mod proposals;
+mod releases;
 mod submissions;
 
 pub use lists::{Listed, read_list};
+pub use proposals::proposal_cells;
+pub use releases::release_cells;
 pub use submissions::submission_cells;
