@@ -30,6 +30,10 @@ abbrev pub text_of : Value → List ℕ
 text_of (Text t) = t
 text_of _ = []
 
+abbrev pub is_null : Value → Bool
+is_null Null = true
+is_null _ = false
+
 abbrev pub lent : List ValueRef → Row
 lent = map owned
 

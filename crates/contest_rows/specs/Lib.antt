@@ -6,3 +6,6 @@ pub mod ListRows
 pub mod Submissions
 pub mod Releases
 pub mod Proposals
+pub mod Rejudgings
+pub mod References
+pub mod Clarifications

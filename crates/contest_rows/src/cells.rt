@@ -5,7 +5,7 @@ ghost use Rattle.sqlite_value.specs.Value.{owned};
 ghost use Rattle.sqlite_value.specs.declared.value.Value.TheVariants.{Text};
 ghost use Rattle.sqlite.specs.Values.{or_null};
 ghost use Rattle.contest_rows.specs.Readings.{id_if_any, name_if_any};
-ghost use Rattle.contest_rows.specs.Cells.{lent, number, number_of, same_cell, same_row, text_of};
+ghost use Rattle.contest_rows.specs.Cells.{is_null, lent, number, number_of, same_cell, same_row, text_of};
 
 use contest_types::{Id, Name};
 use sqlite::Row;
@@ -48,6 +48,13 @@ pub fn text_at(row: &Row, at: usize) -> &[u8]
         ValueRef::Text(text) => text,
         _ => b"".as_slice(),
     }
+}
+
+/// Whether a cell holds nothing.
+pub fn is_null(row: &Row, at: usize) -> bool
+    ensures { result ≡ is_null (column row.now at) }
+{
+    matches!(cell(row, at), ValueRef::Null)
 }
 
 /// Whether a row that was read has these cells, and no others.
