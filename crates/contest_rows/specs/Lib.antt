@@ -9,3 +9,4 @@ pub mod Proposals
 pub mod Rejudgings
 pub mod References
 pub mod Clarifications
+pub mod Laws

@@ -3,6 +3,7 @@
 
 mod cells;
 mod clarifications;
+pub mod laws;
 mod lists;
 mod members;
 mod proposals;

@@ -1,0 +1,24 @@
+//! Laws of rows: functions that do nothing, and whose contracts say that a contest and its tables are
+//! one to one.
+ghost use Rattle.contest_rows.specs.Laws.{IsWritableProposal, IsWritableRelease, ReadsBack, SubmissionsReadBack, SubmissionsWriteBack, WritesBack};
+ghost use Rattle.contest_rows.specs.ListRows.{proposal_row, release_row};
+ghost use Rattle.contest_rows.specs.Proposals.{proposal_in};
+ghost use Rattle.contest_rows.specs.Releases.{release_in};
+
+/// A release is read of its own row, and of no other.
+pub fn releases_are_their_rows()
+    ensures read { ReadsBack IsWritableRelease release_row release_in }
+    ensures written { WritesBack release_row release_in }
+{}
+
+/// A proposal is read of its own row, and of no other.
+pub fn proposals_are_their_rows()
+    ensures read { ReadsBack IsWritableProposal proposal_row proposal_in }
+    ensures written { WritesBack proposal_row proposal_in }
+{}
+
+/// A submission, without its file, is read of its own loaded row, and of no other.
+pub fn submissions_are_their_rows()
+    ensures read { SubmissionsReadBack }
+    ensures written { SubmissionsWriteBack }
+{}
