@@ -5,3 +5,7 @@ pub mod NumeralLemmas
 pub mod RowLemmas
 pub mod PlaceBack
 pub mod RowLaws
+pub mod ReferenceLaws
+pub mod ClarificationLaws
+pub mod ListLaws
+pub mod RejudgingLaws

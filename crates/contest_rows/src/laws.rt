@@ -1,7 +1,8 @@
 //! Laws of rows: functions that do nothing, and whose contracts say that a contest and its tables are
 //! one to one.
-ghost use Rattle.contest_rows.specs.Laws.{IsWritableProposal, IsWritableRelease, ReadsBack, SubmissionsReadBack, SubmissionsWriteBack, WritesBack};
-ghost use Rattle.contest_rows.specs.ListRows.{proposal_row, release_row};
+ghost use Rattle.contest_rows.specs.Clarifications.{clarification_in};
+ghost use Rattle.contest_rows.specs.Laws.{IsWritableClarification, IsWritableProposal, IsWritableRelease, ListsReadBack, ListsWriteBack, ReadsBack, RejudgingsReadBack, RejudgingsWriteBack, SubmissionsReadBack, SubmissionsWriteBack, WritesBack};
+ghost use Rattle.contest_rows.specs.ListRows.{clarification_row, proposal_row, release_row};
 ghost use Rattle.contest_rows.specs.Proposals.{proposal_in};
 ghost use Rattle.contest_rows.specs.Releases.{release_in};
 
@@ -21,4 +22,22 @@ pub fn proposals_are_their_rows()
 pub fn submissions_are_their_rows()
     ensures read { SubmissionsReadBack }
     ensures written { SubmissionsWriteBack }
+{}
+
+/// A clarification is read of its own row, and of no other.
+pub fn clarifications_are_their_rows()
+    ensures read { ReadsBack IsWritableClarification clarification_row clarification_in }
+    ensures written { WritesBack clarification_row clarification_in }
+{}
+
+/// Rejudgings are read of the rows of their two tables, and of no others.
+pub fn rejudgings_are_their_rows()
+    ensures read { RejudgingsReadBack }
+    ensures written { RejudgingsWriteBack }
+{}
+
+/// A list is read of its rows, counted from 1, and of no others, where each of its elements is.
+pub fn lists_are_their_rows<T>()
+    ensures read { ListsReadBack T }
+    ensures written { ListsWriteBack T }
 {}
