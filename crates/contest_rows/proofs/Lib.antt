@@ -9,3 +9,4 @@ pub mod ReferenceLaws
 pub mod ClarificationLaws
 pub mod ListLaws
 pub mod RejudgingLaws
+pub mod TableLaws

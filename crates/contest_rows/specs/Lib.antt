@@ -10,3 +10,4 @@ pub mod Rejudgings
 pub mod References
 pub mod Clarifications
 pub mod Laws
+pub mod Tables

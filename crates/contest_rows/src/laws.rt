@@ -5,6 +5,7 @@ ghost use Rattle.contest_rows.specs.Laws.{IsWritableClarification, IsWritablePro
 ghost use Rattle.contest_rows.specs.ListRows.{clarification_row, proposal_row, release_row};
 ghost use Rattle.contest_rows.specs.Proposals.{proposal_in};
 ghost use Rattle.contest_rows.specs.Releases.{release_in};
+ghost use Rattle.contest_rows.specs.Tables.{ClarificationIsOneRow, FinalizedIsOneCell, ProposalIsOneRow, RejudgingIsItsRows, ReleaseIsOneRow, StartIsOneCell, StateIsOneCell, SubmissionIsOneRow, ThawIsOneCell};
 
 /// A release is read of its own row, and of no other.
 pub fn releases_are_their_rows()
@@ -40,4 +41,22 @@ pub fn rejudgings_are_their_rows()
 pub fn lists_are_their_rows<T>()
     ensures read { ListsReadBack T }
     ensures written { ListsWriteBack T }
+{}
+
+/// What is added to a list of a contest is one more row at the end of its table; a rejudging has one
+/// more for each of its members, in theirs.
+pub fn additions_are_rows()
+    ensures submission { SubmissionIsOneRow }
+    ensures proposal { ProposalIsOneRow }
+    ensures release { ReleaseIsOneRow }
+    ensures clarification { ClarificationIsOneRow }
+    ensures rejudging { RejudgingIsItsRows }
+{}
+
+/// A rejudging's state and the marks of the clock are each one cell of a row that stands.
+pub fn changes_are_cells()
+    ensures state { StateIsOneCell }
+    ensures start { StartIsOneCell }
+    ensures thaw { ThawIsOneCell }
+    ensures finalized { FinalizedIsOneCell }
 {}
