@@ -1,0 +1,13 @@
+pub mod Cells
+pub mod Lists
+pub mod Readings
+pub mod FixedRows
+pub mod ListRows
+pub mod Submissions
+pub mod Releases
+pub mod Proposals
+pub mod Rejudgings
+pub mod References
+pub mod Clarifications
+pub mod Laws
+pub mod Tables

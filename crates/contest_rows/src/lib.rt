@@ -1,0 +1,22 @@
+//! A contest as rows of its tables: the cells of each row, and what a row that was read is.
+#![tactic(auto)]
+
+mod cells;
+mod clarifications;
+pub mod laws;
+mod lists;
+mod members;
+mod proposals;
+mod references;
+mod rejudgings;
+mod releases;
+mod submissions;
+
+pub use clarifications::clarification_cells;
+pub use lists::{Listed, read_list};
+pub use members::{account_cell, is_ready, member_cells, type_cell};
+pub use proposals::proposal_cells;
+pub use references::ReplyId;
+pub use rejudgings::{read_rejudgings, rejudging_cells, state_number};
+pub use releases::release_cells;
+pub use submissions::submission_cells;
