@@ -3,3 +3,4 @@ pub mod Readings
 pub mod FixedRows
 pub mod ListRows
 pub mod Submissions
+pub mod Items

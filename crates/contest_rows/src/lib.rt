@@ -2,6 +2,11 @@
 #![tactic(auto)]
 
 mod cells;
+mod items;
 mod submissions;
 
+pub use items::{
+    add_group_in, add_language_in, add_problem_in, add_type_in, group_cells, language_cells,
+    problem_cells, type_cells,
+};
 pub use submissions::{read_submission, submission_cells};
