@@ -1,17 +1,20 @@
 -- The settings that rows are: each row is added to those before it.
 use Rattle.std.specs.Prelude.{ℕ, ◌+◌, ◌^◌, nat_lt, ◌&&◌, ◌==◌, ◌++◌, Bool, true, false, List, [], ◌∷◌, length, map, Option, Some, None, Result, Ok, Err, if◌then◌else◌}
+use Rattle.std.specs.List.{slice_split}
 use Rattle.std.specs.Option.{option_map, option_and_then}
 use Rattle.sqlite_value.specs.Order.{Row, column}
+use Rattle.contest_types.specs.Places.{place_of}
 use Rattle.contest_types.specs.Setup.{Setup}
-use Rattle.contest_types.specs.SetupAdditions.{type_addition, language_addition, group_addition, problem_addition}
+use Rattle.contest_types.specs.SetupAdditions.{type_addition, language_addition, group_addition, problem_addition, team_addition}
 use Rattle.contest_types.specs.declared.objects.JudgementType.{JudgementType}
 use Rattle.contest_types.specs.declared.objects.Language.{Language}
 use Rattle.contest_types.specs.declared.objects.Problem.{Problem}
 use Rattle.contest_types.specs.declared.objects.Group.{Group}
+use Rattle.contest_types.specs.declared.objects.Team.{Team}
 use Rattle.contest_types.specs.declared.refusal.Cause.{Cause}
-use Rattle.contest_rows.specs.Cells.{number_of, same_row}
+use Rattle.contest_rows.specs.Cells.{number_of, same_row, text_of}
 use Rattle.contest_rows.specs.Readings.{id_in, is_set, name_in}
-use Rattle.contest_rows.specs.FixedRows.{type_row, language_row, group_row, problem_row}
+use Rattle.contest_rows.specs.FixedRows.{type_row, language_row, group_row, problem_row, team_row}
 
 -- the row may be added, and isn't there yet
 abbrev pub is_new : Result Bool Cause → Bool
@@ -55,3 +58,30 @@ with_group_in s r =
 abbrev pub with_problem_in : Setup → Row → Option Setup
 with_problem_in s r =
     option_and_then (λ p. if same_row r (problem_row (length s.problems + 1) p) && is_new (problem_addition s p) then Some (record s { problems = s.problems ++ p ∷ [] }) else None) (problem_said r)
+
+-- all of them, if each one is there
+abbrev pub all_there : {X : Type 0} → List (Option X) → Option (List X)
+all_there [] = Some []
+all_there (x ∷ xs) = option_and_then (λ y. option_map (λ ys. y ∷ ys) (all_there xs)) x
+
+-- the words of a text, one space between each two
+abbrev pub words : List ℕ → List (List ℕ)
+words = slice_split (λ c. c == 32)
+
+-- the places of the groups whose ids are the words
+abbrev pub groups_named : Setup → (text : List ℕ) → Option (List ℕ)
+groups_named s text = all_there (map (λ id. place_of id (map (λ (g : Group). g.id) s.groups)) (words text))
+
+-- an empty text names none
+abbrev pub groups_in : Setup → (text : List ℕ) → Option (List ℕ)
+groups_in s [] = Some []
+groups_in s text = groups_named s text
+
+abbrev pub team_said : Setup → Row → Option Team
+team_said s r =
+    option_and_then (λ groups. option_and_then (λ id. option_map (λ name. record { id = id; name = name; groups = groups; hidden = is_set (column r 6) })
+    (name_in (column r 3))) (id_in (column r 2))) (groups_in s (text_of (column r 8)))
+
+abbrev pub with_team_in : Setup → Row → Option Setup
+with_team_in s r =
+    option_and_then (λ t. if same_row r (team_row s (length s.teams + 1) t) && is_new (team_addition s t) then Some (record s { teams = s.teams ++ t ∷ [] }) else None) (team_said s r)

@@ -4,6 +4,7 @@
 mod cells;
 mod items;
 mod submissions;
+mod team_items;
 
 pub use items::{
     add_group_in, add_language_in, add_problem_in, add_type_in, group_cells, language_cells,
