@@ -1,10 +1,14 @@
 -- The words of a text, cut off one by one.
-use Rattle.std.proofs.Common.{◌≡◌, ◌≤◌, ◌<◌, ◌∙◌, ◌+◌, ℕ, Bool, true, false, List, [], ◌∷◌, length, take, drop, Option, Some, None, refl, sym, ap, cond, arith}
+use Rattle.std.proofs.Common.{◌≡◌, ◌≤◌, ◌<◌, ◌∙◌, ◌+◌, ◌++◌, ℕ, Bool, true, false, List, [], ◌∷◌, length, take, drop, Option, Some, None, refl, sym, ap, cond, arith}
 use Rattle.std.specs.Prelude.{◌==◌, nat_lt}
 use Rattle.std.specs.List.{onto_first, position, position_or_len}
 use Rattle.std.proofs.lemmas.Bool.Decides.{nat_tests}
+use Rattle.std.proofs.lemmas.List.{append-nil}
 use Rattle.std.proofs.lemmas.List.Splits.{slice_split-cons_no, slice_split_first}
-use Rattle.contest_rows.specs.Items.{words}
+use Rattle.contest_types.specs.Setup.{Setup}
+use Rattle.contest_types.specs.SettingsNames.{group_id_at}
+use Rattle.contest_rows.specs.FixedRows.{joined_ids}
+use Rattle.contest_rows.specs.Items.{spaced_ids, words}
 
 abbrev space : ℕ → Bool
 space c = c == 32
@@ -37,3 +41,8 @@ cut_nowhere text is =
       | false ↦ λ none e. whole text none
     ] in
     go (nat_lt (position_or_len space text) (length text)) refl is
+
+-- the first, and each of the others after a space
+pub joined_first : (s : Setup) (g : ℕ) (gs : List ℕ) → joined_ids s (g ∷ gs) ≡ group_id_at s g ++ spaced_ids s gs
+joined_first s g [] = sym (append-nil (group_id_at s g))
+joined_first s g (h ∷ hs) = ap (λ t. group_id_at s g ++ 32 ∷ t) (joined_first s h hs)

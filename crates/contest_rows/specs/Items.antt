@@ -1,10 +1,11 @@
 -- The settings that rows are: each row is added to those before it.
 use Rattle.std.specs.Prelude.{ℕ, ◌+◌, ◌^◌, nat_lt, ◌&&◌, ◌==◌, ◌++◌, Bool, true, false, List, [], ◌∷◌, length, map, Option, Some, None, Result, Ok, Err, if◌then◌else◌}
-use Rattle.std.specs.List.{slice_split}
+use Rattle.std.specs.List.{flat_map, slice_split}
 use Rattle.std.specs.Option.{option_map, option_and_then}
 use Rattle.sqlite_value.specs.Order.{Row, column}
 use Rattle.contest_types.specs.Places.{place_of}
 use Rattle.contest_types.specs.Setup.{Setup}
+use Rattle.contest_types.specs.SettingsNames.{group_id_at}
 use Rattle.contest_types.specs.SetupAdditions.{type_addition, language_addition, group_addition, problem_addition, team_addition}
 use Rattle.contest_types.specs.declared.objects.JudgementType.{JudgementType}
 use Rattle.contest_types.specs.declared.objects.Language.{Language}
@@ -76,6 +77,10 @@ groups_named s text = all_there (map (λ id. place_of id (map (λ (g : Group). g
 abbrev pub groups_in : Setup → (text : List ℕ) → Option (List ℕ)
 groups_in s [] = Some []
 groups_in s text = groups_named s text
+
+-- the ids of groups, each after a space
+abbrev pub spaced_ids : Setup → List ℕ → List ℕ
+spaced_ids s groups = flat_map (λ g. 32 ∷ group_id_at s g) groups
 
 abbrev pub team_said : Setup → Row → Option Team
 team_said s r =

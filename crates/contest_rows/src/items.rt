@@ -12,19 +12,20 @@ use std::alloc::{AllocError, Global};
 
 /// What the rows of all kinds of settings have; what a kind has no use for is 0 or empty.
 #[derive(Clone, Copy)]
-struct Item<'a> {
-    kind: u64,
-    number: u64,
-    id: &'a str,
-    name: &'a str,
-    label: &'a str,
-    ordinal: u64,
-    flag_a: bool,
-    flag_b: bool,
-    group_ids: &'a str,
+pub struct Item<'a> {
+    pub kind: u64,
+    pub number: u64,
+    pub id: &'a str,
+    pub name: &'a str,
+    pub label: &'a str,
+    pub ordinal: u64,
+    pub flag_a: bool,
+    pub flag_b: bool,
+    pub group_ids: &'a str,
 }
 
-fn item_cells<'a>(item: &Item<'a>) -> [ValueRef<'a>; 9]
+/// The cells of such a row.
+pub fn item_cells<'a>(item: &Item<'a>) -> [ValueRef<'a>; 9]
     requires kind { item.now.kind < 2 ^ 63 }
     requires row { item.now.number < 2 ^ 63 }
     requires ordinal { item.now.ordinal < 2 ^ 63 }
