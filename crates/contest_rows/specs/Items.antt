@@ -90,3 +90,17 @@ team_said s r =
 abbrev pub with_team_in : Setup → Row → Option Setup
 with_team_in s r =
     option_and_then (λ t. if same_row r (team_row s (length s.teams + 1) t) && is_new (team_addition s t) then Some (record s { teams = s.teams ++ t ∷ [] }) else None) (team_said s r)
+
+abbrev pub with_kind_in : (kind : ℕ) → Setup → Row → Option Setup
+with_kind_in kind s r =
+    if kind == 0 then with_type_in s r else if kind == 1 then with_language_in s r else if kind == 2 then with_group_in s r
+    else if kind == 3 then with_problem_in s r else if kind == 4 then with_team_in s r else None
+
+-- the settings with what the row is, by its kind
+abbrev pub with_item_in : Setup → Row → Option Setup
+with_item_in s r = with_kind_in (number_of (column r 0)) s r
+
+-- the settings with what all the rows are, one after the other
+abbrev pub items_in : Setup → List Row → Option Setup
+items_in s [] = Some s
+items_in s (r ∷ rs) = option_and_then (λ next. items_in next rs) (with_item_in s r)

@@ -3,6 +3,7 @@
 
 mod cells;
 mod items;
+mod settings;
 mod submissions;
 mod team_items;
 
@@ -10,4 +11,5 @@ pub use items::{
     add_group_in, add_language_in, add_problem_in, add_type_in, group_cells, language_cells,
     problem_cells, type_cells,
 };
+pub use settings::add_items_in;
 pub use submissions::{read_submission, submission_cells};
