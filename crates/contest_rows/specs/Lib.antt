@@ -4,3 +4,4 @@ pub mod FixedRows
 pub mod ListRows
 pub mod Submissions
 pub mod Items
+pub mod AccountRows

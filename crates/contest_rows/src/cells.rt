@@ -20,7 +20,7 @@ pub fn number<'a>(n: u64) -> ValueRef<'a>
 }
 
 /// The cell at a place, from 0.
-fn cell(row: &Row, at: usize) -> ValueRef<'_>
+pub fn cell(row: &Row, at: usize) -> ValueRef<'_>
     ensures { owned result ≡ column row.now at }
 {
     match row.get_ref(at) {

@@ -1,12 +1,14 @@
 //! A contest as rows of its tables: the cells of each row, and what a row that was read is.
 #![tactic(auto)]
 
+mod accounts;
 mod cells;
 mod items;
 mod settings;
 mod submissions;
 mod team_items;
 
+pub use accounts::{account_cells, read_accounts};
 pub use items::{
     add_group_in, add_language_in, add_problem_in, add_type_in, group_cells, language_cells,
     problem_cells, type_cells,
