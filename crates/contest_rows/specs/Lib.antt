@@ -5,3 +5,4 @@ pub mod ListRows
 pub mod Submissions
 pub mod Items
 pub mod AccountRows
+pub mod Heads

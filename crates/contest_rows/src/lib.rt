@@ -3,12 +3,14 @@
 
 mod accounts;
 mod cells;
+mod heads;
 mod items;
 mod settings;
 mod submissions;
 mod team_items;
 
 pub use accounts::{account_cells, read_accounts};
+pub use heads::{contest_cells, desk_cells, head_in, marks_in};
 pub use items::{
     add_group_in, add_language_in, add_problem_in, add_type_in, group_cells, language_cells,
     problem_cells, type_cells,
