@@ -6,3 +6,4 @@ pub mod Submissions
 pub mod Items
 pub mod AccountRows
 pub mod Heads
+pub mod FixedParts

@@ -3,6 +3,7 @@
 
 mod accounts;
 mod cells;
+mod fixed_part;
 mod heads;
 mod items;
 mod settings;
@@ -10,6 +11,7 @@ mod submissions;
 mod team_items;
 
 pub use accounts::{account_cells, read_accounts};
+pub use fixed_part::read_fixed;
 pub use heads::{contest_cells, desk_cells, head_in, marks_in};
 pub use items::{
     add_group_in, add_language_in, add_problem_in, add_type_in, group_cells, language_cells,
