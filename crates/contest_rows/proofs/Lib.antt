@@ -1,2 +1,3 @@
 pub mod CellLemmas
 pub mod WordLemmas
+pub mod RowLemmas
