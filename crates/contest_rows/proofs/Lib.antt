@@ -1,3 +1,4 @@
 pub mod CellLemmas
 pub mod WordLemmas
 pub mod RowLemmas
+pub mod AccountLaws
