@@ -1,4 +1,4 @@
 pub mod CellLemmas
 pub mod WordLemmas
 pub mod RowLemmas
-pub mod AccountLaws
+pub mod ReadingLemmas

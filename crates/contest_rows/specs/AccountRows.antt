@@ -1,9 +1,11 @@
 -- The accounts that rows are.
-use Rattle.std.specs.Prelude.{ℕ, ◌==◌, List, [], ◌∷◌, length, map, Option, Some, None, if◌then◌else◌}
+use Rattle.std.specs.Prelude.{◌≡◌, ℕ, true, ◌==◌, List, [], ◌∷◌, length, map, Option, Some, None, if◌then◌else◌}
 use Rattle.std.specs.Option.{option_map, option_and_then}
 use Rattle.sqlite_value.specs.Order.{Row, column}
 use Rattle.sqlite_value.specs.declared.value.Value.{Value}
 use Rattle.sqlite_value.specs.declared.value.Value.TheVariants.{Blob}
+use Rattle.contest_types.specs.Accounts.{has_valid_role}
+use Rattle.contest_types.specs.IdText.{is_id}
 use Rattle.contest_types.specs.Setup.{Setup}
 use Rattle.contest_types.specs.declared.account.Account.{Account}
 use Rattle.contest_types.specs.declared.account.Role.{Role}
@@ -38,3 +40,9 @@ account_in s r = option_and_then (λ a. if same_row r (account_row s a) then Som
 abbrev pub accounts_in : Setup → List Row → Option (List Account)
 accounts_in s [] = Some []
 accounts_in s (r ∷ rs) = option_and_then (λ a. option_map (λ more. a ∷ more) (accounts_in s rs)) (account_in s r)
+
+-- an account whose texts are of their kinds, and whose team is there
+pub record IsWritableAccount (s : Setup) (a : Account) : Type 0 where
+  pub id : is_id a.id ≡ true
+  pub digest : length a.digest ≡ 32
+  pub role : has_valid_role s a.role ≡ true

@@ -1,6 +1,7 @@
 //! A contest as rows of its tables: the cells of each row, and what a row that was read is.
 #![tactic(auto)]
 
+pub mod account_laws;
 mod accounts;
 mod cells;
 mod fixed_part;
