@@ -10,3 +10,5 @@ pub mod ClarificationLaws
 pub mod ListLaws
 pub mod RejudgingLaws
 pub mod TableLaws
+pub mod WordLemmas
+pub mod AccountLaws

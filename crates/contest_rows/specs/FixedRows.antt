@@ -1,6 +1,6 @@
 -- The settings, the accounts and the marks of a contest as rows of its tables. Settings of each kind are counted
 -- from 1, in the order in which they were added.
-use Rattle.std.specs.Prelude.{ℕ, ◌++◌, List, [], ◌∷◌, map, false, Option, None, Some}
+use Rattle.std.specs.Prelude.{ℕ, ◌++◌, Bool, List, [], ◌∷◌, map, false, Option, None, Some}
 use Rattle.std.specs.List.{join_with_byte}
 use Rattle.sqlite.specs.Values.{or_null}
 use Rattle.sqlite_value.specs.declared.value.Value.TheVariants.{Text, Blob}
@@ -30,25 +30,29 @@ contest_row f =
     ∷ number f.settings.head.medals.gold ∷ number f.settings.head.medals.silver ∷ number f.settings.head.medals.bronze
     ∷ or_null number f.marks.start ∷ or_null number f.marks.thaw ∷ or_null number f.marks.finalized ∷ []
 
--- what a kind has no use for is 0 or empty
+-- a row of the settings: its kind, its number among those, its id and its name; what a kind has no use for is 0 or empty
+abbrev pub item_row : (kind n : ℕ) → (id name label : List ℕ) → (ordinal : ℕ) → (flag_a flag_b : Bool) → (group_ids : List ℕ) → Row
+item_row kind n id name label ordinal flag_a flag_b group_ids =
+    number kind ∷ number n ∷ Text id ∷ Text name ∷ Text label ∷ number ordinal ∷ flag flag_a ∷ flag flag_b ∷ Text group_ids ∷ []
+
 abbrev pub type_row : ℕ → JudgementType → Row
-type_row n t = number 0 ∷ number n ∷ Text t.id ∷ Text t.name ∷ Text [] ∷ number 0 ∷ flag t.solved ∷ flag t.penalty ∷ Text [] ∷ []
+type_row n t = item_row 0 n t.id t.name [] 0 t.solved t.penalty []
 
 abbrev pub language_row : ℕ → Language → Row
-language_row n l = number 1 ∷ number n ∷ Text l.id ∷ Text l.name ∷ Text [] ∷ number 0 ∷ flag l.entry_point_required ∷ flag false ∷ Text [] ∷ []
+language_row n l = item_row 1 n l.id l.name [] 0 l.entry_point_required false []
 
 abbrev pub group_row : ℕ → Group → Row
-group_row n g = number 2 ∷ number n ∷ Text g.id ∷ Text g.name ∷ Text [] ∷ number 0 ∷ flag false ∷ flag false ∷ Text [] ∷ []
+group_row n g = item_row 2 n g.id g.name [] 0 false false []
 
 abbrev pub problem_row : ℕ → Problem → Row
-problem_row n p = number 3 ∷ number n ∷ Text p.id ∷ Text p.name ∷ Text p.label ∷ number p.ordinal ∷ flag false ∷ flag false ∷ Text [] ∷ []
+problem_row n p = item_row 3 n p.id p.name p.label p.ordinal false false []
 
 -- the ids of a team's groups, joined by one space
 abbrev pub joined_ids : Setup → List ℕ → List ℕ
 joined_ids s groups = join_with_byte 32 (map (group_id_at s) groups)
 
 abbrev pub team_row : Setup → ℕ → Team → Row
-team_row s n t = number 4 ∷ number n ∷ Text t.id ∷ Text t.name ∷ Text [] ∷ number 0 ∷ flag t.hidden ∷ flag false ∷ Text (joined_ids s t.groups) ∷ []
+team_row s n t = item_row 4 n t.id t.name [] 0 t.hidden false (joined_ids s t.groups)
 
 -- the settings, kind by kind
 abbrev pub items_rows : Setup → List Row

@@ -1,14 +1,14 @@
 -- What cells of tables read as: some values are none of their kind, then there is none.
-use Rattle.std.specs.Prelude.{ℕ, List, Option, Some, None, if◌then◌else◌}
+use Rattle.std.specs.Prelude.{ℕ, pos, Bool, ◌==◌, List, Option, Some, None, if◌then◌else◌}
 use Rattle.std.specs.Bool.{then_some}
 use Rattle.std.specs.Option.{option_map, unwrap_or}
 use Rattle.sqlite_value.specs.declared.value.Value.{Value}
-use Rattle.sqlite_value.specs.declared.value.Value.TheVariants.{Null, Text}
+use Rattle.sqlite_value.specs.declared.value.Value.TheVariants.{Null, Int, Text}
 use Rattle.sqlite_value.specs.Order.{Row}
 use Rattle.contest_types.specs.IdText.{id_of}
 use Rattle.contest_types.specs.NameText.{name_from}
 use Rattle.contest_types.specs.Places.{place_of}
-use Rattle.contest_rows.specs.Cells.{is_null, same_row, text_of}
+use Rattle.contest_rows.specs.Cells.{is_null, number_of, same_row, text_of}
 
 -- the place of the row with the id in the cell, and 0 where none has it
 abbrev pub place_in : List (List ℕ) → Value → ℕ
@@ -29,6 +29,22 @@ abbrev pub name_if_any : Value → Option (Option (List ℕ))
 name_if_any Null = Some None
 name_if_any (Text t) = option_map Some (name_from t)
 name_if_any _ = None
+
+-- an id, and a name
+abbrev pub id_in : Value → Option (List ℕ)
+id_in v = id_of (text_of v)
+
+abbrev pub name_in : Value → Option (List ℕ)
+name_in v = name_from (text_of v)
+
+-- 1 says that it is so
+abbrev pub is_set : Value → Bool
+is_set v = number_of v == 1
+
+-- a number or NULL
+abbrev pub number_if_any : Value → Option ℕ
+number_if_any (Int (pos n)) = Some n
+number_if_any _ = None
 
 -- what was said, if the row is its row, cell by cell
 abbrev pub if_its_row : {X : Type 0} → (X → Row) → Row → X → Option X

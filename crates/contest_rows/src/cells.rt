@@ -4,7 +4,7 @@ ghost use Rattle.sqlite_value.specs.Order.{column};
 ghost use Rattle.sqlite_value.specs.Value.{owned};
 ghost use Rattle.sqlite_value.specs.declared.value.Value.TheVariants.{Text};
 ghost use Rattle.sqlite.specs.Values.{or_null};
-ghost use Rattle.contest_rows.specs.Readings.{id_if_any, name_if_any};
+ghost use Rattle.contest_rows.specs.Readings.{id_if_any, id_in, is_set, name_if_any, name_in};
 ghost use Rattle.contest_rows.specs.Cells.{is_null, lent, number, number_of, same_cell, same_row, text_of};
 
 use contest_types::{Id, Name};
@@ -20,7 +20,7 @@ pub fn number<'a>(n: u64) -> ValueRef<'a>
 }
 
 /// The cell at a place, from 0.
-fn cell(row: &Row, at: usize) -> ValueRef<'_>
+pub fn cell(row: &Row, at: usize) -> ValueRef<'_>
     ensures { owned result ≡ column row.now at }
 {
     match row.get_ref(at) {
@@ -144,4 +144,39 @@ pub fn name_if_any(alloc: Global, row: &Row, at: usize) -> Result<Option<Option<
         },
         _ => Ok(None),
     }
+}
+
+/// The id in a cell; none where it holds something else.
+///
+/// # Errors
+///
+/// Want of memory alone.
+pub fn id_in(alloc: Global, row: &Row, at: usize) -> Result<Option<Id>, AllocError>
+    ensures { IfOk result (λ found. found ≡ id_in (column row.now at)) }
+{
+    match Id::from_bytes(alloc, text_at(row, at)) {
+        Ok(id) => Ok(id),
+        Err(_) => Err(AllocError),
+    }
+}
+
+/// The name in a cell; none where it holds something else.
+///
+/// # Errors
+///
+/// Want of memory alone.
+pub fn name_in(alloc: Global, row: &Row, at: usize) -> Result<Option<Name>, AllocError>
+    ensures { IfOk result (λ found. found ≡ name_in (column row.now at)) }
+{
+    match Name::from_bytes(alloc, text_at(row, at)) {
+        Ok(name) => Ok(name),
+        Err(_) => Err(AllocError),
+    }
+}
+
+/// Whether the cell holds 1.
+pub fn is_set(row: &Row, at: usize) -> bool
+    ensures { result ≡ is_set (column row.now at) }
+{
+    number_at(row, at) == 1
 }
