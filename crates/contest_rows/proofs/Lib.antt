@@ -10,3 +10,4 @@ pub mod ClarificationLaws
 pub mod ListLaws
 pub mod RejudgingLaws
 pub mod TableLaws
+mod Examples
