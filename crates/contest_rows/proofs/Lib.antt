@@ -12,3 +12,4 @@ pub mod RejudgingLaws
 pub mod TableLaws
 pub mod WordLemmas
 pub mod AccountLaws
+mod Examples
