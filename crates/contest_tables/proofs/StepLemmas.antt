@@ -96,3 +96,34 @@ refuses e old new b a From To To2 Made s = record { ok = λ _ _ _ _. tt; err = s
 -- another answer of the same kind
 pub answers : {T U : Type 0} (x : T) (y : U) (old new : State) (b a : Counts) (From To : Holding) (Made : Trees → Type 0) → Step (Ok x) old new b a From To Made → Step (Ok y) old new b a From To Made
 answers x y old new b a From To Made s = record { ok = s.ok; err = λ _. tt; counts = s.counts; survives = s.survives }
+
+any_ok : {T E P : Type 0} (r : Result T E) → P → OnOk r P
+any_ok (Ok x) p = p
+any_ok (Err e) p = tt
+
+any_err : {T E P : Type 0} (r : Result T E) → P → OnErr r P
+any_err (Ok x) p = tt
+any_err (Err e) p = p
+
+-- a transaction that was begun, and then a step
+pub then : {T U : Type 0} (x : U) (r : Result T StoreError) (old mid new : State) (b m a : Counts) (To : Holding) (Made Made2 : Trees → Type 0) → Call (Ok x) old mid b m Holds Within (λ _. ⊥) → Step r mid new m a Within To Made2
+    → ((db : Trees) → ((now kept : Content) → Holds old now kept → Within mid now kept) → Made2 db → Made db) → Call r old new b a Holds To Made
+then x r old mid new b m a To Made Made2 one two made = record {
+  step = record {
+    ok = λ clean now kept from. two.ok clean now kept (one.step.ok (omega (arith, two.survives.clean)) now kept from);
+    err = λ clean. on_err r (λ (u : Undoes mid new Within). record { autocommit = u.autocommit; holds = λ is now kept from. u.holds is now kept (one.step.ok (omega (arith, two.survives.clean)) now kept from) }) (two.err clean);
+    counts = subst (λ n. CountsCall r n a) one.step.counts two.counts;
+    survives = survives_then old mid new _ Made2 _ (λ _ db none. absurd none.1) (λ clean db h.
+        let early : HasCleanDisk mid = omega (arith, clean, two.survives.clean) in (one.up early, made db (λ now kept. one.step.ok early now kept) h)) one.step.survives two.survives;
+  };
+  up = λ clean live. any_ok r (one.up (omega (arith, two.survives.clean)) live);
+  back = λ clean live. any_err r (λ _. one.up (omega (arith, two.survives.clean)) live);
+}
+
+-- where none was begun
+pub stop : {T U : Type 0} (e : StoreError) (old new : State) (b a : Counts) (To : Holding) (Made : Trees → Type 0) → Call {T = U} (Err e) old new b a Holds Within (λ _. ⊥) → Call {T = T} (Err e) old new b a Holds To Made
+stop e old new b a To Made one = record {
+  step = record { ok = λ _ _ _ _. tt; err = one.step.err; counts = one.step.counts; survives = survives_weaker old new _ _ (λ _ db none. absurd none.1) one.step.survives };
+  up = λ _ _. tt;
+  back = one.back;
+}

@@ -87,8 +87,18 @@ impl<S: Alter> Tables<S> {
         self.query_all(file_text(), submission)
     }
 
+    /// Commits the transaction; where there is none, all is committed already.
+    pub fn commit(&mut self) -> Result<(), StoreError>
+        ensures { Call result (shown_by S.Store self.old) (shown_by S.Store self.new) (counts_of self.old) (counts_of self.new) Holds Ended (MakesNow (shown_by S.Store self.old) Holds) }
+    {
+        match self.begin() {
+            Ok(()) => self.end(),
+            Err(error) => Err(error),
+        }
+    }
+
     /// Commits the transaction.
-    pub fn end(&mut self) -> Result<(), StoreError>
+    fn end(&mut self) -> Result<(), StoreError>
         ensures { Step result (shown_by S.Store self.old) (shown_by S.Store self.new) (counts_of self.old) (counts_of self.new) Within Ended (MakesNow (shown_by S.Store self.old) Within) }
     {
         self.execute("COMMIT", &[])

@@ -118,8 +118,8 @@ fn make(tables: &mut Tables<MemStore>) -> Result<(), StoreError> {
     tables.make()
 }
 
-fn end(tables: &mut Tables<MemStore>) -> Result<(), StoreError> {
-    tables.end()
+fn commit(tables: &mut Tables<MemStore>) -> Result<(), StoreError> {
+    tables.commit()
 }
 
 fn insert(
@@ -179,7 +179,7 @@ fn number(tables: &mut Tables<MemStore>, table: TableName, at: usize) -> Result<
 fn count_filled(alloc: Global) -> Result<(usize, usize, Counts), StoreError> {
     let mut tables = filled(alloc)?;
     let shown = rows(&mut tables)?;
-    end(&mut tables)?;
+    commit(&mut tables)?;
     begin(&mut tables)?;
     let kept = rows(&mut tables)?;
     Ok((shown, kept, tables.counts()))
@@ -244,7 +244,7 @@ fn rows_change(rt: HostRuntime) {
 
 fn refused(alloc: Global) -> Result<(bool, bool, Counts), StoreError> {
     let mut tables = filled(alloc)?;
-    end(&mut tables)?;
+    commit(&mut tables)?;
     begin(&mut tables)?;
     let again = insert(
         &mut tables,
