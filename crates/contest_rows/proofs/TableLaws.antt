@@ -1,10 +1,10 @@
 -- What a change of a contest makes of the rows of its tables.
-use Rattle.std.proofs.Common.{◌≡◌, ◌∙◌, ℕ, ◌+◌, Bool, true, false, List, [], ◌∷◌, ◌++◌, length, map, refl, ap, sym, append_assoc, append-nil, arith}
+use Rattle.std.proofs.Common.{◌≡◌, ◌∙◌, ℕ, ◌+◌, Bool, true, false, List, [], ◌∷◌, ◌++◌, length, refl, ap, sym, append_assoc, append-nil, arith}
 use Rattle.std.specs.Prelude.{◌==◌, slice_set, if◌then◌else◌}
 use Rattle.std.specs.List.{enumerate_from, flat_map}
 use Rattle.sqlite_value.specs.Order.{Row}
 use Rattle.contest_types.specs.Setup.{Setup}
-use Rattle.contest_types.specs.State.{ContestState, changed_at}
+use Rattle.contest_types.specs.State.{changed_at}
 use Rattle.contest_types.specs.declared.rejudging.Rejudging.{Rejudging}
 use Rattle.contest_types.specs.declared.rejudging.RejudgingState.{RejudgingState}
 use Rattle.contest_rows.specs.Cells.{number}
