@@ -25,4 +25,4 @@ place_from id (row ∷ rows) n (suc at) d l =
 pub place_back : {T : Type 0} (id : T → List ℕ) (rows : List T) (at : ℕ) → are_different (map id rows) ≡ true → at < length rows → unwrap_or (place_of (option_map_or id (slice_get rows at) []) (map id rows)) 0 ≡ at
 place_back id rows at d l =
     let first : 0 + at ≡ at = omega arith in
-    rw (place_from id rows 0 at d l, first) refl
+    rw (place_from id rows zero at d l, first) refl

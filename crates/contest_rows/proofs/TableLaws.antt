@@ -55,7 +55,7 @@ abbrev in_state : RejudgingState → Rejudging → Rejudging
 in_state st r = record r { state = st }
 
 abbrev state_cell : RejudgingState → Row → Row
-state_cell st row = slice_set row 2 (number (state_number st))
+state_cell st cells = slice_set cells 2 (number (state_number st))
 
 one_state : (n : ℕ) (st : RejudgingState) (r : Rejudging) (b : Bool) → rejudging_row n (if b then in_state st r else r) ≡ (if b then state_cell st (rejudging_row n r) else rejudging_row n r)
 one_state n st r true = refl

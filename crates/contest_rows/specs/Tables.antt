@@ -63,7 +63,7 @@ RejudgingIsItsRows = (x : ContestState) (r : Rejudging) → rows_of (add x (NewR
 
 -- one cell of the row with its number
 abbrev pub StateIsOneCell : Type 0
-StateIsOneCell = (x : ContestState) (n : ℕ) (state : RejudgingState) → rows_of (add x (SetRejudging n state)) ≡ record (rows_of x) { rejudgings = changed_at 1 n (λ row. slice_set row 2 (number (state_number state))) (rows_of x).rejudgings }
+StateIsOneCell = (x : ContestState) (n : ℕ) (state : RejudgingState) → rows_of (add x (SetRejudging n state)) ≡ record (rows_of x) { rejudgings = changed_at 1 n (λ cells. slice_set cells 2 (number (state_number state))) (rows_of x).rejudgings }
 
 -- one cell of the only row of its table
 abbrev pub StartIsOneCell : Type 0
