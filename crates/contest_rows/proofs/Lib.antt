@@ -10,6 +10,4 @@ pub mod ClarificationLaws
 pub mod ListLaws
 pub mod RejudgingLaws
 pub mod TableLaws
-pub mod WordLemmas
-pub mod AccountLaws
 mod Examples

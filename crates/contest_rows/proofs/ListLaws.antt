@@ -1,5 +1,5 @@
 -- Whole lists and the rows of their tables, one to one.
-use Rattle.std.proofs.Common.{◌≡◌, ℕ, ◌+◌, List, [], ◌∷◌, map, Option, Some, None, refl}
+use Rattle.std.proofs.Common.{◌≡◌, ◌∙◌, ℕ, ◌+◌, List, [], ◌∷◌, ◌++◌, length, map, Option, Some, None, refl, ap, arith}
 use Rattle.std.specs.List.{AllByRecursion, enumerate_from}
 use Rattle.std.specs.Option.{option_and_then, option_map}
 use Rattle.sqlite_value.specs.Order.{Row}
@@ -9,6 +9,15 @@ use Rattle.contest_rows.specs.Lists.{list_from}
 -- the rows of a list, counted from a number
 abbrev pub rows_from : {X : Type 0} → (ℕ → X → Row) → ℕ → List X → List Row
 rows_from row n xs = map (λ p. row p.0 p.1) (enumerate_from n xs)
+
+-- the list with one more has one more row
+pub one_more : {X : Type 0} (row : ℕ → X → Row) (n : ℕ) (xs : List X) (x : X) → rows_from row n (xs ++ x ∷ []) ≡ rows_from row n xs ++ row (length xs + n) x ∷ []
+one_more row n [] x =
+    let first : 0 + n ≡ n = omega arith in
+    rw first refl
+one_more row n (y ∷ ys) x =
+    let count : length ys + (n + 1) ≡ length (y ∷ ys) + n = omega arith in
+    ap (λ rows. row n y ∷ rows) (one_more row (n + 1) ys x ∙ ap (λ m. rows_from row (n + 1) ys ++ row m x ∷ []) count)
 
 pub list_back : {X : Type 0} (IsWritable : X → Type 0) (row : ℕ → X → Row) (row_in : ℕ → Row → Option X) → ((n : ℕ) (x : X) → IsWritable x → row_in n (row n x) ≡ Some x) →
     (n : ℕ) (xs : List X) → AllByRecursion IsWritable xs → list_from row_in n (rows_from row n xs) ≡ Some xs

@@ -22,7 +22,10 @@ place_from id (row ∷ rows) n (suc at) d l =
     let count : n + 1 + at ≡ n + suc at = omega arith in
     rw other (place_from id rows (n + 1) at (and_right (not (is_among (map id rows) (id row))) _ d) (omega (arith, l)) ∙ ap Some count)
 
-pub place_back : {T : Type 0} (id : T → List ℕ) (rows : List T) (at : ℕ) → are_different (map id rows) ≡ true → at < length rows → unwrap_or (place_of (option_map_or id (slice_get rows at) []) (map id rows)) 0 ≡ at
-place_back id rows at d l =
+pub place_there : {T : Type 0} (id : T → List ℕ) (rows : List T) (at : ℕ) → are_different (map id rows) ≡ true → at < length rows → place_of (option_map_or id (slice_get rows at) []) (map id rows) ≡ Some at
+place_there id rows at d l =
     let first : 0 + at ≡ at = omega arith in
-    rw (place_from id rows zero at d l, first) refl
+    place_from id rows zero at d l ∙ ap Some first
+
+pub place_back : {T : Type 0} (id : T → List ℕ) (rows : List T) (at : ℕ) → are_different (map id rows) ≡ true → at < length rows → unwrap_or (place_of (option_map_or id (slice_get rows at) []) (map id rows)) 0 ≡ at
+place_back id rows at d l = rw (place_there id rows at d l) refl

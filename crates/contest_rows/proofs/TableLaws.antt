@@ -10,16 +10,7 @@ use Rattle.contest_types.specs.declared.rejudging.RejudgingState.{RejudgingState
 use Rattle.contest_rows.specs.Cells.{number}
 use Rattle.contest_rows.specs.ListRows.{clarification_row, member_row, proposal_row, rejudging_row, release_row, state_number, submission_row}
 use Rattle.contest_rows.specs.Tables.{rows_of, SubmissionIsOneRow, ProposalIsOneRow, ReleaseIsOneRow, ClarificationIsOneRow, RejudgingIsItsRows, StateIsOneCell, StartIsOneCell, ThawIsOneCell, FinalizedIsOneCell}
-use Rattle.contest_rows.proofs.ListLaws.{rows_from}
-
--- the list with one more has one more row
-one_more : {X : Type 0} (row : ℕ → X → Row) (n : ℕ) (xs : List X) (x : X) → rows_from row n (xs ++ x ∷ []) ≡ rows_from row n xs ++ row (length xs + n) x ∷ []
-one_more row n [] x =
-    let first : 0 + n ≡ n = omega arith in
-    rw first refl
-one_more row n (y ∷ ys) x =
-    let count : length ys + (n + 1) ≡ length (y ∷ ys) + n = omega arith in
-    ap (λ rows. row n y ∷ rows) (one_more row (n + 1) ys x ∙ ap (λ m. rows_from row (n + 1) ys ++ row m x ∷ []) count)
+use Rattle.contest_rows.proofs.ListLaws.{one_more, rows_from}
 
 pub submission_is_one_row : SubmissionIsOneRow
 submission_is_one_row x s = ap (λ rows. record (rows_of x) { submissions = rows }) (one_more (submission_row x.fixed.settings) 1 x.submissions s)

@@ -11,7 +11,3 @@ pub mod References
 pub mod Clarifications
 pub mod Laws
 pub mod Tables
-pub mod Items
-pub mod AccountRows
-pub mod Heads
-pub mod FixedParts

@@ -1,13 +1,8 @@
-//! A contest as rows of its tables: the cells of each row, and what a row that was read is.
+//! The lists of a contest as rows of their tables: the cells of each row, and what a row that was read is.
 #![tactic(auto)]
 
-pub mod account_laws;
-mod accounts;
 mod cells;
 mod clarifications;
-mod fixed_part;
-mod heads;
-mod items;
 pub mod laws;
 mod lists;
 mod members;
@@ -15,15 +10,10 @@ mod proposals;
 mod references;
 mod rejudgings;
 mod releases;
-mod settings;
 mod submissions;
-mod team_items;
 
-pub use accounts::{account_cells, read_accounts};
+pub use cells::{cell, id_in, is_row, is_set, name_in, number, number_at, text_at};
 pub use clarifications::clarification_cells;
-pub use fixed_part::read_fixed;
-pub use heads::{contest_cells, desk_cells};
-pub use items::{group_cells, language_cells, problem_cells, type_cells};
 pub use lists::{Listed, read_list};
 pub use members::{account_cell, is_ready, member_cells, type_cell};
 pub use proposals::proposal_cells;

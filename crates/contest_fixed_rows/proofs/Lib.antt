@@ -1,0 +1,9 @@
+pub mod WordLemmas
+pub mod OptionSteps
+pub mod NewItems
+pub mod GroupIds
+pub mod HeadLaws
+pub mod ItemLaws
+pub mod ItemsWritten
+pub mod AccountLaws
+pub mod FixedLaws

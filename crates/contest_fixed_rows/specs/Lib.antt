@@ -1,0 +1,5 @@
+pub mod Items
+pub mod AccountRows
+pub mod Heads
+pub mod FixedParts
+pub mod Laws

@@ -1,0 +1,135 @@
+//! The settings, the accounts and the marks of the contest that the rows of four tables are.
+ghost use Rattle.std.specs.Prelude.{◌≡◌, IfOk};
+ghost use Rattle.std.specs.Option.{option_map};
+ghost use Rattle.contest_rows.specs.Cells.{same_row};
+ghost use Rattle.contest_rows.specs.FixedRows.{contest_row};
+ghost use Rattle.contest_fixed_rows.specs.FixedParts.{fixed_if, fixed_in, fixed_of_row, fixed_said, is_desk, only, settings_in, setup_of};
+
+use crate::accounts::read_accounts;
+use crate::heads::{contest_cells, desk_cells, head_in, marks_in};
+use crate::settings::add_items_in;
+use contest_rows::is_row;
+use contest_types::{ContestHead, Fixed, Settings};
+use sqlite::Row;
+use std::alloc::{AllocError, Global};
+
+/// The fixed part of the contest that the rows of the tables `desk`, `contest`, `items` and `accounts`
+/// are, each in the order of its key; none where they are those of no contest.
+///
+/// # Errors
+///
+/// Want of memory alone.
+pub fn read_fixed(
+    alloc: Global,
+    desk: &[Row],
+    contest: &[Row],
+    items: &[Row],
+    accounts: &[Row],
+) -> Result<Option<Fixed>, AllocError>
+    ensures { IfOk result (λ found. found ≡ fixed_in desk.now contest.now items.now accounts.now) }
+{
+    if !is_desk(desk) {
+        return Ok(None);
+    }
+    match only(contest) {
+        Some(contest) => fixed_of_row(alloc, contest, items, accounts),
+        None => Ok(None),
+    }
+}
+
+fn only(rows: &[Row]) -> Option<&Row>
+    ensures { option_map (λ row. row.now) result ≡ only rows.now }
+{
+    if rows.len() == 1 {
+        Some(&rows[0])
+    } else {
+        None
+    }
+}
+
+fn is_desk(rows: &[Row]) -> bool
+    ensures { result ≡ is_desk rows.now }
+{
+    match only(rows) {
+        Some(row) => is_row(row, &desk_cells()),
+        None => false,
+    }
+}
+
+fn fixed_of_row(
+    alloc: Global,
+    contest: &Row,
+    items: &[Row],
+    accounts: &[Row],
+) -> Result<Option<Fixed>, AllocError>
+    ensures { IfOk result (λ found. found ≡ fixed_of_row contest.now items.now accounts.now) }
+{
+    match fixed_said(alloc, contest, items, accounts)? {
+        Some(fixed) => Ok(if_its_row(contest, fixed)),
+        None => Ok(None),
+    }
+}
+
+// The fixed part, if the contest's row is its own.
+fn if_its_row(contest: &Row, fixed: Fixed) -> Option<Fixed>
+    ensures { result ≡ fixed_if contest.now fixed }
+{
+    if is_its_row(contest, &fixed) {
+        Some(fixed)
+    } else {
+        None
+    }
+}
+
+fn is_its_row(contest: &Row, fixed: &Fixed) -> bool
+    ensures { result ≡ same_row contest.now (contest_row fixed.now) }
+{
+    is_row(contest, &contest_cells(fixed))
+}
+
+// What the cells say.
+fn fixed_said(
+    alloc: Global,
+    contest: &Row,
+    items: &[Row],
+    accounts: &[Row],
+) -> Result<Option<Fixed>, AllocError>
+    ensures { IfOk result (λ found. found ≡ fixed_said contest.now items.now accounts.now) }
+{
+    let Some(marks) = marks_in(contest) else {
+        return Ok(None);
+    };
+    let Some(settings) = settings_in(alloc, contest, items)? else {
+        return Ok(None);
+    };
+    match read_accounts(alloc, &settings, accounts)? {
+        Some(accounts) => Ok(Some(Fixed {
+            settings,
+            accounts,
+            marks,
+        })),
+        None => Ok(None),
+    }
+}
+
+fn settings_in(alloc: Global, contest: &Row, items: &[Row]) -> Result<Option<Settings>, AllocError>
+    ensures { IfOk result (λ found. found ≡ settings_in contest.now items.now) }
+{
+    let Some(head) = head_in(alloc, contest)? else {
+        return Ok(None);
+    };
+    let Some(mut settings) = setup_of(alloc, head) else {
+        return Ok(None);
+    };
+    if add_items_in(alloc, &mut settings, items)? {
+        Ok(Some(settings))
+    } else {
+        Ok(None)
+    }
+}
+
+fn setup_of(alloc: Global, head: ContestHead) -> Option<Settings>
+    ensures { result ≡ setup_of head }
+{
+    Settings::new(alloc, head).ok()
+}

@@ -1,0 +1,15 @@
+//! The settings, the accounts and the marks of a contest as rows of their tables, and those that rows are.
+#![tactic(auto)]
+
+mod accounts;
+mod fixed_part;
+mod heads;
+mod items;
+pub mod laws;
+mod settings;
+mod team_items;
+
+pub use accounts::account_cells;
+pub use fixed_part::read_fixed;
+pub use heads::{contest_cells, desk_cells};
+pub use items::{group_cells, language_cells, problem_cells, type_cells};
