@@ -2,6 +2,7 @@
 #![tactic(auto)]
 
 mod copies;
+mod filling;
 mod fixed_changes;
 mod lists;
 mod memory;

@@ -126,7 +126,7 @@ impl Lists {
     /// # Errors
     ///
     /// Want of memory alone. The lists are then as before.
-    pub(crate) fn add(&mut self, alloc: Global, entry: &Entry) -> Result<(), AllocError>
+    pub fn add(&mut self, alloc: Global, entry: &Entry) -> Result<(), AllocError>
         requires { (submissions : List Submission) × (is_addable (filed submissions self.old) entry.now ≡ true) }
         ensures ok { OnOk result (self.new ≡ add self.old (unfiled entry.now)) }
         ensures err { OnErr result (self.new ≡ self.old) }

@@ -1,0 +1,42 @@
+//! Lists that are filled with rows which were read.
+ghost use Rattle.std.specs.Prelude.{◌≡◌};
+
+use crate::Lists;
+use contest_types::{Clarification, Proposal, Rejudging, Release, Rows, Submission};
+
+impl Lists {
+    /// Puts submissions, each without its file, in place of those that stand.
+    pub fn put_submissions(&mut self, rows: Rows<Submission>)
+        ensures { self.new ≡ record self.old { submissions = rows } }
+    {
+        self.submissions = rows.into_vec();
+    }
+
+    /// Puts proposals in place of those that stand.
+    pub fn put_proposals(&mut self, rows: Rows<Proposal>)
+        ensures { self.new ≡ record self.old { proposals = rows } }
+    {
+        self.proposals = rows.into_vec();
+    }
+
+    /// Puts releases in place of those that stand.
+    pub fn put_releases(&mut self, rows: Rows<Release>)
+        ensures { self.new ≡ record self.old { releases = rows } }
+    {
+        self.releases = rows.into_vec();
+    }
+
+    /// Puts clarifications in place of those that stand.
+    pub fn put_clarifications(&mut self, rows: Rows<Clarification>)
+        ensures { self.new ≡ record self.old { clarifications = rows } }
+    {
+        self.clarifications = rows.into_vec();
+    }
+
+    /// Puts rejudgings in place of those that stand.
+    pub fn put_rejudgings(&mut self, rows: Rows<Rejudging>)
+        ensures { self.new ≡ record self.old { rejudgings = rows } }
+    {
+        self.rejudgings = rows.into_vec();
+    }
+}
