@@ -1,5 +1,5 @@
 -- Worked examples: what is told of a refusal.
-use Rattle.std.proofs.Common.{◌≡◌, zero, suc, refl}
+use Rattle.std.proofs.Common.{◌≡◌, refl}
 use Rattle.std.specs.Prelude.{codes}
 use Rattle.contest_types.specs.Refusals.{row_of}
 use Rattle.contest_types.specs.declared.refusal.Refusal.TheVariants.{HeadTooLarge, ImportRow, SameJudge}

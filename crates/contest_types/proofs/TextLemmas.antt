@@ -22,3 +22,8 @@ pub wanted : {A E : Type 0} (test : List ℕ → Bool) (bytes text : List ℕ) (
     → OnErr r (IsSome (if is_utf8 bytes then (if test bytes then Some bytes else None) else None))
 wanted test bytes text (Ok x) same utf8 h = tt
 wanted test bytes text (Err e) same utf8 h = rw (is_utf8-from_IsUtf8 bytes utf8, ← same, h) refl
+
+-- a text that passes the test is read of its own bytes
+pub read_back : (test : List ℕ → Bool) (bytes inside text : List ℕ) → inside ≡ bytes → text ≡ inside → IsUtf8 text → IsTrue (test inside)
+    → (if is_utf8 bytes then (if test bytes then Some bytes else None) else None) ≡ Some bytes
+read_back test bytes inside text view same utf8 h = rw (← view, ← same, is_utf8-from_IsUtf8 text utf8, rw (← same) at h) refl

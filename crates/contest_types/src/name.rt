@@ -1,5 +1,5 @@
 //! Names: of contests, problems and teams, and labels, entry points and reasons.
-ghost use Rattle.std.specs.Prelude.{◌≡◌, IfOk, IfErr, OnErr, IsTrue, IsSome};
+ghost use Rattle.std.specs.Prelude.{◌≡◌, Some, IfOk, IfErr, OnErr, IsTrue, IsSome};
 ghost use Rattle.std.specs.List.{list_all};
 ghost use Rattle.std.specs.Str.{bytes_eq, chars};
 ghost use Rattle.std.proofs.Common.{rules};
@@ -69,7 +69,8 @@ impl Name {
 
     /// Its characters.
     pub fn as_str(&self) -> &str
-        ensures { result.now ≡ self.now }
+        ensures text { result.now ≡ self.now }
+        ensures name { name_from self.now ≡ Some self.now }
     {
         self.text.as_str()
     }

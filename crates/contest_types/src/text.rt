@@ -1,5 +1,5 @@
 //! What clarifications say.
-ghost use Rattle.std.specs.Prelude.{◌≡◌, IfOk, IfErr, OnErr, IsTrue, IsSome};
+ghost use Rattle.std.specs.Prelude.{◌≡◌, Some, IfOk, IfErr, OnErr, IsTrue, IsSome};
 ghost use Rattle.contest_types.specs.ClarificationText.{is_text, text_of, text_from};
 
 use crate::Refusal;
@@ -61,7 +61,8 @@ impl Text {
 
     /// What it says.
     pub fn as_str(&self) -> &str
-        ensures { result.now ≡ self.now }
+        ensures bytes { result.now ≡ self.now }
+        ensures text { text_from self.now ≡ Some self.now }
     {
         self.text.as_str()
     }
