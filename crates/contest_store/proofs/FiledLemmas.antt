@@ -62,3 +62,8 @@ fixed_alone x e other = refl
 -- it changes the fixed part, and nothing else
 pub fixed_changed : (x : ContestState) (e : Entry) (fixed : FixedPart) → OfNoRow e → fixed ≡ (add x e).fixed → record x { fixed = fixed } ≡ add x (unfiled e)
 fixed_changed x e fixed other is = rw is (fixed_alone x e other)
+
+-- whatever submissions stand
+pub fixed_whoever : (x : ContestState) (submissions : List Submission) (e : Entry) → (add (filed submissions x) e).fixed ≡ (add x e).fixed
+fixed_whoever x submissions (NewSubmission s) = refl
+fixed_whoever x submissions e = refl

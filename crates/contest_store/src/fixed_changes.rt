@@ -12,22 +12,20 @@ use std::alloc::{AllocError, Global};
 use std::mem::replace;
 use std::rc::Rc;
 
-/// The settings, the accounts and the marks as a change, which may be made, leaves them: they are
-/// shared, so it is made in a copy.
+/// The settings, the accounts and the marks as a change that may be made leaves them: they are shared,
+/// so it is made in a copy.
 ///
 /// # Errors
 ///
 /// Want of memory alone.
 pub fn changed_fixed(alloc: Global, fixed: &Fixed, entry: &Entry) -> Result<Rc<Fixed>, AllocError>
-    requires { (x : ContestState) × ((x.fixed ≡ fixed.now) × (is_addable x entry.now ≡ true)) }
-    ensures { IfOk result (λ changed. (x : ContestState) → x.fixed ≡ fixed.now → changed.value ≡ (add x entry.now).fixed) }
+    ensures { IfOk result (λ changed. (x : ContestState) → x.fixed ≡ fixed.now → is_addable x entry.now ≡ true → changed.value ≡ (add x entry.now).fixed) }
 {
     shared(alloc, changed(alloc, copied_fixed(alloc, fixed)?, entry)?)
 }
 
 fn changed(alloc: Global, fixed: Fixed, entry: &Entry) -> Result<Fixed, AllocError>
-    requires { (x : ContestState) × ((x.fixed ≡ fixed) × (is_addable x entry.now ≡ true)) }
-    ensures { IfOk result (λ changed. (x : ContestState) → x.fixed ≡ fixed → changed ≡ (add x entry.now).fixed) }
+    ensures { IfOk result (λ changed. (x : ContestState) → x.fixed ≡ fixed → is_addable x entry.now ≡ true → changed ≡ (add x entry.now).fixed) }
 {
     let mut fixed = fixed;
     change(alloc, &mut fixed, entry)?;
@@ -42,8 +40,7 @@ fn shared(alloc: Global, fixed: Fixed) -> Result<Rc<Fixed>, AllocError>
 
 // Rows of what isn't the fixed part change nothing of it.
 fn change(alloc: Global, fixed: &mut Fixed, entry: &Entry) -> Result<(), AllocError>
-    requires { (x : ContestState) × ((x.fixed ≡ fixed.old) × (is_addable x entry.now ≡ true)) }
-    ensures { OnOk result ((x : ContestState) → x.fixed ≡ fixed.old → fixed.new ≡ (add x entry.now).fixed) }
+    ensures { OnOk result ((x : ContestState) → x.fixed ≡ fixed.old → is_addable x entry.now ≡ true → fixed.new ≡ (add x entry.now).fixed) }
 {
     let settings = &mut fixed.settings;
     match entry {
@@ -69,15 +66,13 @@ fn change(alloc: Global, fixed: &mut Fixed, entry: &Entry) -> Result<(), AllocEr
     }
 }
 
-// What came of a row that may be added: it is added, unless memory was refused.
+// What came of a row: one that may be added is added, unless memory was refused.
 fn added(outcome: Result<bool, RowFault>) -> Result<(), AllocError>
-    requires { (answer : Result Bool TheCause) × ((is_added answer ≡ true) × (IfOk outcome (λ done. answer ≡ Ok done) × IfErr outcome (λ e. IsFaultOf e answer))) }
-    ensures { OnOk result (outcome ≡ Ok true) }
+    ensures { OnOk result ((answer : Result Bool TheCause) → is_added answer ≡ true → IfOk outcome (λ done. answer ≡ Ok done) → IfErr outcome (λ e. IsFaultOf e answer) → outcome ≡ Ok true) }
 {
     match outcome {
-        Ok(true) => Ok(()),
         Err(RowFault::Memory) => Err(AllocError),
-        Ok(false) | Err(RowFault::Fault(_)) => unreachable!(),
+        Ok(_) | Err(RowFault::Fault(_)) => Ok(()),
     }
 }
 

@@ -121,14 +121,13 @@ impl Lists {
         })
     }
 
-    /// Makes one change, which may be made; of a submission the file is left out.
+    /// Makes one change, if it may be made; of a submission the file is left out.
     ///
     /// # Errors
     ///
     /// Want of memory alone. The lists are then as before.
     pub fn add(&mut self, alloc: Global, entry: &Entry) -> Result<(), AllocError>
-        requires { (submissions : List Submission) × (is_addable (filed submissions self.old) entry.now ≡ true) }
-        ensures ok { OnOk result (self.new ≡ add self.old (unfiled entry.now)) }
+        ensures ok { OnOk result ((submissions : List Submission) → is_addable (filed submissions self.old) entry.now ≡ true → self.new ≡ add self.old (unfiled entry.now)) }
         ensures err { OnErr result (self.new ≡ self.old) }
     {
         match entry {

@@ -1,11 +1,13 @@
-use Rattle.std.proofs.Common.{sym, ap, ◌∙◌}
+use Rattle.std.proofs.Common.{◌≡◌, true, sym, ap, subst, ◌∙◌}
+use Rattle.contest_types.specs.Addable.{is_addable}
 use Rattle.contest_types.specs.State.{ContestState, add}
+use Rattle.contest_store.specs.InMemory.{filed}
 use Rattle.contest_store.specs.Lists.{unfiled}
-use Rattle.contest_store.proofs.FiledLemmas.{OfNoRow, fixed_changed}
+use Rattle.contest_store.proofs.FiledLemmas.{OfNoRow, fixed_changed, fixed_whoever}
 use Rattle.contest_store.proofs.lists.Lists.add.Goals as goal
 
 pub returns-in_ok-self-inside-in_default-clause-ok : goal.returns-in_ok-self-inside-in_default-clause-ok
-returns-in_ok-self-inside-in_default-clause-ok c =
+returns-in_ok-self-inside-in_default-clause-ok c = λ submissions may.
     let was : ContestState = record {
       fixed = c.self.inside.fixed.value;
       submissions = c.self.inside.submissions.items;
@@ -23,5 +25,7 @@ returns-in_ok-self-inside-in_default-clause-ok c =
       member = c.in_default.not-SetMember;
       state = c.in_default.not-SetRejudging;
     } in
-    fixed_changed was c.args.entry.now c.in_ok-self-inside-in_default.field-0.value other (c.in_ok-self-inside-in_default.ensures was (sym c.deref.ensures))
+    let addable : is_addable (filed submissions was) c.args.entry.now ≡ true = subst (λ x. is_addable (filed submissions x) c.args.entry.now ≡ true) (sym c.self.view_is) may in
+    fixed_changed was c.args.entry.now c.in_ok-self-inside-in_default.field-0.value other
+    (c.in_ok-self-inside-in_default.ensures (filed submissions was) (sym c.deref.ensures) addable ∙ fixed_whoever was submissions c.args.entry.now)
     ∙ ap (λ x. add x (unfiled c.args.entry.now)) c.self.view_is
