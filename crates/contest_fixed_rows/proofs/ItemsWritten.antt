@@ -39,8 +39,8 @@ at_end more one r is = append-nil more ∙ is ∙ ap (λ rows. rows ++ r) (sym (
 after : (front more one r : List Row) → more ≡ one ++ r → front ++ more ≡ (front ++ one) ++ r
 after front more one r is = ap (λ rows. front ++ rows) is ∙ sym (append_assoc front one r)
 
-end_row : {X : Type 0} (row : ℕ → X → Row) (xs : List X) (x : X) → rows_from row 1 (xs ++ x ∷ []) ++ [] ≡ (rows_from row 1 xs ++ []) ++ row (length xs + 1) x ∷ []
-end_row row xs x = at_end (rows_from row 1 (xs ++ x ∷ [])) (rows_from row 1 xs) (row (length xs + 1) x ∷ []) (one_more row 1 xs x)
+end_row : {X : Type 0} (row_of : ℕ → X → Row) (xs : List X) (x : X) → rows_from row_of 1 (xs ++ x ∷ []) ++ [] ≡ (rows_from row_of 1 xs ++ []) ++ row_of (length xs + 1) x ∷ []
+end_row row_of xs x = at_end (rows_from row_of 1 (xs ++ x ∷ [])) (rows_from row_of 1 xs) (row_of (length xs + 1) x ∷ []) (one_more row_of 1 xs x)
 
 nothing : {X : Type 0} (xs : List X) → (length xs == 0) ≡ true → xs ≡ []
 nothing [] is = refl
