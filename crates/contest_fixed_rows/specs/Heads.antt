@@ -1,5 +1,6 @@
 -- The head and the marks of the contest that a row is.
-use Rattle.std.specs.Prelude.{ℕ, ◌^◌, nat_le, nat_lt, Option, Some, None, if◌then◌else◌}
+use Rattle.std.specs.Prelude.{ℕ, ◌^◌, nat_le, nat_lt, [], ◌∷◌, Option, Some, None, if◌then◌else◌}
+use Rattle.sqlite.specs.Values.{or_null}
 use Rattle.std.specs.Option.{option_map, option_and_then}
 use Rattle.sqlite_value.specs.Order.{Row, column}
 use Rattle.sqlite_value.specs.declared.value.Value.{Value}
@@ -7,7 +8,7 @@ use Rattle.contest_types.specs.declared.contest.ContestHead.{ContestHead}
 use Rattle.contest_types.specs.declared.contest.Medals.{Medals}
 use Rattle.contest_types.specs.declared.limits.TheConstants.{LAST_MOMENT}
 use Rattle.contest_types.specs.declared.marks.Marks.{Marks}
-use Rattle.contest_rows.specs.Cells.{number_of}
+use Rattle.contest_rows.specs.Cells.{number, number_of}
 use Rattle.contest_rows.specs.Readings.{id_in, is_set, name_in, number_if_any}
 
 -- a number of 32 bits
@@ -43,3 +44,7 @@ abbrev pub marks_in : Row → Option Marks
 marks_in r =
     option_and_then (λ start. option_and_then (λ thaw. option_map (λ finalized. record { start = start; thaw = thaw; finalized = finalized })
     (time_if_any (column r 12))) (time_if_any (column r 11))) (time_if_any (column r 10))
+
+-- the marks after the number of the only row
+abbrev pub marks_row : Marks → Row
+marks_row m = number 1 ∷ or_null number m.start ∷ or_null number m.thaw ∷ or_null number m.finalized ∷ []

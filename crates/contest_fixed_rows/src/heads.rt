@@ -5,7 +5,7 @@ ghost use Rattle.sqlite_value.specs.Value.{owned};
 ghost use Rattle.sqlite.specs.Values.{or_null};
 ghost use Rattle.contest_rows.specs.Cells.{lent, number};
 ghost use Rattle.contest_rows.specs.FixedRows.{contest_row, desk_row};
-ghost use Rattle.contest_fixed_rows.specs.Heads.{head_in, marks_in, medals_in, small_in, time_if_any, within_time};
+ghost use Rattle.contest_fixed_rows.specs.Heads.{head_in, marks_in, marks_row, medals_in, small_in, time_if_any, within_time};
 ghost use Rattle.contest_rows.specs.Readings.{number_if_any};
 
 use contest_rows::{cell, id_in, is_set, name_in, number, number_at};
@@ -40,6 +40,18 @@ pub fn contest_cells(fixed: &Fixed) -> [ValueRef<'_>; 13]
         moment_or_null(fixed.marks.start),
         moment_or_null(fixed.marks.thaw),
         moment_or_null(fixed.marks.finalized),
+    ]
+}
+
+/// The marks of the clock as cells, after the number of the row that keeps them.
+pub fn marks_cells<'a>(marks: Marks) -> [ValueRef<'a>; 4]
+    ensures { lent result ≡ marks_row marks }
+{
+    [
+        number(1),
+        moment_or_null(marks.start),
+        moment_or_null(marks.thaw),
+        moment_or_null(marks.finalized),
     ]
 }
 

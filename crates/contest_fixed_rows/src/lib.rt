@@ -11,5 +11,6 @@ mod team_items;
 
 pub use accounts::account_cells;
 pub use fixed_part::read_fixed;
-pub use heads::{contest_cells, desk_cells};
+pub use heads::{contest_cells, desk_cells, marks_cells};
 pub use items::{group_cells, language_cells, problem_cells, type_cells};
+pub use team_items::{joined_ids, team_cells};

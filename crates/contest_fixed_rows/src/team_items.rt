@@ -87,9 +87,13 @@ fn team_said(alloc: Global, settings: &Settings, row: &Row) -> Result<Option<Tea
     }))
 }
 
-// The ids of groups, joined by one space.
+/// The ids of groups, joined by one space.
+///
+/// # Errors
+///
+/// Want of memory alone.
 #[tactic(auto, using(crate::proofs::WordLemmas::joined_first))]
-fn joined_ids(alloc: Global, settings: &Settings, groups: &[usize]) -> Result<String, AllocError>
+pub fn joined_ids(alloc: Global, settings: &Settings, groups: &[usize]) -> Result<String, AllocError>
     ensures { IfOk result (λ text. string_bytes text ≡ joined_ids settings.now groups.now) }
 {
     match groups.split_first() {
@@ -113,8 +117,9 @@ fn push_ids(text: &mut String, settings: &Settings, groups: &[usize]) -> Result<
     Ok(())
 }
 
-// The cells of the row of a team, which is the one with this number, from 1; its groups have these ids.
-fn cells_of_team<'a>(number: u64, group_ids: &'a str, team: &'a Team) -> [ValueRef<'a>; 9]
+/// The cells of the row of a team, which is the one with this number, from 1; `joined_ids` gives the
+/// ids of its groups.
+pub fn team_cells<'a>(number: u64, group_ids: &'a str, team: &'a Team) -> [ValueRef<'a>; 9]
     requires { number < 2 ^ 63 }
     ensures { lent result ≡ item_row 4 number team.now.id team.now.name [] 0 team.now.hidden false group_ids.now }
 {
@@ -165,5 +170,5 @@ fn is_team_row(
     ensures { IfOk result (λ same. same ≡ same_row row.now (team_row settings.now number team.now)) }
 {
     let group_ids = joined_ids(alloc, settings, team.groups.as_slice())?;
-    Ok(is_row(row, &cells_of_team(number, &group_ids, team)))
+    Ok(is_row(row, &team_cells(number, &group_ids, team)))
 }
