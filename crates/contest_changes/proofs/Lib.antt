@@ -1,1 +1,3 @@
+pub mod RisingLists
+pub mod RisingRows
 pub mod NamesKept
