@@ -1,6 +1,6 @@
 //! What the types of a change keep true of its texts and times. Their own calls say it, so each
 //! function here makes such a call and does nothing else.
-ghost use Rattle.std.specs.Prelude.{IfSome};
+ghost use Rattle.std.specs.Prelude.{◌<◌, ◌^◌, IfSome};
 ghost use Rattle.std.specs.List.{AllByRecursion};
 ghost use Rattle.contest_types.specs.IdText.{IsId};
 ghost use Rattle.contest_types.specs.declared.rejudging.Member.{Member as TheMember};
@@ -94,7 +94,12 @@ fn problem(problem: &Problem)
     id(&problem.id);
     name(&problem.name);
     name(&problem.label);
+    ordinal(problem.ordinal);
 }
+
+fn ordinal(ordinal: u16)
+    ensures { ordinal < 2 ^ 16 }
+{}
 
 fn submission(submission: &Submission)
     ensures { IsOfKindsSubmission submission.now }
