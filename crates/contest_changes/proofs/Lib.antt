@@ -1,3 +1,6 @@
+pub mod CastLemmas
+pub mod HeldRows
 pub mod RisingLists
 pub mod RisingRows
 pub mod NamesKept
+pub mod SettingAdditions
