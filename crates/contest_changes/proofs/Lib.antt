@@ -4,3 +4,5 @@ pub mod RisingLists
 pub mod RisingRows
 pub mod NamesKept
 pub mod SettingAdditions
+pub mod BoundRows
+pub mod AppendLemmas

@@ -1,15 +1,16 @@
 -- A new setting is one more row of its table, and the other tables stay as they are.
-use Rattle.std.proofs.Common.{◌≡◌, ◌∙◌, ℕ, ◌+◌, List, [], ◌∷◌, ◌++◌, length, refl, sym, ap, subst, append_assoc, append-nil, IsPermutation}
+use Rattle.std.proofs.Common.{◌≡◌, ◌∙◌, ℕ, ◌+◌, false, List, [], ◌∷◌, ◌++◌, length, refl, sym, ap, subst, append_assoc, append-nil, IsPermutation}
 use Rattle.std.proofs.Math.Path.{fun_ext}
 use Rattle.std.proofs.lemmas.List.Sorted.{IsPermutation-append_right, IsPermutation-middle, IsPermutation-sym, IsPermutation-trans}
 use Rattle.sqlite_value.specs.Order.{Row}
-use Rattle.contest_types.specs.State.{ContestState, add, NewType, NewLanguage, NewProblem, NewGroup, NewTeam}
+use Rattle.contest_types.specs.State.{ContestState, add}
+use Rattle.contest_types.specs.declared.entry.Entry.TheVariants.{NewType, NewLanguage, NewProblem, NewGroup, NewTeam}
 use Rattle.contest_types.specs.declared.objects.Group.{Group}
 use Rattle.contest_types.specs.declared.objects.JudgementType.{JudgementType}
 use Rattle.contest_types.specs.declared.objects.Language.{Language}
 use Rattle.contest_types.specs.declared.objects.Problem.{Problem}
 use Rattle.contest_types.specs.declared.objects.Team.{Team}
-use Rattle.contest_rows.specs.FixedRows.{group_row, items_rows, language_row, problem_row, team_row, type_row}
+use Rattle.contest_rows.specs.FixedRows.{group_row, items_rows, joined_ids, language_row, problem_row, team_row, type_row}
 use Rattle.contest_rows.specs.Tables.{Tables, rows_of}
 use Rattle.contest_rows.proofs.ListLaws.{one_more, rows_from}
 use Rattle.contest_tables.specs.Schema.{form_of}
@@ -70,14 +71,14 @@ type_added x t sound =
 pub language_added : LanguageIsAdded
 language_added x l sound =
     let s = x.fixed.settings in
-    one_row (language_row (length s.languages + 1) l) x (add x (NewLanguage l)) (item_given 1 _ l.id l.name [] 0 l.entry_point_required _ [])
+    one_row (language_row (length s.languages + 1) l) x (add x (NewLanguage l)) (item_given 1 _ l.id l.name [] 0 l.entry_point_required false [])
     (behind (rows_from type_row 1 s.types) _ _ _ (grown language_row s.languages l _))
     (rw (submissions_of_language s l 1 x.submissions sound.writable.submissions) refl)
 
 pub group_added : GroupIsAdded
 group_added x g sound =
     let s = x.fixed.settings in
-    one_row (group_row (length s.groups + 1) g) x (add x (NewGroup g)) (item_given 2 _ g.id g.name [] 0 _ _ [])
+    one_row (group_row (length s.groups + 1) g) x (add x (NewGroup g)) (item_given 2 _ g.id g.name [] 0 false false [])
     (subst (λ (teams : List Row). IsPermutation (group_row (length s.groups + 1) g ∷ items_rows s) (rows_from type_row 1 s.types ++ (rows_from language_row 1 s.languages ++ (rows_from group_row 1 (s.groups ++ g ∷ []) ++ (rows_from problem_row 1 s.problems ++ teams)))))
       (sym (teams_of_group s g 1 s.teams sound.writable.valid.references))
       (behind (rows_from type_row 1 s.types) _ _ _ (behind (rows_from language_row 1 s.languages) _ _ _ (grown group_row s.groups g _))))
@@ -86,13 +87,13 @@ group_added x g sound =
 pub problem_added : ProblemIsAdded
 problem_added x p sound =
     let s = x.fixed.settings in
-    one_row (problem_row (length s.problems + 1) p) x (add x (NewProblem p)) (item_given 3 _ p.id p.name p.label p.ordinal _ _ [])
+    one_row (problem_row (length s.problems + 1) p) x (add x (NewProblem p)) (item_given 3 _ p.id p.name p.label p.ordinal false false [])
     (behind (rows_from type_row 1 s.types) _ _ _ (behind (rows_from language_row 1 s.languages) _ _ _ (behind (rows_from group_row 1 s.groups) _ _ _ (grown problem_row s.problems p _))))
     (rw (submissions_of_problem s p 1 x.submissions sound.writable.submissions, clarifications_of_problem s p 1 x.clarifications sound.writable.clarifications) refl)
 
 pub team_added : TeamIsAdded
 team_added x t sound =
     let s = x.fixed.settings in
-    one_row (team_row s (length s.teams + 1) t) x (add x (NewTeam t)) (item_given 4 _ t.id t.name [] 0 t.hidden _ _)
+    one_row (team_row s (length s.teams + 1) t) x (add x (NewTeam t)) (item_given 4 _ t.id t.name [] 0 t.hidden false (joined_ids s t.groups))
     (behind (rows_from type_row 1 s.types) _ _ _ (behind (rows_from language_row 1 s.languages) _ _ _ (behind (rows_from group_row 1 s.groups) _ _ _ (behind (rows_from problem_row 1 s.problems) _ _ _ (last_grown (team_row s) s.teams t)))))
     (rw (accounts_of_team s t x.fixed.accounts sound.writable.fixed.accounts) refl)

@@ -1,0 +1,75 @@
+-- Rows without real numbers are bound as they are lent.
+use Rattle.std.proofs.Common.{◌≡◌, ◌∙◌, ℕ, Bool, List, [], ◌∷◌, map, Option, None, Some, refl, ap, ap₂, sym}
+use Rattle.std.specs.List.{AllByRecursion}
+use Rattle.sqlite.specs.Values.{bound, bound_value, or_null}
+use Rattle.sqlite_value.specs.Order.{Row}
+use Rattle.sqlite_value.specs.Value.{owned}
+use Rattle.sqlite_value.specs.declared.value.Value.{Value}
+use Rattle.sqlite_value.specs.declared.value.Value.TheVariants.{Text}
+use Rattle.sqlite_value.specs.declared.value.ValueRef.{ValueRef}
+use Rattle.contest_types.specs.Setup.{Setup}
+use Rattle.contest_types.specs.declared.account.Account.{Account}
+use Rattle.contest_types.specs.declared.clarification.Clarification.{Clarification}
+use Rattle.contest_types.specs.declared.marks.Marks.{Marks}
+use Rattle.contest_types.specs.declared.proposal.Proposal.{Proposal}
+use Rattle.contest_types.specs.declared.rejudging.Member.{Member}
+use Rattle.contest_types.specs.declared.rejudging.MemberState.{MemberState}
+use Rattle.contest_types.specs.declared.rejudging.Rejudging.{Rejudging}
+use Rattle.contest_types.specs.declared.submission.Release.{Release}
+use Rattle.contest_types.specs.declared.submission.Submission.{Submission}
+use Rattle.contest_types.specs.State.{ContestState}
+use Rattle.contest_rows.specs.Cells.{lent, number}
+use Rattle.contest_rows.specs.FixedRows.{account_row, item_row}
+use Rattle.contest_rows.specs.ListRows.{clarification_row, member_row, proposal_row, rejudging_row, release_row, submission_row}
+use Rattle.contest_changes.specs.Laws.{marks_given, member_given}
+
+abbrev pub Unreal : Row → Type 0
+Unreal = AllByRecursion (λ v. bound_value v ≡ v)
+
+bound_lent : (cells : List ValueRef) → Unreal (lent cells) → bound cells ≡ lent cells
+bound_lent [] all = refl
+bound_lent (v ∷ vs) all = ap₂ ◌∷◌ all.0 (bound_lent vs all.1)
+
+pub bound_as : (cells : List ValueRef) (row : Row) → Unreal row → lent cells ≡ row → bound cells ≡ row
+bound_as cells row all is = bound_lent cells (rw is all) ∙ is
+
+text : (o : Option (List ℕ)) → bound_value (or_null Text o) ≡ or_null Text o
+text None = refl
+text (Some t) = refl
+
+moment : (o : Option ℕ) → bound_value (or_null number o) ≡ or_null number o
+moment None = refl
+moment (Some n) = refl
+
+-- the rows of each list
+pub submission_unreal : (s : Setup) (n : ℕ) (x : Submission) → Unreal (submission_row s n x)
+submission_unreal s n x = (refl, refl, refl, refl, refl, refl, text x.entry_point, refl, text x.key, tt)
+
+pub proposal_unreal : (s : Setup) (n : ℕ) (p : Proposal) → Unreal (proposal_row s n p)
+proposal_unreal s n p = (refl, refl, refl, refl, refl, refl, tt)
+
+pub release_unreal : (s : Setup) (n : ℕ) (v : Release) → Unreal (release_row s n v)
+release_unreal s n v = (refl, refl, refl, refl, refl, refl, tt)
+
+pub clarification_unreal : (s : Setup) (n : ℕ) (c : Clarification) → Unreal (clarification_row s n c)
+clarification_unreal s n c = (refl, refl, refl, refl, refl, text _, text _, refl, refl, text c.key, tt)
+
+pub rejudging_unreal : (n : ℕ) (r : Rejudging) → Unreal (rejudging_row n r)
+rejudging_unreal n r = (refl, refl, refl, tt)
+
+pub member_unreal : (s : Setup) (n place : ℕ) (m : Member) → Unreal (member_row s n place m)
+member_unreal s n place m = (refl, refl, refl, refl, text _, text _, refl, tt)
+
+-- of settings and accounts
+pub item_unreal : (kind n : ℕ) (id name label : List ℕ) (ordinal : ℕ) (flag_a flag_b : Bool) (group_ids : List ℕ) → Unreal (item_row kind n id name label ordinal flag_a flag_b group_ids)
+item_unreal kind n id name label ordinal flag_a flag_b group_ids = (refl, refl, refl, refl, refl, refl, refl, refl, refl, tt)
+
+pub account_unreal : (s : Setup) (a : Account) → Unreal (account_row s a)
+account_unreal s a = (refl, refl, text _, refl, tt)
+
+-- and what changes of rows are given
+pub marks_unreal : (m : Marks) → Unreal (marks_given m)
+marks_unreal m = (refl, moment m.start, moment m.thaw, moment m.finalized, tt)
+
+pub member_given_unreal : (x : ContestState) (n place : ℕ) (state : MemberState) → Unreal (member_given x n place state)
+member_given_unreal x n place state = (refl, refl, text _, text _, refl, tt)
