@@ -6,3 +6,6 @@ pub mod NamesKept
 pub mod SettingAdditions
 pub mod BoundRows
 pub mod AppendLemmas
+pub mod OneMoreRow
+pub mod ListAdditions
+pub mod AppendedRows
