@@ -1,5 +1,5 @@
 -- Every row that a contest writes is held by its table as it is given.
-use Rattle.std.proofs.Common.{◌≡◌, ℕ, Bool, true, List, refl, ap, ◌∙◌}
+use Rattle.std.proofs.Common.{◌≡◌, ℕ, Bool, true, List, ◌∙◌, refl, ap}
 use Rattle.std.specs.Option.{option_map}
 use Rattle.sqlite.specs.Rowids.TheVariants.{Chosen}
 use Rattle.sqlite_rules.specs.Edit.{with_rowid}

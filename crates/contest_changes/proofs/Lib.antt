@@ -1,2 +1,5 @@
 pub mod CastLemmas
 pub mod HeldRows
+pub mod SameNumbers
+pub mod RowChanges
+pub mod ChangeLaws
