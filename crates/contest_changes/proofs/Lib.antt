@@ -2,10 +2,13 @@ pub mod CastLemmas
 pub mod HeldRows
 pub mod RisingLists
 pub mod RisingRows
-pub mod NamesKept
-pub mod SettingAdditions
-pub mod BoundRows
-pub mod AppendLemmas
 pub mod OneMoreRow
 pub mod ListAdditions
+pub mod NamesKept
+pub mod SettingAdditions
+pub mod SameNumbers
+pub mod RowChanges
+pub mod ChangeLaws
+pub mod BoundRows
+pub mod AppendLemmas
 pub mod AppendedRows
