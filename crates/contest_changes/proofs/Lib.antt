@@ -1,3 +1,5 @@
 pub mod RisingLists
 pub mod RisingRows
+pub mod CastLemmas
+pub mod HeldRows
 pub mod OneMoreRow
