@@ -3,3 +3,4 @@ pub mod RisingRows
 pub mod CastLemmas
 pub mod HeldRows
 pub mod OneMoreRow
+pub mod ListAdditions
