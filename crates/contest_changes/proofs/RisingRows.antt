@@ -1,5 +1,5 @@
 -- The rows of each table of a contest rise by its key.
-use Rattle.std.proofs.Common.{◌≡◌, ℕ, ◌+◌, ◌<◌, List, [], ◌∷◌, ◌++◌, drop, map, refl, Less, Equal}
+use Rattle.std.proofs.Common.{◌≡◌, ℕ, ◌+◌, List, [], ◌∷◌, drop, map, refl, Less, Equal}
 use Rattle.std.specs.Prelude.{IsTrue}
 use Rattle.std.specs.List.{enumerate_from, flat_map}
 use Rattle.sqlite_keyed.proofs.ListLemmas.{ascending-map, ascending_weaker}
