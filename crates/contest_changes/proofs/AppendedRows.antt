@@ -41,20 +41,20 @@ module _ (lists : ContestState) (s : Setup) (is : s ≡ lists.fixed.settings) wh
   adds_clarification rows row same x sound held may = rw (is, same, ← held) (clarification_is_added x row sound)
 
   -- the settings
-  pub adds_type : (row : JudgementType) → AddsRow lists (NewType row) (NewType row) Items (type_row (length s.types + 1) row)
-  adds_type row x sound held may = rw (is, ← held) (type_added x row sound)
+  pub adds_type : (rows : List JudgementType) (row : JudgementType) → rows ≡ s.types → AddsRow lists (NewType row) (NewType row) Items (type_row (length rows + 1) row)
+  adds_type rows row same x sound held may = rw (same, is, ← held) (type_added x row sound)
 
-  pub adds_language : (row : Language) → AddsRow lists (NewLanguage row) (NewLanguage row) Items (language_row (length s.languages + 1) row)
-  adds_language row x sound held may = rw (is, ← held) (language_added x row sound)
+  pub adds_language : (rows : List Language) (row : Language) → rows ≡ s.languages → AddsRow lists (NewLanguage row) (NewLanguage row) Items (language_row (length rows + 1) row)
+  adds_language rows row same x sound held may = rw (same, is, ← held) (language_added x row sound)
 
-  pub adds_group : (row : Group) → AddsRow lists (NewGroup row) (NewGroup row) Items (group_row (length s.groups + 1) row)
-  adds_group row x sound held may = rw (is, ← held) (group_added x row sound)
+  pub adds_group : (rows : List Group) (row : Group) → rows ≡ s.groups → AddsRow lists (NewGroup row) (NewGroup row) Items (group_row (length rows + 1) row)
+  adds_group rows row same x sound held may = rw (same, is, ← held) (group_added x row sound)
 
-  pub adds_problem : (row : Problem) → AddsRow lists (NewProblem row) (NewProblem row) Items (problem_row (length s.problems + 1) row)
-  adds_problem row x sound held may = rw (is, ← held) (problem_added x row sound)
+  pub adds_problem : (rows : List Problem) (row : Problem) → rows ≡ s.problems → AddsRow lists (NewProblem row) (NewProblem row) Items (problem_row (length rows + 1) row)
+  adds_problem rows row same x sound held may = rw (same, is, ← held) (problem_added x row sound)
 
-  pub adds_team : (row : Team) → AddsRow lists (NewTeam row) (NewTeam row) Items (team_row s (length s.teams + 1) row)
-  adds_team row x sound held may = rw (is, ← held) (team_added x row sound)
+  pub adds_team : (rows : List Team) (row : Team) → rows ≡ s.teams → AddsRow lists (NewTeam row) (NewTeam row) Items (team_row s (length rows + 1) row)
+  adds_team rows row same x sound held may = rw (same, is, ← held) (team_added x row sound)
 
 -- a rejudging, without its members yet
 pub adds_head : (lists : ContestState) (rows : List Rejudging) (row : Rejudging) → rows ≡ lists.rejudgings → AddsRow lists (NewRejudging row) (NewRejudging (with_members row [])) Rejudgings (rejudging_row (length rows + 1) row)

@@ -17,13 +17,14 @@ use Rattle.contest_types.specs.declared.proposal.Proposal.{Proposal}
 use Rattle.contest_types.specs.declared.rejudging.Member.{Member}
 use Rattle.contest_types.specs.declared.rejudging.MemberState.{MemberState}
 use Rattle.contest_types.specs.declared.rejudging.Rejudging.{Rejudging}
+use Rattle.contest_types.specs.declared.rejudging.RejudgingState.{RejudgingState}
 use Rattle.contest_types.specs.declared.submission.Release.{Release}
 use Rattle.contest_types.specs.declared.submission.Submission.{Submission}
-use Rattle.contest_types.specs.State.{ContestState}
 use Rattle.contest_rows.specs.Cells.{lent, number}
 use Rattle.contest_rows.specs.FixedRows.{account_row, item_row, role_team}
 use Rattle.contest_rows.specs.ListRows.{clarification_row, member_account, member_row, member_type, proposal_row, reference_id, rejudging_row, release_row, submission_row}
-use Rattle.contest_changes.specs.Laws.{marks_given, member_given}
+use Rattle.contest_fixed_rows.specs.Heads.{marks_row}
+use Rattle.contest_changes.specs.Laws.{member_state_given, state_given}
 
 abbrev pub Unreal : Row → Type 0
 Unreal row = map bound_value row ≡ row
@@ -70,8 +71,11 @@ pub account_unreal : (s : Setup) (a : Account) → Unreal (account_row s a)
 account_unreal s a = rw (text (role_team s a.role)) refl
 
 -- and what changes of rows are given
-pub marks_unreal : (m : Marks) → Unreal (marks_given m)
+pub marks_unreal : (m : Marks) → Unreal (marks_row m)
 marks_unreal m = rw (moment m.start, moment m.thaw, moment m.finalized) refl
 
-pub member_given_unreal : (x : ContestState) (n place : ℕ) (state : MemberState) → Unreal (member_given x n place state)
-member_given_unreal x n place state = rw (text (option_map (type_id_at x.fixed.settings) (member_type state)), text (member_account state)) refl
+pub state_given_unreal : (n : ℕ) (state : RejudgingState) → Unreal (state_given n state)
+state_given_unreal n state = refl
+
+pub member_state_given_unreal : (s : Setup) (n place : ℕ) (state : MemberState) → Unreal (member_state_given s n place state)
+member_state_given_unreal s n place state = rw (text (option_map (type_id_at s) (member_type state)), text (member_account state)) refl

@@ -22,7 +22,8 @@ use Rattle.contest_tables.specs.declared.row_change.RowChange.TheVariants as row
 use Rattle.contest_tables.specs.declared.table_name.TableName.{TableName}
 use Rattle.contest_tables.specs.declared.table_name.TableName.TheVariants.{Desk, Contest, Items, Accounts, Submissions, Proposals, Releases, Rejudgings, Members, Clarifications}
 use Rattle.contest_changes.specs.ContestTables.{table_rows}
-use Rattle.contest_changes.specs.Laws.{MarksAreChanged, MemberIsChanged, RejudgingIsChanged, marks_given}
+use Rattle.contest_fixed_rows.specs.Heads.{marks_row}
+use Rattle.contest_changes.specs.Laws.{MarksAreChanged, MemberIsChanged, RejudgingIsChanged}
 use Rattle.contest_changes.proofs.HeldRows.{contest_held, member_held, rejudging_held}
 use Rattle.contest_changes.proofs.RisingRows.{rises_but_accounts}
 use Rattle.contest_changes.proofs.RowChanges.{members_are_changed, members_from, rejudgings_stay, states_changed}
@@ -40,8 +41,8 @@ members_held s n (r ∷ rs) =
     (rows_held (IsHeld (form_of Members)) (member_row s n) (member_held s n) 1 r.members) (members_held s (n + 1) rs)
 
 -- the only row of the contest has the number that is given
-marks_changed : (f : FixedPart) (m : Marks) → contest_row (record f { marks = m }) ≡ change_row row_change.Marks (marks_given m) (contest_row f)
-marks_changed f m = ap (λ b. if b && true then changed_row row_change.Marks (marks_given m) (contest_row f) else contest_row f) (sym (same_number 1 1))
+marks_changed : (f : FixedPart) (m : Marks) → contest_row (record f { marks = m }) ≡ change_row row_change.Marks (marks_row m) (contest_row f)
+marks_changed f m = ap (λ b. if b && true then changed_row row_change.Marks (marks_row m) (contest_row f) else contest_row f) (sym (same_number 1 1))
 
 -- of the marks only the table of the contest tells
 marks_alone : (x : ContestState) (m : Marks) (name : TableName) → with_rows Contest (table_rows (with_marks x m) Contest) (table_rows x) name ≡ table_rows (with_marks x m) name

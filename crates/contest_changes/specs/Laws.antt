@@ -7,6 +7,7 @@ use Rattle.sqlite_value.specs.declared.value.Value.TheVariants.{Text}
 use Rattle.sqlite_value.specs.Order.{Row}
 use Rattle.contest_types.specs.Addable.{is_addable}
 use Rattle.contest_types.specs.SettingsNames.{type_id_at}
+use Rattle.contest_types.specs.Setup.{Setup}
 use Rattle.contest_types.specs.State.{ContestState, add, with_marks}
 use Rattle.contest_types.specs.declared.entry.Entry.{Entry}
 use Rattle.contest_types.specs.declared.entry.Entry.TheVariants.{NewSubmission, NewProposal, NewRelease, NewClarification, NewRejudging, SetMember, SetRejudging, NewType, NewLanguage, NewProblem, NewGroup, NewTeam, NewAccount}
@@ -28,6 +29,7 @@ use Rattle.contest_types.specs.declared.submission.Submission.{Submission}
 use Rattle.contest_rows.specs.Cells.{number, flag}
 use Rattle.contest_rows.specs.FixedRows.{account_row, group_row, language_row, problem_row, team_row, type_row}
 use Rattle.contest_rows.specs.ListRows.{clarification_row, is_ready, member_account, member_row, member_type, proposal_row, rejudging_row, release_row, state_number, submission_row}
+use Rattle.contest_fixed_rows.specs.Heads.{marks_row}
 use Rattle.contest_tables.specs.declared.row_change.RowChange.TheVariants as change
 use Rattle.contest_tables.specs.declared.table_name.TableName.TheVariants.{Items, Accounts, Submissions, Proposals, Releases, Rejudgings, Members, Clarifications}
 use Rattle.contest_changes.specs.ContestTables.{table_rows, valid_contest_in}
@@ -88,21 +90,21 @@ ProblemIsAdded = (x : ContestState) (p : Problem) → IsSound x → IsOneRow Ite
 abbrev pub TeamIsAdded : Type 0
 TeamIsAdded = (x : ContestState) (t : Team) → IsSound x → IsOneRow Items (team_row x.fixed.settings (length x.fixed.settings.teams + 1) t) x (add x (NewTeam t))
 
--- the marks, with the number of the only row before them
-abbrev pub marks_given : Marks → Row
-marks_given m = number 1 ∷ or_null number m.start ∷ or_null number m.thaw ∷ or_null number m.finalized ∷ []
-
+-- the marks
 abbrev pub MarksAreChanged : Type 0
-MarksAreChanged = (x : ContestState) (m : Marks) → IsOneChange change.Marks (marks_given m) x (with_marks x m)
+MarksAreChanged = (x : ContestState) (m : Marks) → IsOneChange change.Marks (marks_row m) x (with_marks x m)
 
 -- the state of a rejudging, after its number
-abbrev pub RejudgingIsChanged : Type 0
-RejudgingIsChanged = (x : ContestState) (n : ℕ) (state : RejudgingState) → IsOneChange change.RejudgingState (number n ∷ number (state_number state) ∷ []) x (add x (SetRejudging n state))
+abbrev pub state_given : (n : ℕ) → RejudgingState → Row
+state_given n state = number n ∷ number (state_number state) ∷ []
 
--- the state of a member, after the number of its rejudging and its place in that
-abbrev pub member_given : ContestState → (n place : ℕ) → MemberState → Row
-member_given x n place state =
-    number n ∷ number (place + 1) ∷ or_null Text (option_map (type_id_at x.fixed.settings) (member_type state)) ∷ or_null Text (member_account state) ∷ flag (is_ready state) ∷ []
+abbrev pub RejudgingIsChanged : Type 0
+RejudgingIsChanged = (x : ContestState) (n : ℕ) (state : RejudgingState) → IsOneChange change.RejudgingState (state_given n state) x (add x (SetRejudging n state))
+
+-- the state of a member, after the number of its rejudging and its place in that, from 1
+abbrev pub member_state_given : Setup → (n place : ℕ) → MemberState → Row
+member_state_given s n place state =
+    number n ∷ number place ∷ or_null Text (option_map (type_id_at s) (member_type state)) ∷ or_null Text (member_account state) ∷ flag (is_ready state) ∷ []
 
 abbrev pub MemberIsChanged : Type 0
-MemberIsChanged = (x : ContestState) (n place : ℕ) (state : MemberState) → IsOneChange change.MemberState (member_given x n place state) x (add x (SetMember n place state))
+MemberIsChanged = (x : ContestState) (n place : ℕ) (state : MemberState) → IsOneChange change.MemberState (member_state_given x.fixed.settings n (place + 1) state) x (add x (SetMember n place state))

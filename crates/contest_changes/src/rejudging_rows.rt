@@ -1,12 +1,13 @@
 //! Rejudgings with their members, and the states of both.
-ghost use Rattle.std.specs.Prelude.{◌≡◌, ◌+◌, length, []};
+ghost use Rattle.std.specs.Prelude.{◌≡◌, ◌<◌, ◌+◌, ◌^◌, length, []};
+ghost use Rattle.contest_rows.specs.Cells.{lent};
 ghost use Rattle.contest_types.specs.declared.entry.Entry.TheVariants.{NewRejudging, SetMember, SetRejudging};
 ghost use Rattle.contest_rows.specs.ListRows.{member_row};
 ghost use Rattle.contest_tables.specs.Connected.{shown_by, counts_of};
 ghost use Rattle.contest_tables.specs.Steps.{Full, HasInserted, MakesNone, Step};
 ghost use Rattle.contest_tables.specs.declared.table_name.TableName.TheVariants.{Members};
 ghost use Rattle.contest_changes.specs.Additions.{Admits, Appends, HasAdded};
-ghost use Rattle.contest_changes.specs.Laws.{with_members};
+ghost use Rattle.contest_changes.specs.Laws.{with_members, member_state_given, state_given};
 
 use crate::list_rows::fits;
 use contest_rows::{
@@ -14,8 +15,9 @@ use contest_rows::{
 };
 use contest_store::{Lists, StoreError};
 use contest_tables::{RowChange, TableName, Tables};
-use contest_types::{Member, MemberState, Rejudging, RejudgingState};
+use contest_types::{Member, MemberState, Rejudging, RejudgingState, Settings};
 use sqlite::Alter;
+use sqlite::types::ValueRef;
 
 /// The rejudging, and then its members in their order.
 pub(crate) fn add_rejudging<S: Alter>(
@@ -90,10 +92,15 @@ pub(crate) fn set_rejudging<S: Alter>(
     if !fits(n) {
         return Err(tables.give_up(StoreError::Fault));
     }
-    tables.change(
-        RowChange::RejudgingState,
-        &[number(n as u64), number(state_number(state))],
-    )
+    tables.change(RowChange::RejudgingState, &state_cells(n as u64, state))
+}
+
+// The number of a rejudging and its state.
+fn state_cells<'a>(n: u64, state: RejudgingState) -> [ValueRef<'a>; 2]
+    requires { n < 2 ^ 63 }
+    ensures { lent result ≡ state_given n state }
+{
+    [number(n), number(state_number(state))]
 }
 
 pub(crate) fn set_member<S: Alter>(
@@ -108,12 +115,29 @@ pub(crate) fn set_member<S: Alter>(
     if !(fits(n) && fits(place)) {
         return Err(tables.give_up(StoreError::Fault));
     }
-    let cells = [
-        number(n as u64),
-        number(place as u64 + 1),
-        type_cell(&lists.fixed().settings, state),
+    let settings = &lists.fixed().settings;
+    tables.change(
+        RowChange::MemberState,
+        &member_state_cells(settings, n as u64, place as u64 + 1, state),
+    )
+}
+
+// The number of a rejudging, the place in it, from 1, and the member's state.
+fn member_state_cells<'a>(
+    settings: &'a Settings,
+    n: u64,
+    place: u64,
+    state: &'a MemberState,
+) -> [ValueRef<'a>; 5]
+    requires rejudging { n < 2 ^ 63 }
+    requires place { place < 2 ^ 63 }
+    ensures { lent result ≡ member_state_given settings.now n place state.now }
+{
+    [
+        number(n),
+        number(place),
+        type_cell(settings, state),
         account_cell(state),
         number(is_ready(state) as u64),
-    ];
-    tables.change(RowChange::MemberState, &cells)
+    ]
 }
