@@ -12,3 +12,5 @@ pub mod ChangeLaws
 pub mod BoundRows
 pub mod AppendLemmas
 pub mod AppendedRows
+pub mod AscendingAccounts
+pub mod AccountAddition
