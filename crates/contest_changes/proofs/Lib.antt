@@ -1,1 +1,3 @@
 pub mod AscendingAccounts
+pub mod WiderSettings
+pub mod NamedReplies
