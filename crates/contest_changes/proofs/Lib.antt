@@ -1,3 +1,4 @@
 pub mod AscendingAccounts
 pub mod WiderSettings
 pub mod NamedReplies
+pub mod SoundLists
