@@ -2,3 +2,4 @@ pub mod AscendingAccounts
 pub mod WiderSettings
 pub mod NamedReplies
 pub mod SoundLists
+pub mod SoundSettings
