@@ -3,3 +3,4 @@ pub mod WiderSettings
 pub mod NamedReplies
 pub mod SoundLists
 pub mod SoundSettings
+pub mod SoundAdditions

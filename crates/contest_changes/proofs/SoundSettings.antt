@@ -33,7 +33,7 @@ grows xs x = omega (arith, length-append xs (x ∷ []))
 stays : (n : ℕ) → n ≤ n
 stays n = omega arith
 
-with_one : {X : Type 0} (P : X → Type 0) (xs : List X) (x : X) → AllByRecursion P xs → P x → AllByRecursion P (xs ++ x ∷ [])
+pub with_one : {X : Type 0} (P : X → Type 0) (xs : List X) (x : X) → AllByRecursion P xs → P x → AllByRecursion P (xs ++ x ∷ [])
 with_one P xs x all own = all-append P xs (x ∷ []) all (own, tt)
 
 sound_with : (x : ContestState) (t : Setup) → IsSound x → is_valid (with_settings x t) ≡ true → IsNoShorter x.fixed.settings t → IsWritableSetup t → IsSound (with_settings x t)
