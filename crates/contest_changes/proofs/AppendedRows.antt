@@ -22,6 +22,7 @@ use Rattle.contest_rows.specs.FixedRows.{account_row, group_row, language_row, p
 use Rattle.contest_rows.specs.ListRows.{clarification_row, proposal_row, rejudging_row, release_row, submission_row}
 use Rattle.contest_tables.specs.declared.table_name.TableName.TheVariants.{Items, Accounts, Submissions, Proposals, Releases, Rejudgings, Clarifications}
 use Rattle.contest_changes.specs.Laws.{with_members}
+use Rattle.contest_changes.proofs.AccountAddition.{account_is_added}
 use Rattle.contest_changes.proofs.AppendLemmas.{AddsRow}
 use Rattle.contest_changes.proofs.ListAdditions.{submission_is_added, proposal_is_added, release_is_added, clarification_is_added, rejudging_is_added}
 use Rattle.contest_changes.proofs.SettingAdditions.{type_added, language_added, group_added, problem_added, team_added}
@@ -55,6 +56,10 @@ module _ (lists : ContestState) (s : Setup) (is : s ≡ lists.fixed.settings) wh
 
   pub adds_team : (rows : List Team) (row : Team) → rows ≡ s.teams → AddsRow lists (NewTeam row) (NewTeam row) Items (team_row s (length rows + 1) row)
   adds_team rows row same x sound held may = rw (same, is, ← held) (team_added x row sound)
+
+  -- an account
+  pub adds_account : (row : Account) → AddsRow lists (NewAccount row) (NewAccount row) Accounts (account_row s row)
+  adds_account row x sound held may = rw (is, ← held) (account_is_added x row sound may)
 
 -- a rejudging, without its members yet
 pub adds_head : (lists : ContestState) (rows : List Rejudging) (row : Rejudging) → rows ≡ lists.rejudgings → AddsRow lists (NewRejudging row) (NewRejudging (with_members row [])) Rejudgings (rejudging_row (length rows + 1) row)

@@ -4,6 +4,7 @@ pub mod RisingLists
 pub mod RisingRows
 pub mod OneMoreRow
 pub mod ListAdditions
+pub mod AccountAddition
 pub mod NamesKept
 pub mod SettingAdditions
 pub mod SameNumbers
@@ -14,3 +15,9 @@ pub mod AppendLemmas
 pub mod AppendedRows
 pub mod ChangedRows
 pub mod MemberSteps
+pub mod AscendingAccounts
+pub mod WiderSettings
+pub mod NamedReplies
+pub mod SoundLists
+pub mod SoundSettings
+pub mod SoundAdditions

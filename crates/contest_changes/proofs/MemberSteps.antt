@@ -1,5 +1,6 @@
 -- A rejudging is appended with one member after the other.
-use Rattle.std.proofs.Common.{◌≡◌, ◌∙◌, ℕ, ◌+◌, ◌<◌, List, [], ◌∷◌, ◌++◌, length, take, get_or, Result, Ok, refl, sym, ap, subst}
+use Rattle.std.proofs.Common.{◌≡◌, ◌∙◌, ℕ, ◌+◌, ◌<◌, ◌≤◌, List, [], ◌∷◌, ◌++◌, length, take, slice_index_or, Result, Ok, refl, sym, ap, subst, arith}
+use Rattle.std.proofs.lemmas.List.{length-take-le, take_all, take_more}
 use Rattle.sqlite.specs.State.{State}
 use Rattle.contest_store.specs.declared.store_error.StoreError.{StoreError}
 use Rattle.contest_types.specs.State.{ContestState, add}
@@ -64,8 +65,11 @@ module _ (r : Result (Unit {0}) StoreError) (old mid new : State) (b m a : Count
       (λ db none. none)
 
 -- one member more in front
-pub more : (ms : List Member) (place : ℕ) (m d : Member) → place < length ms → m ≡ slice_index_or ms place d → take place ms ++ m ∷ [] ≡ take (place + 1) ms
-more ms place m d within is = ap (λ (x : Member). take place ms ++ x ∷ []) is ∙ sym (take_more ms place d within)
+pub one_further : (ms slice : List Member) (place : ℕ) (m : Member) → slice ≡ ms → place < length slice → m ≡ slice_index_or slice place m → take place ms ++ m ∷ [] ≡ take (place + 1) ms
+one_further ms slice place m same within is = rw (← same) (ap (λ (x : Member). take place slice ++ x ∷ []) (is ∙ slice_index_or-get_or slice place m) ∙ sym (take_more slice place m within))
 
-counted : (ms : List Member) (place : ℕ) → place < length ms → length (take place ms) ≡ place
-counted ms place within = length-take-within place ms (omega (arith, within))
+pub so_many : (ms slice : List Member) (place : ℕ) → slice ≡ ms → place < length slice → length (take place ms) ≡ place
+so_many ms slice place same within = rw (← same) (length-take-le place slice (omega (arith, within)))
+
+pub all_members : (ms slice : List Member) (place : ℕ) → slice ≡ ms → length slice ≤ place → take place ms ≡ ms
+all_members ms slice place same past = take_all place ms (rw same at past)
