@@ -66,7 +66,7 @@ module _ (r : Result (Unit {0}) StoreError) (old mid new : State) (b m a : Count
 
 -- one member more in front
 pub one_further : (ms slice : List Member) (place : ℕ) (m : Member) → slice ≡ ms → place < length slice → m ≡ slice_index_or slice place m → take place ms ++ m ∷ [] ≡ take (place + 1) ms
-one_further ms slice place m same within is = rw (← same) (ap (λ (x : Member). take place slice ++ x ∷ []) (is ∙ slice_index_or-get_or slice place m) ∙ sym (take_more slice place m within))
+one_further ms slice place m same within is = rw (← same) (ap (λ (x : Member). take place slice ++ x ∷ []) is ∙ sym (take_more slice place m within))
 
 pub so_many : (ms slice : List Member) (place : ℕ) → slice ≡ ms → place < length slice → length (take place ms) ≡ place
 so_many ms slice place same within = rw (← same) (length-take-le place slice (omega (arith, within)))
