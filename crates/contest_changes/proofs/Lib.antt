@@ -4,3 +4,4 @@ pub mod NamedReplies
 pub mod SoundLists
 pub mod SoundSettings
 pub mod SoundAdditions
+pub mod SoundReadings
