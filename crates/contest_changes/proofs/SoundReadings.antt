@@ -1,16 +1,15 @@
 -- A sound contest is what its rows are read as, files and all.
-use Rattle.std.proofs.Common.{◌≡◌, ◌∙◌, ◌+◌, ℕ, List, [], ◌∷◌, length, map, Option, Some, refl, ap}
+use Rattle.std.proofs.Common.{◌≡◌, ◌∙◌, ◌+◌, ℕ, List, [], ◌∷◌, length, map, Some, refl, ap}
 use Rattle.std.specs.Prelude.{zip}
 use Rattle.std.specs.Option.{option_map, option_and_then}
-use Rattle.sqlite_value.specs.Order.{Row}
 use Rattle.contest_types.specs.Loads.{without_file}
 use Rattle.contest_types.specs.Setup.{Setup}
 use Rattle.contest_types.specs.State.{ContestState}
 use Rattle.contest_types.specs.declared.submission.Submission.{Submission}
 use Rattle.contest_rows.specs.ListRows.{loaded_submission_row, submission_row}
-use Rattle.contest_rows.specs.Tables.{Tables, rows_of}
+use Rattle.contest_rows.specs.Tables.{rows_of}
 use Rattle.contest_rows.proofs.ListLaws.{rows_from}
-use Rattle.contest_spelling.specs.Laws.{loaded_rows_of, unfiled}
+use Rattle.contest_spelling.specs.Laws.{loaded_rows_of}
 use Rattle.contest_spelling.specs.Spelling.{lists_in}
 use Rattle.contest_spelling.proofs.SpellingLaws.{contests_read_back}
 use Rattle.contest_tables.specs.Statements.{loaded_row}
