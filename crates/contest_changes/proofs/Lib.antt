@@ -21,3 +21,4 @@ pub mod NamedReplies
 pub mod SoundLists
 pub mod SoundSettings
 pub mod SoundAdditions
+pub mod SoundReadings

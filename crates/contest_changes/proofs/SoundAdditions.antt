@@ -23,7 +23,7 @@ use Rattle.contest_types.specs.declared.rejudging.RejudgingState.{RejudgingState
 use Rattle.contest_types.specs.declared.submission.Release.{Release}
 use Rattle.contest_types.specs.declared.submission.Submission.{Submission}
 use Rattle.contest_types.proofs.AddEntry.{adding}
-use Rattle.contest_types.proofs.PlaceLemmas.{and_left, and_right}
+use Rattle.contest_types.proofs.PlaceLemmas.{and_left}
 use Rattle.contest_types.proofs.ValidParts.{four, parts}
 use Rattle.contest_rows.specs.Laws.{IsWritableClarification, IsWritableProposal, IsWritableRejudging, IsWritableRelease, IsWritableState, IsWritableSubmission}
 use Rattle.contest_spelling.specs.Laws.{IsWritable}

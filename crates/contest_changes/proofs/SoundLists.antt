@@ -1,6 +1,6 @@
 -- A row that may be added to a list, and that is of its kinds, is writable.
-use Rattle.std.proofs.Common.{◌≡◌, ◌∙◌, ◌<◌, ◌≤◌, ℕ, Bool, true, false, List, [], ◌∷◌, length, Option, Some, None, refl, sym, ap, arith}
-use Rattle.std.specs.Prelude.{◌&&◌, ◌≢◌, not, nat_le, nat_lt, find, is_some, if◌then◌else◌, IfSome, codes}
+use Rattle.std.proofs.Common.{◌≡◌, ◌∙◌, ◌<◌, ℕ, Bool, true, false, List, [], ◌∷◌, length, Option, Some, None, refl, sym, ap, arith}
+use Rattle.std.specs.Prelude.{◌&&◌, not, nat_le, nat_lt, is_some, if◌then◌else◌, IfSome, codes}
 use Rattle.std.specs.List.{AllByRecursion, list_all}
 use Rattle.std.specs.Option.{option_map_or}
 use Rattle.std.specs.Str.{bytes_eq}
@@ -8,12 +8,11 @@ use Rattle.std.proofs.lemmas.Bool.{false≢true}
 use Rattle.std.proofs.lemmas.Bool.Decides.{nat_tests}
 use Rattle.std.proofs.lemmas.Slice.Eq.{bytes_eq-Decides}
 use Rattle.contest_types.specs.Accounts.{account_named}
-use Rattle.contest_types.specs.Addable.{is_addable, is_next_clarification}
 use Rattle.contest_types.specs.Clock.{end_of, reached}
-use Rattle.contest_types.specs.Setup.{Setup, IsValid}
+use Rattle.contest_types.specs.Setup.{Setup}
 use Rattle.contest_types.specs.State.{ContestState, FixedPart}
 use Rattle.contest_types.specs.ValidClarifications.{has_clarification, is_an_addressee, is_valid_clarification, is_well_sent}
-use Rattle.contest_types.specs.ValidFixed.{has_valid_accounts, is_valid_account}
+use Rattle.contest_types.specs.ValidFixed.{is_valid_account}
 use Rattle.contest_types.specs.ValidRejudgings.{is_valid_member, is_valid_rejudging, is_valid_state}
 use Rattle.contest_types.specs.ValidSubmissions.{is_there, is_valid_proposal, is_valid_release, is_valid_submission}
 use Rattle.contest_types.specs.declared.account.Account.{Account}

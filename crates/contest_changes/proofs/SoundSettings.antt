@@ -1,5 +1,5 @@
 -- A sound contest stays sound with more settings, with one more account and with other marks.
-use Rattle.std.proofs.Common.{◌≡◌, ◌≤◌, ℕ, Bool, true, List, [], ◌∷◌, ◌++◌, length, length-append, filter, Some, arith}
+use Rattle.std.proofs.Common.{◌≡◌, ◌≤◌, ℕ, true, List, [], ◌∷◌, ◌++◌, length, length-append, filter, arith}
 use Rattle.std.specs.Prelude.{not, codes}
 use Rattle.std.specs.List.{AllByRecursion}
 use Rattle.std.specs.Str.{bytes_eq}

@@ -1,7 +1,6 @@
 -- What is writable under settings is so under settings that are no shorter.
-use Rattle.std.proofs.Common.{◌≡◌, ◌<◌, ◌≤◌, ℕ, true, List, [], ◌∷◌, length, Option, Some, None, arith}
+use Rattle.std.proofs.Common.{◌≡◌, ◌<◌, ◌≤◌, ℕ, true, length, Option, Some, None, arith}
 use Rattle.std.specs.Prelude.{IfSome}
-use Rattle.std.specs.List.{AllByRecursion}
 use Rattle.sqlite_keyed.proofs.ListLemmas.{all_weaker}
 use Rattle.contest_types.specs.Accounts.{has_valid_role}
 use Rattle.contest_types.specs.Setup.{Setup, IsValid}
