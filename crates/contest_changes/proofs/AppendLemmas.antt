@@ -1,5 +1,5 @@
 -- A row that was inserted or changed is the change of the contest.
-use Rattle.std.proofs.Common.{◌≡◌, true, List, Result, Ok, Err, refl, subst}
+use Rattle.std.proofs.Common.{◌≡◌, true, Result, Err, subst}
 use Rattle.sqlite.specs.State.{HasCleanDisk, State, Survives}
 use Rattle.sqlite.specs.Tree.{Trees}
 use Rattle.sqlite.proofs.StateLemmas.{survives_weaker}
@@ -50,28 +50,28 @@ module _ (r : Result (Unit {0}) StoreError) (old new : State) (b a : Counts) (li
       → Step r old new b a (Admits lists e) (HasAdded lists added) (MakesNone old (Admits lists e))
   adds_row added name given row is one s =
       admitted r old new b a lists e (HasInserted name given) (HasAdded lists added) (λ now kept h inserted.
-        let o = one h.contest h.sound h.held h.may in
-        record {
-          contest = h.contest;
-          shown = h.shown;
-          sound = h.sound;
-          held = h.held;
-          within = subst (λ (rows : TableRows). Within new (Showing rows) kept) o.others
-              (inserted (table_rows h.contest) (table_rows (add h.contest added) name) h.shown (rw is o.with_it));
-        }) s
+      let o = one h.contest h.sound h.held h.may in
+      record {
+        contest = h.contest;
+        shown = h.shown;
+        sound = h.sound;
+        held = h.held;
+        within = subst (λ (rows : TableRows). Within new (Showing rows) kept) o.others
+            (inserted (table_rows h.contest) (table_rows (add h.contest added) name) h.shown (rw is o.with_it));
+      }) s
 
   pub changes_row : (change : RowChange) (cells given : Row) → cells ≡ given → ChangesRow lists e change given → Step r old new b a Full (HasChanged change cells) (MakesNone old Full) → Appends r old new b a lists e
   changes_row change cells given is one s =
       admitted r old new b a lists e (HasChanged change cells) (HasAdded lists e) (λ now kept h changed.
-        let o = one h.contest h.held in
-        record {
-          contest = h.contest;
-          shown = h.shown;
-          sound = h.sound;
-          held = h.held;
-          within = subst (λ (rows : TableRows). Within new (Showing rows) kept) o.others
-              (changed (table_rows h.contest) (table_rows (add h.contest e) (table_of_change change)) h.shown (rw is o.changed));
-        }) s
+      let o = one h.contest h.held in
+      record {
+        contest = h.contest;
+        shown = h.shown;
+        sound = h.sound;
+        held = h.held;
+        within = subst (λ (rows : TableRows). Within new (Showing rows) kept) o.others
+            (changed (table_rows h.contest) (table_rows (add h.contest e) (table_of_change change)) h.shown (rw is o.changed));
+      }) s
 
 -- what was given up before anything was changed
 pub gave_up : {T : Type 0} (error : StoreError) (old new : State) (b a : Counts) (From To : Holding) (Made : Trees → Type 0) → ((now kept : Content) → From old now kept → Holds old now kept)

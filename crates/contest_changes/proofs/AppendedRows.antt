@@ -1,11 +1,9 @@
 -- The rows that an append inserts, told of the lists in memory.
-use Rattle.std.proofs.Common.{◌≡◌, true, ℕ, ◌+◌, List, [], ◌∷◌, length, map, refl, sym, ap, subst}
+use Rattle.std.proofs.Common.{◌≡◌, ◌+◌, List, [], length}
 use Rattle.std.proofs.lemmas.List.{length-map}
-use Rattle.sqlite_value.specs.Order.{Row}
-use Rattle.contest_store.specs.Lists.{loaded}
 use Rattle.contest_types.specs.Loads.{without_file}
 use Rattle.contest_types.specs.Setup.{Setup}
-use Rattle.contest_types.specs.State.{ContestState, FixedPart}
+use Rattle.contest_types.specs.State.{ContestState}
 use Rattle.contest_types.specs.declared.account.Account.{Account}
 use Rattle.contest_types.specs.declared.clarification.Clarification.{Clarification}
 use Rattle.contest_types.specs.declared.entry.Entry.TheVariants.{NewSubmission, NewProposal, NewRelease, NewClarification, NewRejudging, NewType, NewLanguage, NewProblem, NewGroup, NewTeam, NewAccount}

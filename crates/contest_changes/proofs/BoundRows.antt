@@ -4,7 +4,6 @@ use Rattle.std.specs.Option.{option_map}
 use Rattle.sqlite.specs.Values.{bound, bound_value, or_null}
 use Rattle.sqlite_value.specs.Order.{Row}
 use Rattle.sqlite_value.specs.Value.{owned}
-use Rattle.sqlite_value.specs.declared.value.Value.{Value}
 use Rattle.sqlite_value.specs.declared.value.Value.TheVariants.{Text}
 use Rattle.sqlite_value.specs.declared.value.ValueRef.{ValueRef}
 use Rattle.contest_types.specs.ProblemPlaces.{problem_id_at}

@@ -1,5 +1,5 @@
 -- What names settings by their places names the same ones when more settings come after them.
-use Rattle.std.proofs.Common.{◌≡◌, ◌∙◌, ◌<◌, ℕ, zero, suc, ◌+◌, Bool, true, List, [], ◌∷◌, ◌++◌, length, map, Option, None, Some, IfSome, refl, ap, ap₂, arith}
+use Rattle.std.proofs.Common.{◌≡◌, ◌<◌, ℕ, zero, suc, ◌+◌, Bool, true, List, [], ◌∷◌, ◌++◌, length, map, Option, None, Some, IfSome, refl, ap, ap₂, arith}
 use Rattle.std.specs.Prelude.{false, ◌&&◌, nat_lt}
 use Rattle.std.specs.List.{AllByRecursion, enumerate_from, flat_map, join_with_byte, list_all, slice_get}
 use Rattle.std.specs.Option.{option_map, option_map_or}
@@ -9,9 +9,8 @@ use Rattle.sqlite_value.specs.declared.value.Value.TheVariants.{Text, Blob}
 use Rattle.sqlite_value.specs.Order.{Row}
 use Rattle.contest_types.specs.Accounts.{has_valid_role}
 use Rattle.contest_types.specs.ProblemPlaces.{problem_id_at}
-use Rattle.contest_types.specs.SettingsNames.{group_id_at, language_id_at, type_id_at}
+use Rattle.contest_types.specs.SettingsNames.{group_id_at, type_id_at}
 use Rattle.contest_types.specs.Setup.{Setup, refers}
-use Rattle.contest_types.specs.TeamPlaces.{team_id_at}
 use Rattle.contest_types.specs.declared.account.Account.{Account}
 use Rattle.contest_types.specs.declared.account.Role.{Role}
 use Rattle.contest_types.specs.declared.account.Role.TheVariants as role
@@ -29,9 +28,9 @@ use Rattle.contest_types.specs.declared.rejudging.Rejudging.{Rejudging}
 use Rattle.contest_types.specs.declared.submission.Release.{Release}
 use Rattle.contest_types.specs.declared.submission.Submission.{Submission}
 use Rattle.contest_rows.specs.Cells.{number, flag}
-use Rattle.contest_rows.specs.FixedRows.{account_row, joined_ids, role_number, role_team, team_row}
+use Rattle.contest_rows.specs.FixedRows.{account_row, role_number, role_team, team_row}
 use Rattle.contest_rows.specs.Laws.{IsWritableClarification, IsWritableProposal, IsWritableRejudging, IsWritableRelease, IsWritableState, IsWritableSubmission}
-use Rattle.contest_rows.specs.ListRows.{audience_number, clarification_row, is_ready, member_account, member_row, member_type, members_rows, proposal_row, reference_id, release_row, submission_row}
+use Rattle.contest_rows.specs.ListRows.{audience_number, clarification_row, is_ready, member_account, member_row, member_type, proposal_row, reference_id, release_row, submission_row}
 use Rattle.contest_rows.proofs.ListLaws.{rows_from}
 use Rattle.contest_fixed_rows.specs.Laws.{IsWritableAccount}
 

@@ -5,20 +5,14 @@ use Rattle.std.proofs.lemmas.List.Sorted.{IsPermutation-append_right, IsPermutat
 use Rattle.sqlite_value.specs.Order.{Row}
 use Rattle.contest_types.specs.State.{ContestState, add}
 use Rattle.contest_types.specs.declared.entry.Entry.TheVariants.{NewType, NewLanguage, NewProblem, NewGroup, NewTeam}
-use Rattle.contest_types.specs.declared.objects.Group.{Group}
-use Rattle.contest_types.specs.declared.objects.JudgementType.{JudgementType}
-use Rattle.contest_types.specs.declared.objects.Language.{Language}
-use Rattle.contest_types.specs.declared.objects.Problem.{Problem}
-use Rattle.contest_types.specs.declared.objects.Team.{Team}
 use Rattle.contest_rows.specs.FixedRows.{group_row, items_rows, joined_ids, language_row, problem_row, team_row, type_row}
 use Rattle.contest_rows.specs.Tables.{Tables, rows_of}
 use Rattle.contest_rows.proofs.ListLaws.{one_more, rows_from}
 use Rattle.contest_tables.specs.Schema.{form_of}
-use Rattle.contest_tables.specs.Steps.{IsHeldAsGiven, IsWith, with_rows}
-use Rattle.contest_tables.specs.Tables.{TableRows}
+use Rattle.contest_tables.specs.Steps.{IsHeldAsGiven, with_rows}
 use Rattle.contest_tables.specs.declared.table_name.TableName.{TableName}
 use Rattle.contest_tables.specs.declared.table_name.TableName.TheVariants.{Desk, Contest, Items, Accounts, Submissions, Proposals, Releases, Rejudgings, Members, Clarifications}
-use Rattle.contest_changes.specs.ContestTables.{by_name, table_rows}
+use Rattle.contest_changes.specs.ContestTables.{by_name}
 use Rattle.contest_changes.specs.Laws.{TypeIsAdded, LanguageIsAdded, GroupIsAdded, ProblemIsAdded, TeamIsAdded}
 use Rattle.contest_changes.specs.OneRow.{IsOneRow}
 use Rattle.contest_changes.proofs.HeldRows.{item_given}
@@ -80,8 +74,8 @@ group_added x g sound =
     let s = x.fixed.settings in
     one_row (group_row (length s.groups + 1) g) x (add x (NewGroup g)) (item_given 2 _ g.id g.name [] 0 false false [])
     (subst (λ (teams : List Row). IsPermutation (group_row (length s.groups + 1) g ∷ items_rows s) (rows_from type_row 1 s.types ++ (rows_from language_row 1 s.languages ++ (rows_from group_row 1 (s.groups ++ g ∷ []) ++ (rows_from problem_row 1 s.problems ++ teams)))))
-      (sym (teams_of_group s g 1 s.teams sound.writable.valid.references))
-      (behind (rows_from type_row 1 s.types) _ _ _ (behind (rows_from language_row 1 s.languages) _ _ _ (grown group_row s.groups g _))))
+    (sym (teams_of_group s g 1 s.teams sound.writable.valid.references))
+    (behind (rows_from type_row 1 s.types) _ _ _ (behind (rows_from language_row 1 s.languages) _ _ _ (grown group_row s.groups g _))))
     refl
 
 pub problem_added : ProblemIsAdded

@@ -6,7 +6,7 @@ use Rattle.contest_store.specs.declared.store_error.StoreError.{StoreError}
 use Rattle.contest_types.specs.Addable.{is_addable}
 use Rattle.contest_types.specs.State.{ContestState, add}
 use Rattle.contest_types.specs.declared.entry.Entry.{Entry}
-use Rattle.contest_tables.specs.Steps.{Content, Holding, MakesNone, Showing, Step, Within}
+use Rattle.contest_tables.specs.Steps.{Content, MakesNone, Showing, Step, Within}
 use Rattle.contest_tables.specs.declared.counts.Counts.{Counts}
 use Rattle.contest_changes.specs.ContestTables.{table_rows}
 use Rattle.contest_changes.specs.Sound.{IsSound}

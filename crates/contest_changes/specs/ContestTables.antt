@@ -1,5 +1,5 @@
 -- A contest and the rows of its tables by the names of these, and the contest that such rows are.
-use Rattle.std.specs.Prelude.{ℕ, List, [], ◌∷◌, map, zip, Bool, true, false, Option, Some, None, if◌then◌else◌}
+use Rattle.std.specs.Prelude.{ℕ, List, [], map, zip, Option, Some, None, if◌then◌else◌}
 use Rattle.std.specs.Option.{option_map, option_and_then}
 use Rattle.sqlite_value.specs.declared.value.Value.{Value}
 use Rattle.sqlite_value.specs.declared.value.Value.TheVariants.{Blob}

@@ -9,7 +9,6 @@ use Rattle.contest_types.specs.declared.entry.Entry.TheVariants.{NewSubmission, 
 use Rattle.contest_types.specs.declared.account.Account.{Account}
 use Rattle.contest_types.specs.declared.clarification.Clarification.{Clarification}
 use Rattle.contest_types.specs.declared.limits.TheConstants.{LAST_MOMENT}
-use Rattle.contest_types.specs.declared.objects.Team.{Team}
 use Rattle.contest_types.specs.declared.proposal.Proposal.{Proposal}
 use Rattle.contest_types.specs.declared.proposal.Proposer.{Proposer}
 use Rattle.contest_types.specs.declared.proposal.Proposer.TheVariants as proposer
@@ -17,7 +16,6 @@ use Rattle.contest_types.specs.declared.rejudging.Member.{Member}
 use Rattle.contest_types.specs.declared.rejudging.MemberState.{MemberState}
 use Rattle.contest_types.specs.declared.rejudging.MemberState.TheVariants as member
 use Rattle.contest_types.specs.declared.rejudging.Rejudging.{Rejudging}
-use Rattle.contest_types.specs.declared.submission.Release.{Release}
 use Rattle.contest_types.specs.declared.submission.Submission.{Submission}
 use Rattle.contest_fixed_rows.specs.Laws.{IsWritableItem, IsWritableProblem}
 

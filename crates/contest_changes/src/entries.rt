@@ -5,9 +5,7 @@ ghost use Rattle.contest_changes.specs.Additions.{Appends};
 use crate::list_rows::{add_clarification, add_proposal, add_release, add_submission};
 use crate::mark_rows::{set_finalized, set_start, set_thaw};
 use crate::rejudging_rows::{add_rejudging, set_member, set_rejudging};
-use crate::setting_rows::{
-    add_account, add_group, add_language, add_problem, add_team, add_type,
-};
+use crate::setting_rows::{add_account, add_group, add_language, add_problem, add_team, add_type};
 use contest_store::{Lists, StoreError};
 use contest_tables::Tables;
 use contest_types::Entry;

@@ -83,7 +83,12 @@ pub(crate) fn add_clarification<S: Alter>(
     let reply = ReplyId::of(clarification.reply);
     tables.insert(
         TableName::Clarifications,
-        &clarification_cells(&lists.fixed().settings, row as u64 + 1, clarification, &reply),
+        &clarification_cells(
+            &lists.fixed().settings,
+            row as u64 + 1,
+            clarification,
+            &reply,
+        ),
     )
 }
 

@@ -24,7 +24,10 @@ pub(crate) fn add_type<S: Alter>(
     if !fits(row) {
         return Err(tables.give_up(StoreError::Fault));
     }
-    tables.insert(TableName::Items, &type_cells(row as u64 + 1, judgement_type))
+    tables.insert(
+        TableName::Items,
+        &type_cells(row as u64 + 1, judgement_type),
+    )
 }
 
 pub(crate) fn add_language<S: Alter>(

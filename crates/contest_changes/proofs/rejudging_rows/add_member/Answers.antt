@@ -20,6 +20,6 @@ returns g c =
     let own : s ≡ lists.fixed.settings = ap (λ (f : Fixed). f.settings) c.fixed.ensures in
     let count : length c.rejudgings-rejudging.result.now + 1 ≡ length lists.rejudgings + 1 = ap (λ (rs : List Rejudging). length rs + 1) c.rejudgings-rejudging.ensures in
     let cells : bound c.member_cells.result ≡ member_row lists.fixed.settings (length lists.rejudgings + 1) place m =
-        bound_as c.member_cells.result _ (member_unreal s _ place m) c.member_cells.ensures ∙ ap₂ (λ (t : Setup) (n : ℕ). member_row t n place m) own count in
+    bound_as c.member_cells.result _ (member_unreal s _ place m) c.member_cells.ensures ∙ ap₂ (λ (t : Setup) (n : ℕ). member_row t n place m) own count in
     subst (λ (row : Row). Step c.insert.result (shown_by g.S.Store c.args.tables.now) (shown_by g.S.Store c.insert.new.self) (counts_of c.args.tables.now) (counts_of c.insert.new.self)
-      Full (HasInserted Members row) (MakesNone (shown_by g.S.Store c.args.tables.now) Full)) cells c.insert.ensures
+    Full (HasInserted Members row) (MakesNone (shown_by g.S.Store c.args.tables.now) Full)) cells c.insert.ensures

@@ -1,5 +1,4 @@
-use Rattle.std.proofs.Common.{◌≡◌, ◌+◌, ℕ, ◌++◌, ◌∷◌, [], List, Ok, Err, Result, length, take, sym, subst}
-use Rattle.contest_store.specs.declared.store_error.StoreError.{StoreError}
+use Rattle.std.proofs.Common.{◌≡◌, ◌+◌, ℕ, ◌++◌, ◌∷◌, [], List, Ok, Err, length, take, sym, subst}
 use Rattle.contest_types.specs.declared.entry.Entry.TheVariants.{NewRejudging}
 use Rattle.contest_types.specs.declared.rejudging.Member.{Member}
 use Rattle.contest_rows.specs.ListRows.{member_row}
@@ -22,7 +21,7 @@ returns-in-Err-add_member g c =
     let front = take place row.members in
     let count : length front ≡ place = so_many row.members c.as_slice-members.result.now place c.as_slice-members.ensures c.loop-place-test.true in
     let two = subst (λ (n : ℕ). Step {T = Unit {0}} (Err c.in-Err-add_member.error) mid new (counts_of c.loop-place.tables) (counts_of c.add_member.new.tables) Full
-        (HasInserted Members (member_row lists.fixed.settings (length lists.rejudgings + 1) (n + 1) m)) (MakesNone mid Full)) (sym count) c.in-Err-add_member.ensures in
+    (HasInserted Members (member_row lists.fixed.settings (length lists.rejudgings + 1) (n + 1) m)) (MakesNone mid Full)) (sym count) c.in-Err-add_member.ensures in
     refuses _ (shown_by g.S.Store c.args.tables.now) new _ _ (Admits lists (NewRejudging row)) (HasAdded lists (with_front row (front ++ m ∷ []))) (HasAdded lists (NewRejudging row)) _
     (next_member (Err c.in-Err-add_member.error) (shown_by g.S.Store c.args.tables.now) mid new _ _ _ lists row front m c.loop-place.invariant two)
 
@@ -38,9 +37,9 @@ loop-place-preserved g c =
     let front = take place row.members in
     let count : length front ≡ place = so_many row.members c.as_slice-members.result.now place c.as_slice-members.ensures c.loop-place-test.true in
     let two = subst (λ (n : ℕ). Step {T = Unit {0}} (Ok c.in-Ok-add_member.field-0) mid new (counts_of c.loop-place.tables) (counts_of c.add_member.new.tables) Full
-        (HasInserted Members (member_row lists.fixed.settings (length lists.rejudgings + 1) (n + 1) m)) (MakesNone mid Full)) (sym count) c.in-Ok-add_member.ensures in
+    (HasInserted Members (member_row lists.fixed.settings (length lists.rejudgings + 1) (n + 1) m)) (MakesNone mid Full)) (sym count) c.in-Ok-add_member.ensures in
     subst (λ (ms : List Member). Step {T = Unit {0}} (Ok tt) old new (counts_of c.args.tables.now) (counts_of c.add_member.new.tables) (Admits lists (NewRejudging row)) (HasAdded lists (with_front row ms))
-      (MakesNone old (Admits lists (NewRejudging row)))) (one_further row.members c.as_slice-members.result.now place m c.as_slice-members.ensures c.loop-place-test.true c.index-members-place.is)
+    (MakesNone old (Admits lists (NewRejudging row)))) (one_further row.members c.as_slice-members.result.now place m c.as_slice-members.ensures c.loop-place-test.true c.index-members-place.is)
     (next_member (Ok c.in-Ok-add_member.field-0) old mid new _ _ _ lists row front m c.loop-place.invariant two)
 
 pub returns : goal.returns
@@ -50,4 +49,4 @@ returns g c =
     let old = shown_by g.S.Store c.args.tables.now in
     let new = shown_by g.S.Store c.loop-place.tables in
     subst (λ (ms : List Member). Step {T = Unit {0}} (Ok tt) old new (counts_of c.args.tables.now) (counts_of c.loop-place.tables) (Admits lists (NewRejudging row)) (HasAdded lists (with_front row ms))
-      (MakesNone old (Admits lists (NewRejudging row)))) (all_members row.members c.as_slice-members.result.now c.loop-place.place c.as_slice-members.ensures c.loop-place-test.false) c.loop-place.invariant
+    (MakesNone old (Admits lists (NewRejudging row)))) (all_members row.members c.as_slice-members.result.now c.loop-place.place c.as_slice-members.ensures c.loop-place-test.false) c.loop-place.invariant

@@ -18,5 +18,5 @@ returns-in-Ok g c =
     let ids : c.deref.result.now ≡ joined_ids s row.groups = c.deref.ensures ∙ c.in-Ok.ensures ∙ ap (joined_ids s) c.as_slice.ensures in
     adds_row c.insert.result (shown_by g.S.Store c.args.tables.now) (shown_by g.S.Store c.insert.new.self) _ _ lists (NewTeam row) (NewTeam row) Items _ _
     (bound_as c.team_cells.result _ (item_unreal 4 n row.id row.name [] 0 row.hidden false (joined_ids s row.groups))
-      (c.team_cells.ensures ∙ ap (λ (text : List ℕ). item_row 4 n row.id row.name [] 0 row.hidden false text) ids))
+    (c.team_cells.ensures ∙ ap (λ (text : List ℕ). item_row 4 n row.id row.name [] 0 row.hidden false text) ids))
     (adds_team lists s (ap (λ (f : Fixed). f.settings) c.fixed.ensures) c.teams-row.result.now row c.teams-row.ensures.list) c.insert.ensures
