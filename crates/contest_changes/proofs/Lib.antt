@@ -12,3 +12,4 @@ pub mod ChangeLaws
 pub mod BoundRows
 pub mod AppendLemmas
 pub mod AppendedRows
+pub mod SoundReadBack
