@@ -13,3 +13,9 @@ pub mod BoundRows
 pub mod AppendLemmas
 pub mod AppendedRows
 pub mod SoundReadBack
+pub mod FiledRows
+pub mod ReadCells
+pub mod ReadRows
+pub mod ReadRejudgings
+pub mod SaidItems
+pub mod ReadSettings
