@@ -19,3 +19,8 @@ pub mod ReadRows
 pub mod ReadRejudgings
 pub mod SaidItems
 pub mod ReadSettings
+pub mod ReadFixed
+pub mod ReadContest
+pub mod ReadWritable
+pub mod AccountsRise
+pub mod ValidSound
