@@ -24,3 +24,4 @@ pub mod ReadContest
 pub mod ReadWritable
 pub mod AccountsRise
 pub mod ValidSound
+pub mod WideRows
