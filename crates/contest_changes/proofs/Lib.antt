@@ -22,3 +22,15 @@ pub mod SoundLists
 pub mod SoundSettings
 pub mod SoundAdditions
 pub mod SoundReadings
+pub mod FiledRows
+pub mod ReadCells
+pub mod ReadRows
+pub mod ReadRejudgings
+pub mod SaidItems
+pub mod ReadSettings
+pub mod ReadFixed
+pub mod ReadContest
+pub mod ReadWritable
+pub mod AccountsRise
+pub mod ValidSound
+pub mod WideRows

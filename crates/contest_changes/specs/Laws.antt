@@ -1,6 +1,7 @@
 -- What each kind of change does to the tables of a sound contest, one row at a time. Each is the contract of a
 -- function of src/laws.rt.
 use Rattle.std.specs.Prelude.{◌≡◌, ◌+◌, ℕ, true, List, [], ◌∷◌, ◌++◌, length, Some}
+use Rattle.std.specs.List.{AllByRecursion}
 use Rattle.std.specs.Option.{option_map}
 use Rattle.sqlite.specs.Values.{or_null}
 use Rattle.sqlite_value.specs.declared.value.Value.TheVariants.{Text}
@@ -30,7 +31,11 @@ use Rattle.contest_rows.specs.Cells.{number, flag}
 use Rattle.contest_rows.specs.FixedRows.{account_row, group_row, language_row, problem_row, team_row, type_row}
 use Rattle.contest_rows.specs.ListRows.{clarification_row, is_ready, member_account, member_row, member_type, proposal_row, rejudging_row, release_row, state_number, submission_row}
 use Rattle.contest_fixed_rows.specs.Heads.{marks_row}
+use Rattle.contest_tables.specs.Schema.{form_of}
+use Rattle.contest_tables.specs.Steps.{Rises}
+use Rattle.contest_tables.specs.Tables.{TableRows}
 use Rattle.contest_tables.specs.declared.row_change.RowChange.TheVariants as change
+use Rattle.contest_tables.specs.declared.table_name.TableName.{TableName}
 use Rattle.contest_tables.specs.declared.table_name.TableName.TheVariants.{Items, Accounts, Submissions, Proposals, Releases, Rejudgings, Members, Clarifications}
 use Rattle.contest_changes.specs.ContestTables.{table_rows, valid_contest_in}
 use Rattle.contest_changes.specs.Kinds.{IsOfKinds}
@@ -44,6 +49,16 @@ AdditionsStaySound = (x : ContestState) (e : Entry) → IsSound x → is_addable
 -- a sound contest is the valid one that its rows are
 abbrev pub SoundContestsReadBack : Type 0
 SoundContestsReadBack = (x : ContestState) → IsSound x → valid_contest_in (table_rows x) ≡ Some x
+
+-- a row has a cell for each column of its table
+abbrev pub IsWide : TableName → Row → Type 0
+IsWide name row = length row ≡ length (form_of name).columns
+
+-- a valid contest that rows are is sound, and these are its rows
+abbrev pub ValidContestsAreSound : Type 0
+ValidContestsAreSound =
+    (rows : TableRows) (x : ContestState) → Rises Accounts (rows Accounts) → AllByRecursion (IsWide Submissions) (rows Submissions) → valid_contest_in rows ≡ Some x →
+    IsSound x × (table_rows x ≡ rows)
 
 -- one more row of each list
 abbrev pub SubmissionIsAdded : Type 0
