@@ -1,5 +1,5 @@
 -- Rows that submissions are read of are the rows of these, files and all.
-use Rattle.std.proofs.Common.{◌≡◌, ◌∙◌, ℕ, ◌+◌, List, [], ◌∷◌, length, map, zip, refl, sym, ap, ap₂, arith}
+use Rattle.std.proofs.Common.{◌≡◌, ◌∙◌, ℕ, ◌+◌, List, [], ◌∷◌, map, zip, refl, sym, ap, ap₂, arith}
 use Rattle.std.specs.Prelude.{Bool, codes}
 use Rattle.std.specs.List.{AllByRecursion}
 use Rattle.std.specs.Str.{bytes_eq}
@@ -49,7 +49,7 @@ row_is s n size x r wide is =
     let same : (k : ℕ) → column (loaded_row Submissions r) k ≡ column (loaded_submission_row s n size x) k = λ k. ap (λ q. column q k) is in
     cells r wide
     ∙ ap₂ ◌∷◌ (same 0) (ap₂ ◌∷◌ (same 1) (ap₂ ◌∷◌ (same 2) (ap₂ ◌∷◌ (same 3) (ap₂ ◌∷◌ (same 4) (ap₂ ◌∷◌ (same 5) (ap₂ ◌∷◌ (same 6)
-      (ap₂ ◌∷◌ (blob_is (column r 7) (same 7)) (ap₂ ◌∷◌ (same 9) refl))))))))
+    (ap₂ ◌∷◌ (blob_is (column r 7) (same 7)) (ap₂ ◌∷◌ (same 9) refl))))))))
 
 -- whole lists of them, counted from a number
 pub filed_rows : (s : Setup) (n : ℕ) (xs : List Submission) (rows : List Row) → AllByRecursion (IsWide Submissions) rows → AreSubmissionRows s n xs (map (loaded_row Submissions) rows) →

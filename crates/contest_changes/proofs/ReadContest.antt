@@ -1,7 +1,6 @@
 -- A contest that is read of the rows of its tables is of its kinds.
-use Rattle.std.proofs.Common.{◌≡◌, List, [], ◌∷◌, map, zip, Option, Some, None, subst}
+use Rattle.std.proofs.Common.{◌≡◌, List, [], ◌∷◌, map, zip, Some, subst}
 use Rattle.std.specs.List.{AllByRecursion}
-use Rattle.std.specs.Option.{option_and_then, option_map}
 use Rattle.sqlite_value.specs.Order.{Row}
 use Rattle.contest_types.specs.State.{ContestState, FixedPart}
 use Rattle.contest_types.specs.declared.submission.Release.{Release}

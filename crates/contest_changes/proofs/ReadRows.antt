@@ -1,5 +1,5 @@
 -- What is read of the rows of a contest's lists is of its kinds.
-use Rattle.std.proofs.Common.{◌≡◌, ◌∙◌, ℕ, ◌+◌, ◌-◌, ◌≤◌, Bool, true, false, List, [], ◌∷◌, map, Option, Some, None, refl, sym, ap, subst, arith}
+use Rattle.std.proofs.Common.{◌≡◌, ◌∙◌, ℕ, ◌+◌, ◌-◌, ◌≤◌, Bool, true, false, List, [], ◌∷◌, Option, Some, None, refl, sym, subst, arith}
 use Rattle.std.specs.Prelude.{IfSome, nat_le, ◌&&◌, ◌==◌, ◌≢◌, codes, slice_index, take, drop, if◌then◌else◌}
 use Rattle.std.specs.List.{AllByRecursion}
 use Rattle.std.specs.Option.{option_and_then, option_map}
@@ -7,12 +7,10 @@ use Rattle.std.specs.Str.{bytes_eq}
 use Rattle.std.specs.Str.Parse.{digits_value}
 use Rattle.std.proofs.lemmas.Bool.{false≢true}
 use Rattle.std.proofs.lemmas.Slice.Eq.{bytes_eq-Decides}
-use Rattle.sqlite_value.specs.declared.value.Value.{Value}
 use Rattle.sqlite_value.specs.Order.{Row, column}
 use Rattle.contest_types.specs.ClarificationText.{text_from}
-use Rattle.contest_types.specs.IdText.{IsId, id_of}
+use Rattle.contest_types.specs.IdText.{id_of}
 use Rattle.contest_types.specs.Setup.{Setup}
-use Rattle.contest_types.specs.declared.clarification.Addressee.{Addressee}
 use Rattle.contest_types.specs.declared.clarification.Addressee.TheVariants.{All as ToAll, Team as ToTeam}
 use Rattle.contest_types.specs.declared.clarification.Clarification.{Clarification}
 use Rattle.contest_types.specs.declared.clarification.Reference.{Reference}
@@ -24,7 +22,7 @@ use Rattle.contest_types.specs.declared.submission.Release.{Release}
 use Rattle.contest_types.specs.declared.submission.Submission.{Submission}
 use Rattle.contest_types.proofs.PlaceLemmas.{and_right}
 use Rattle.contest_rows.specs.Cells.{is_null, number_of, text_of}
-use Rattle.contest_rows.specs.Clarifications.{clarification_in, clarification_said, reply_if_any}
+use Rattle.contest_rows.specs.Clarifications.{clarification_in, clarification_said}
 use Rattle.contest_rows.specs.Laws.{IsWritableProposer, IsWritableReference}
 use Rattle.contest_rows.specs.ListRows.{audience_number, clarification_row, proposal_row, release_row}
 use Rattle.contest_rows.specs.Lists.{list_from}

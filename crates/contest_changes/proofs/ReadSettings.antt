@@ -1,27 +1,17 @@
 -- Settings that are read of rows have texts of their kinds.
-use Rattle.std.proofs.Common.{◌≡◌, ◌∙◌, zero, suc, sym, ℕ, ◌+◌, ◌<◌, Bool, true, false, List, [], ◌∷◌, ◌++◌, length, Option, Some, None, refl, subst, arith}
-use Rattle.std.specs.Prelude.{◌&&◌, ◌==◌, ◌^◌, nat_lt, if◌then◌else◌}
+use Rattle.std.proofs.Common.{◌≡◌, ◌∙◌, zero, suc, sym, ℕ, ◌+◌, Bool, false, List, [], ◌∷◌, ◌++◌, length, Option, Some, None, refl, subst, arith}
+use Rattle.std.specs.Prelude.{◌&&◌, ◌==◌, if◌then◌else◌}
 use Rattle.std.specs.List.{AllByRecursion}
 use Rattle.std.specs.Option.{option_and_then}
 use Rattle.std.proofs.lemmas.Bool.Decides.{nat_tests}
 use Rattle.sqlite_keyed.proofs.ListLemmas.{all-append}
 use Rattle.sqlite_value.specs.Order.{Row, column}
-use Rattle.contest_types.specs.IdText.{IsId}
-use Rattle.contest_types.specs.Setup.{Setup, is_valid_head}
+use Rattle.contest_types.specs.Setup.{Setup}
 use Rattle.contest_types.specs.SetupAdditions.{type_addition, language_addition, group_addition, problem_addition, team_addition}
-use Rattle.contest_types.specs.declared.contest.ContestHead.{ContestHead}
-use Rattle.contest_types.specs.declared.objects.JudgementType.{JudgementType}
-use Rattle.contest_types.specs.declared.objects.Language.{Language}
-use Rattle.contest_types.specs.declared.objects.Problem.{Problem}
-use Rattle.contest_types.specs.declared.objects.Group.{Group}
-use Rattle.contest_types.specs.declared.objects.Team.{Team}
-use Rattle.contest_rows.specs.Cells.{number_of, same_row, text_of}
+use Rattle.contest_rows.specs.Cells.{number_of, same_row}
 use Rattle.contest_rows.specs.FixedRows.{type_row, language_row, group_row, problem_row, team_row}
-use Rattle.contest_rows.specs.Readings.{id_in, name_in}
-use Rattle.contest_fixed_rows.specs.FixedParts.{settings_in, setup_of}
-use Rattle.contest_fixed_rows.specs.Heads.{head_in, medals_in, small_in, time_if_any, within_time}
-use Rattle.contest_fixed_rows.specs.Items.{groups_in, is_in_order, is_new, items_in, with_item_in, with_kind_in, with_type_in, with_language_in, with_group_in, with_problem_in, with_team_in, type_said, language_said, group_said, problem_said, team_said}
-use Rattle.contest_fixed_rows.specs.Laws.{IsWritableItem, IsWritableProblem, IsWritableSetup}
+use Rattle.contest_fixed_rows.specs.Items.{is_in_order, is_new, items_in, with_item_in, with_kind_in, with_type_in, with_language_in, with_group_in, with_problem_in, with_team_in, type_said, language_said, group_said, problem_said, team_said}
+use Rattle.contest_fixed_rows.specs.Laws.{IsWritableSetup}
 use Rattle.contest_fixed_rows.proofs.OptionSteps.{bound, where_true}
 use Rattle.contest_changes.proofs.ReadCells.{of_found}
 use Rattle.contest_changes.proofs.SaidItems.{group_is, language_is, problem_is, team_is, type_is}

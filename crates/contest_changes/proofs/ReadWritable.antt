@@ -1,9 +1,8 @@
 -- A valid contest that was read is writable.
 use Rattle.std.proofs.Common.{◌≡◌, ℕ, ◌<◌, Bool, true, List, [], ◌∷◌, length, Option, None, Some, arith}
-use Rattle.std.specs.Prelude.{IfSome, ◌&&◌, nat_lt, not}
+use Rattle.std.specs.Prelude.{IfSome, nat_lt}
 use Rattle.std.specs.List.{AllByRecursion, list_all}
 use Rattle.std.specs.Option.{option_map_or}
-use Rattle.std.specs.Str.{bytes_eq}
 use Rattle.std.proofs.lemmas.Bool.Decides.{nat_tests}
 use Rattle.contest_types.specs.Accounts.{has_valid_role}
 use Rattle.contest_types.specs.State.{ContestState, FixedPart}
@@ -26,7 +25,7 @@ use Rattle.contest_types.proofs.PlaceLemmas.{and_left, and_right}
 use Rattle.contest_types.proofs.SettingsTest.{is_settings}
 use Rattle.contest_types.proofs.ValidParts.{parts}
 use Rattle.contest_rows.specs.Laws.{IsWritableClarification, IsWritableProposal, IsWritableRejudging, IsWritableRelease, IsWritableState, IsWritableSubmission}
-use Rattle.contest_fixed_rows.specs.Laws.{IsWritableAccount, IsWritableFixed}
+use Rattle.contest_fixed_rows.specs.Laws.{IsWritableAccount}
 use Rattle.contest_spelling.specs.Laws.{IsWritable}
 use Rattle.contest_changes.specs.Kinds.{HasIdIfAny, IsMoment, IsOfKindsAccount, IsOfKindsRejudging, IsOfKindsSubmission}
 use Rattle.contest_changes.proofs.ReadCells.{at_most}

@@ -1,9 +1,6 @@
 -- A valid contest that rows are is sound, and these are its rows.
-use Rattle.std.proofs.Common.{◌≡◌, ◌∙◌, true, List, Option, Some, None, refl, sym, ap, subst}
-use Rattle.std.specs.Prelude.{if◌then◌else◌}
+use Rattle.std.proofs.Common.{◌≡◌, true, Some, sym, subst}
 use Rattle.std.specs.List.{AllByRecursion}
-use Rattle.std.specs.Option.{option_and_then, option_map}
-use Rattle.sqlite_value.specs.Order.{Row}
 use Rattle.contest_types.specs.State.{ContestState}
 use Rattle.contest_types.specs.Valid.{is_valid}
 use Rattle.contest_spelling.specs.Laws.{AreRows}

@@ -1,5 +1,5 @@
 -- The rows that tables show have a cell for each column.
-use Rattle.std.proofs.Common.{◌≡◌, Bool, true, false, cond, List, [], ◌∷◌, length, map, Ordering, is_gt, refl}
+use Rattle.std.proofs.Common.{true, false, cond, List, [], ◌∷◌, Ordering, is_gt, refl}
 use Rattle.std.specs.List.{AllByRecursion}
 use Rattle.sqlite.specs.Tree.{Trees}
 use Rattle.sqlite_keyed.proofs.ListLemmas.{all-map}

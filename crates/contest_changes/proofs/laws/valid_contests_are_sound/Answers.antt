@@ -1,4 +1,3 @@
-use Rattle.contest_changes.proofs.WideRows as wide
 use Rattle.contest_changes.proofs.ValidSound.{valid_sound}
 use Rattle.contest_changes.proofs.laws.valid_contests_are_sound.Goals as goal
 
