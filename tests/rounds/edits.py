@@ -38,6 +38,7 @@ class Edit:
     crate: str
     name: str
     pairs: tuple
+    stray: str = ""
 
     @property
     def label(self):
@@ -54,7 +55,7 @@ class Round:
 
 
 def read_edit(crate, file):
-    pairs, path, old = [], None, None
+    pairs, path, old, stray = [], None, None, ""
     for line in file.read_text(encoding="utf-8").split("\n"):
         word, _, rest = line.partition(":")
         rest = rest.removeprefix(" ")
@@ -65,7 +66,9 @@ def read_edit(crate, file):
         elif word == "new" and path and old:
             pairs.append((path, old, rest))
             old = None
-    return Edit(crate.name, file.stem, tuple(pairs))
+        elif line.strip():
+            stray = stray or line.strip()
+    return Edit(crate.name, file.stem, tuple(pairs), stray)
 
 
 def edits_of(crate):
@@ -156,6 +159,8 @@ def place_of(crate, path, old):
 
 def places_of(crate, edit):
     """The functions whose bodies the edit changes."""
+    if edit.stray:
+        raise BadEdit(f"a line of it is no 'file:', 'old:' or 'new:' of one line: {edit.stray[:60]}")
     if not edit.pairs:
         raise BadEdit("it has no 'file:' with 'old:' and 'new:'")
     return {place_of(crate, path, old) for path, old, _ in edit.pairs}

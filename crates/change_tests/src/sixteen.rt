@@ -1,0 +1,151 @@
+//! A change of each kind, one after the other.
+use contest_fixtures::{after, id, name};
+use contest_types::{
+    Account, Addressee, Clarification, Digest, Entry, Group, JudgementType, Language, Member,
+    MemberState, Problem, Proposal, Proposer, Rejudging, RejudgingState, Release, Role, Rows,
+    Submission, Team, Text,
+};
+use std::alloc::Global;
+use std::test::Fail;
+
+/// How many changes there are: one of each kind, and one account more.
+pub const CHANGES: usize = 17;
+
+fn only<T: Drop>(alloc: Global, row: T) -> Result<Rows<T>, Fail> {
+    let mut rows = Rows::new(alloc);
+    rows.push(row)?;
+    Ok(rows)
+}
+
+fn judgement_type(alloc: Global) -> Result<JudgementType, Fail> {
+    Ok(JudgementType {
+        id: id(alloc, "AC")?,
+        name: name(alloc, "correct")?,
+        solved: true,
+        penalty: false,
+    })
+}
+
+fn language(alloc: Global) -> Result<Language, Fail> {
+    Ok(Language {
+        id: id(alloc, "cpp")?,
+        name: name(alloc, "C++")?,
+        entry_point_required: false,
+    })
+}
+
+fn problem(alloc: Global) -> Result<Problem, Fail> {
+    Ok(Problem {
+        id: id(alloc, "a")?,
+        label: name(alloc, "A")?,
+        name: name(alloc, "Ants")?,
+        ordinal: 1,
+    })
+}
+
+fn group(alloc: Global) -> Result<Group, Fail> {
+    Ok(Group {
+        id: id(alloc, "north")?,
+        name: name(alloc, "North")?,
+    })
+}
+
+fn team(alloc: Global) -> Result<Team, Fail> {
+    Ok(Team {
+        id: id(alloc, "t1")?,
+        name: name(alloc, "One")?,
+        groups: only(alloc, 0)?,
+        hidden: false,
+    })
+}
+
+fn account(alloc: Global, own_id: &str, role: Role, byte: u8) -> Result<Account, Fail> {
+    Ok(Account {
+        id: id(alloc, own_id)?,
+        role,
+        digest: Digest::new([byte; 32]),
+    })
+}
+
+fn submission(alloc: Global) -> Result<Submission, Fail> {
+    Ok(Submission {
+        team: 0,
+        number: 1,
+        time: after(1)?,
+        problem: 0,
+        language: 0,
+        entry_point: None,
+        file: only(alloc, 65)?,
+        key: Some(id(alloc, "key")?),
+    })
+}
+
+fn proposal(alloc: Global) -> Result<Proposal, Fail> {
+    Ok(Proposal {
+        team: 0,
+        number: 1,
+        verdict: 0,
+        proposer: Proposer::Account(id(alloc, "j1")?),
+        time: after(2)?,
+    })
+}
+
+fn release() -> Result<Release, Fail> {
+    Ok(Release {
+        team: 0,
+        number: 1,
+        round: 1,
+        verdict: 0,
+        time: after(3)?,
+    })
+}
+
+fn clarification(alloc: Global) -> Result<Clarification, Fail> {
+    Ok(Clarification {
+        addressee: Addressee::All,
+        number: 1,
+        from_jury: true,
+        account: id(alloc, "j1")?,
+        problem: Some(0),
+        reply: None,
+        text: Text::parse(alloc, "Welcome")?.ok_or("no text")?,
+        time: after(4)?,
+        key: None,
+    })
+}
+
+fn rejudging(alloc: Global) -> Result<Rejudging, Fail> {
+    let member = Member {
+        team: 0,
+        number: 1,
+        state: MemberState::Empty,
+    };
+    Ok(Rejudging {
+        reason: name(alloc, "tests")?,
+        state: RejudgingState::Open,
+        members: only(alloc, member)?,
+    })
+}
+
+/// The change at a place, from 0; each may be made once those before it are.
+pub fn change(alloc: Global, place: usize) -> Result<Entry, Fail> {
+    Ok(match place {
+        0 => Entry::SetStart(Some(after(0)?)),
+        1 => Entry::NewType(judgement_type(alloc)?),
+        2 => Entry::NewLanguage(language(alloc)?),
+        3 => Entry::NewProblem(problem(alloc)?),
+        4 => Entry::NewGroup(group(alloc)?),
+        5 => Entry::NewTeam(team(alloc)?),
+        6 => Entry::NewAccount(account(alloc, "j1", Role::Judge, 1)?),
+        7 => Entry::NewAccount(account(alloc, "a1", Role::Team(0), 2)?),
+        8 => Entry::NewSubmission(submission(alloc)?),
+        9 => Entry::NewProposal(proposal(alloc)?),
+        10 => Entry::NewRelease(release()?),
+        11 => Entry::NewClarification(clarification(alloc)?),
+        12 => Entry::NewRejudging(rejudging(alloc)?),
+        13 => Entry::SetMember(1, 0, MemberState::Ready(0)),
+        14 => Entry::SetRejudging(1, RejudgingState::Applied),
+        15 => Entry::SetThaw(after(5)?),
+        _ => Entry::SetFinalized(after(6)?),
+    })
+}

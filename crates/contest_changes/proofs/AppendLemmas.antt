@@ -1,0 +1,79 @@
+-- A row that was inserted or changed is the change of the contest.
+use Rattle.std.proofs.Common.{◌≡◌, true, Result, Err, subst}
+use Rattle.sqlite.specs.State.{HasCleanDisk, State, Survives}
+use Rattle.sqlite.specs.Tree.{Trees}
+use Rattle.sqlite.proofs.StateLemmas.{survives_weaker}
+use Rattle.sqlite_value.specs.Order.{Row}
+use Rattle.contest_store.specs.Lists.{loaded}
+use Rattle.contest_store.specs.declared.store_error.StoreError.{StoreError}
+use Rattle.contest_types.specs.Addable.{is_addable}
+use Rattle.contest_types.specs.State.{ContestState, add}
+use Rattle.contest_types.specs.declared.entry.Entry.{Entry}
+use Rattle.contest_tables.specs.Changes.{HasChanged, table_of_change}
+use Rattle.contest_tables.specs.Connected.{IsUndone}
+use Rattle.contest_tables.specs.Counts.{counted}
+use Rattle.contest_tables.specs.Steps.{Content, Full, HasInserted, Holding, Holds, MakesNone, Showing, Step, Undoes, Within}
+use Rattle.contest_tables.specs.Tables.{TableRows}
+use Rattle.contest_tables.specs.declared.counts.Counts.{Counts}
+use Rattle.contest_tables.specs.declared.row_change.RowChange.{RowChange}
+use Rattle.contest_tables.specs.declared.table_name.TableName.{TableName}
+use Rattle.contest_tables.proofs.HoldLemmas.{on_err, on_ok}
+use Rattle.contest_tables.proofs.StepLemmas.{ran}
+use Rattle.contest_changes.specs.Additions.{Admits, Appends, HasAdded}
+use Rattle.contest_changes.specs.ContestTables.{table_rows}
+use Rattle.contest_changes.specs.OneRow.{IsOneChange, IsOneRow}
+use Rattle.contest_changes.specs.Sound.{IsSound}
+
+pub full : (lists : ContestState) (e : Entry) (s : State) (now kept : Content) → Admits lists e s now kept → Full s now kept
+full lists e s now kept h = (h.within, (table_rows h.contest, h.shown))
+
+-- where a step over any rows was made, it was made over those of a contest that admits the change
+pub admitted : {T : Type 0} (r : Result T StoreError) (old new : State) (b a : Counts) (lists : ContestState) (e : Entry) (To To2 : Holding)
+    → ((now kept : Content) → Admits lists e old now kept → To new now kept → To2 new now kept)
+    → Step r old new b a Full To (MakesNone old Full) → Step r old new b a (Admits lists e) To2 (MakesNone old (Admits lists e))
+admitted r old new b a lists e To To2 f s = record {
+  ok = λ clean now kept h. on_ok r (f now kept h) (s.ok clean now kept (full lists e old now kept h));
+  err = λ clean. on_err r (λ (u : Undoes old new Full). record { autocommit = u.autocommit; holds = λ is now kept h. u.holds is now kept (full lists e old now kept h) }) (s.err clean);
+  counts = s.counts;
+  survives = survives_weaker old new _ _ (λ _ db none now kept h. none now kept (full lists e old now kept h)) s.survives;
+}
+
+-- a contest with these lists has one more row with the change
+abbrev pub AddsRow : ContestState → Entry → (added : Entry) → TableName → Row → Type 0
+AddsRow lists e added name row = (x : ContestState) → IsSound x → loaded x ≡ lists → is_addable x e ≡ true → IsOneRow name row x (add x added)
+
+abbrev pub ChangesRow : ContestState → Entry → RowChange → Row → Type 0
+ChangesRow lists e change given = (x : ContestState) → loaded x ≡ lists → IsOneChange change given x (add x e)
+
+module _ (r : Result (Unit {0}) StoreError) (old new : State) (b a : Counts) (lists : ContestState) (e : Entry) where
+  pub adds_row : (added : Entry) (name : TableName) (given row : Row) → given ≡ row → AddsRow lists e added name row → Step r old new b a Full (HasInserted name given) (MakesNone old Full)
+      → Step r old new b a (Admits lists e) (HasAdded lists added) (MakesNone old (Admits lists e))
+  adds_row added name given row is one s =
+      admitted r old new b a lists e (HasInserted name given) (HasAdded lists added) (λ now kept h inserted.
+      let o = one h.contest h.sound h.held h.may in
+      record {
+        contest = h.contest;
+        shown = h.shown;
+        sound = h.sound;
+        held = h.held;
+        within = subst (λ (rows : TableRows). Within new (Showing rows) kept) o.others
+            (inserted (table_rows h.contest) (table_rows (add h.contest added) name) h.shown (rw is o.with_it));
+      }) s
+
+  pub changes_row : (change : RowChange) (cells given : Row) → cells ≡ given → ChangesRow lists e change given → Step r old new b a Full (HasChanged change cells) (MakesNone old Full) → Appends r old new b a lists e
+  changes_row change cells given is one s =
+      admitted r old new b a lists e (HasChanged change cells) (HasAdded lists e) (λ now kept h changed.
+      let o = one h.contest h.held in
+      record {
+        contest = h.contest;
+        shown = h.shown;
+        sound = h.sound;
+        held = h.held;
+        within = subst (λ (rows : TableRows). Within new (Showing rows) kept) o.others
+            (changed (table_rows h.contest) (table_rows (add h.contest e) (table_of_change change)) h.shown (rw is o.changed));
+      }) s
+
+-- what was given up before anything was changed
+pub gave_up : {T : Type 0} (error : StoreError) (old new : State) (b a : Counts) (From To : Holding) (Made : Trees → Type 0) → ((now kept : Content) → From old now kept → Holds old now kept)
+    → (HasCleanDisk new → IsUndone old new) → a ≡ counted error b → Survives old new (λ _. ⊥) → Step {T = T} (Err error) old new b a From To Made
+gave_up error old new b a From To Made f undone counts survives = ran (Err error) old new b a From To (λ _. ⊥) Made f undone counts survives (λ _ _ _ _. tt) (λ db none. absurd none)

@@ -1,0 +1,6 @@
+pub mod ContestTables
+pub mod Sound
+pub mod Kinds
+pub mod OneRow
+pub mod Additions
+pub mod Laws

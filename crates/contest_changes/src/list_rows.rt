@@ -1,0 +1,102 @@
+//! New rows of the lists.
+ghost use Rattle.std.specs.Prelude.{◌≡◌, ◌<◌, ◌+◌, ◌^◌, IsTrue};
+ghost use Rattle.contest_types.specs.declared.entry.Entry.TheVariants.{NewSubmission, NewProposal, NewRelease, NewClarification};
+ghost use Rattle.contest_rows.specs.ListRows.{audience_number};
+ghost use Rattle.contest_tables.specs.Connected.{shown_by, counts_of};
+ghost use Rattle.contest_changes.specs.Additions.{Appends};
+
+use contest_rows::{ReplyId, clarification_cells, proposal_cells, release_cells, submission_cells};
+use contest_store::{Lists, StoreError};
+use contest_tables::{TableName, Tables};
+use contest_types::{Addressee, Clarification, Proposal, Release, Submission};
+use sqlite::Alter;
+
+/// Whether a cell holds the number after this one. Those of a valid contest are far below that.
+pub(crate) fn fits(n: usize) -> bool
+    ensures { IsTrue result → n + 1 < 2 ^ 63 }
+{
+    n < i64::MAX as usize
+}
+
+pub(crate) fn add_submission<S: Alter>(
+    tables: &mut Tables<S>,
+    lists: &Lists,
+    submission: &Submission,
+) -> Result<(), StoreError>
+    ensures { Appends result (shown_by S.Store tables.old) (shown_by S.Store tables.new) (counts_of tables.old) (counts_of tables.new) lists.now (NewSubmission submission.now) }
+{
+    let row = lists.submissions().len();
+    if !(fits(row) && fits(submission.team) && fits(submission.number)) {
+        return Err(tables.give_up(StoreError::Fault));
+    }
+    tables.insert(
+        TableName::Submissions,
+        &submission_cells(&lists.fixed().settings, row as u64 + 1, submission),
+    )
+}
+
+pub(crate) fn add_proposal<S: Alter>(
+    tables: &mut Tables<S>,
+    lists: &Lists,
+    proposal: &Proposal,
+) -> Result<(), StoreError>
+    ensures { Appends result (shown_by S.Store tables.old) (shown_by S.Store tables.new) (counts_of tables.old) (counts_of tables.new) lists.now (NewProposal proposal.now) }
+{
+    let row = lists.proposals().len();
+    if !(fits(row) && fits(proposal.team) && fits(proposal.number)) {
+        return Err(tables.give_up(StoreError::Fault));
+    }
+    tables.insert(
+        TableName::Proposals,
+        &proposal_cells(&lists.fixed().settings, row as u64 + 1, proposal),
+    )
+}
+
+pub(crate) fn add_release<S: Alter>(
+    tables: &mut Tables<S>,
+    lists: &Lists,
+    release: &Release,
+) -> Result<(), StoreError>
+    ensures { Appends result (shown_by S.Store tables.old) (shown_by S.Store tables.new) (counts_of tables.old) (counts_of tables.new) lists.now (NewRelease release.now) }
+{
+    let row = lists.releases().len();
+    if !(fits(row) && fits(release.team) && fits(release.number) && fits(release.round)) {
+        return Err(tables.give_up(StoreError::Fault));
+    }
+    tables.insert(
+        TableName::Releases,
+        &release_cells(&lists.fixed().settings, row as u64 + 1, release),
+    )
+}
+
+pub(crate) fn add_clarification<S: Alter>(
+    tables: &mut Tables<S>,
+    lists: &Lists,
+    clarification: &Clarification,
+) -> Result<(), StoreError>
+    ensures { Appends result (shown_by S.Store tables.old) (shown_by S.Store tables.new) (counts_of tables.old) (counts_of tables.new) lists.now (NewClarification clarification.now) }
+{
+    let row = lists.clarifications().len();
+    if !(fits(row) && audience_fits(clarification.addressee) && fits(clarification.number)) {
+        return Err(tables.give_up(StoreError::Fault));
+    }
+    let reply = ReplyId::of(clarification.reply);
+    tables.insert(
+        TableName::Clarifications,
+        &clarification_cells(
+            &lists.fixed().settings,
+            row as u64 + 1,
+            clarification,
+            &reply,
+        ),
+    )
+}
+
+fn audience_fits(addressee: Addressee) -> bool
+    ensures { IsTrue result → audience_number addressee < 2 ^ 63 }
+{
+    match addressee {
+        Addressee::All => true,
+        Addressee::Team(team) => fits(team),
+    }
+}
