@@ -43,7 +43,11 @@ fn make(
 }
 
 fn are_rows(rows: &[Row], shown: &Shown) -> bool {
-    rows.len() == shown.1.len() && rows.iter().zip(shown.1).all(|(row, cells)| is_row(row, cells))
+    rows.len() == shown.1.len()
+        && rows
+            .iter()
+            .zip(shown.1)
+            .all(|(row, cells)| is_row(row, cells))
 }
 
 /// How many tables show what they have to.

@@ -30,11 +30,11 @@ behind : (front rows next : List Row) (r : Row) → IsPermutation (r ∷ rows) n
 behind front rows next r h = IsPermutation-trans _ _ _ (IsPermutation-sym _ _ (IsPermutation-middle front r rows)) (IsPermutation-append_right front _ _ h)
 
 -- the rows of one list with one more, before all that follow
-grown : {X : Type 0} (row : ℕ → X → Row) (xs : List X) (x : X) (others : List Row) → IsPermutation (row (length xs + 1) x ∷ (rows_from row 1 xs ++ others)) (rows_from row 1 (xs ++ x ∷ []) ++ others)
-grown row xs x others = subst (λ rows. IsPermutation (row (length xs + 1) x ∷ (rows_from row 1 xs ++ others)) (rows ++ others)) (sym (one_more row 1 xs x)) (in_front (rows_from row 1 xs) others (row (length xs + 1) x))
+grown : {X : Type 0} (row_of : ℕ → X → Row) (xs : List X) (x : X) (others : List Row) → IsPermutation (row_of (length xs + 1) x ∷ (rows_from row_of 1 xs ++ others)) (rows_from row_of 1 (xs ++ x ∷ []) ++ others)
+grown row_of xs x others = subst (λ rows. IsPermutation (row_of (length xs + 1) x ∷ (rows_from row_of 1 xs ++ others)) (rows ++ others)) (sym (one_more row_of 1 xs x)) (in_front (rows_from row_of 1 xs) others (row_of (length xs + 1) x))
 
-last_grown : {X : Type 0} (row : ℕ → X → Row) (xs : List X) (x : X) → IsPermutation (row (length xs + 1) x ∷ rows_from row 1 xs) (rows_from row 1 (xs ++ x ∷ []))
-last_grown row xs x = subst (λ rows. IsPermutation (row (length xs + 1) x ∷ rows_from row 1 xs) rows) (sym (one_more row 1 xs x)) (at_end (rows_from row 1 xs) (row (length xs + 1) x))
+last_grown : {X : Type 0} (row_of : ℕ → X → Row) (xs : List X) (x : X) → IsPermutation (row_of (length xs + 1) x ∷ rows_from row_of 1 xs) (rows_from row_of 1 (xs ++ x ∷ []))
+last_grown row_of xs x = subst (λ rows. IsPermutation (row_of (length xs + 1) x ∷ rows_from row_of 1 xs) rows) (sym (one_more row_of 1 xs x)) (at_end (rows_from row_of 1 xs) (row_of (length xs + 1) x))
 
 -- no other table
 other_tables : (t : Tables) (items : List Row) (name : TableName) → with_rows Items items (by_name t) name ≡ by_name (record t { items = items }) name

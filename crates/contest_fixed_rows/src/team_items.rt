@@ -93,7 +93,11 @@ fn team_said(alloc: Global, settings: &Settings, row: &Row) -> Result<Option<Tea
 ///
 /// Want of memory alone.
 #[tactic(auto, using(crate::proofs::WordLemmas::joined_first))]
-pub fn joined_ids(alloc: Global, settings: &Settings, groups: &[usize]) -> Result<String, AllocError>
+pub fn joined_ids(
+    alloc: Global,
+    settings: &Settings,
+    groups: &[usize],
+) -> Result<String, AllocError>
     ensures { IfOk result (λ text. string_bytes text ≡ joined_ids settings.now groups.now) }
 {
     match groups.split_first() {
