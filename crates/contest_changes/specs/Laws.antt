@@ -54,7 +54,8 @@ SoundContestsReadBack = (x : ContestState) → IsSound x → valid_contest_in (t
 abbrev pub IsWide : TableName → Row → Type 0
 IsWide name row = length row ≡ length (form_of name).columns
 
--- a valid contest that rows are is sound, and these are its rows
+-- a valid contest that rows are is sound, and these are its rows: a load shows no cell of a submission's row beyond
+-- those of its columns, so it has to have none
 abbrev pub ValidContestsAreSound : Type 0
 ValidContestsAreSound =
     (rows : TableRows) (x : ContestState) → Rises Accounts (rows Accounts) → AllByRecursion (IsWide Submissions) (rows Submissions) → valid_contest_in rows ≡ Some x →
