@@ -27,7 +27,8 @@ impl Counts {
     }
 }
 
-fn one_more(count: u64) -> u64
+/// A count with one more, which stays at its greatest number.
+pub fn one_more(count: u64) -> u64
     ensures { result ≡ one_more count }
 {
     if count < u64::MAX { count + 1 } else { count }

@@ -8,7 +8,7 @@ mod table_name;
 mod tables;
 mod texts;
 
-pub use counts::Counts;
+pub use counts::{Counts, one_more};
 pub use row_change::RowChange;
-pub use table_name::TableName;
+pub use table_name::{ALL_TABLES, TableName};
 pub use tables::Tables;

@@ -26,7 +26,7 @@ pub enum TableName {
 }
 
 /// All tables, in the order in which they are made.
-pub(crate) const ALL_TABLES: [TableName; 10] = [
+pub const ALL_TABLES: [TableName; 10] = [
     TableName::Desk,
     TableName::Contest,
     TableName::Items,

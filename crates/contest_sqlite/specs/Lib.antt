@@ -1,0 +1,7 @@
+pub mod Contests
+pub mod Keeping
+pub mod Keepers
+pub mod Laws
+pub mod Value
+pub mod Loading
+pub mod Steps

@@ -1,0 +1,22 @@
+-- The rows of all tables, as they are loaded one table after the other.
+use Rattle.std.specs.Prelude.{List, []}
+use Rattle.sqlite_value.specs.Order.{Row}
+use Rattle.contest_rows.specs.Tables.{Tables}
+use Rattle.contest_tables.specs.declared.table_name.TableName.{TableName}
+use Rattle.contest_tables.specs.declared.table_name.TableName.TheVariants.{Desk, Contest, Items, Accounts, Submissions, Proposals, Releases, Rejudgings, Members, Clarifications}
+
+abbrev pub no_rows : Tables
+no_rows = record { desk = []; contest = []; items = []; accounts = []; submissions = []; proposals = []; releases = []; rejudgings = []; members = []; clarifications = [] }
+
+-- these rows in one table
+abbrev pub with_loaded : TableName → List Row → Tables → Tables
+with_loaded Desk rows t = record t { desk = rows }
+with_loaded Contest rows t = record t { contest = rows }
+with_loaded Items rows t = record t { items = rows }
+with_loaded Accounts rows t = record t { accounts = rows }
+with_loaded Submissions rows t = record t { submissions = rows }
+with_loaded Proposals rows t = record t { proposals = rows }
+with_loaded Releases rows t = record t { releases = rows }
+with_loaded Rejudgings rows t = record t { rejudgings = rows }
+with_loaded Members rows t = record t { members = rows }
+with_loaded Clarifications rows t = record t { clarifications = rows }

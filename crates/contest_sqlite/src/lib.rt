@@ -1,0 +1,10 @@
+//! A contest in SQLite tables, with its lists held in memory.
+#![tactic(auto)]
+
+mod additions;
+mod files;
+mod keeper;
+mod reads;
+mod store;
+
+pub use store::Store;

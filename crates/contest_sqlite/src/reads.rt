@@ -1,0 +1,105 @@
+//! The lists of a contest, read from its tables.
+ghost use Rattle.std.specs.Prelude.{◌≡◌, [], IfOk};
+ghost use Rattle.sqlite.specs.State.{HasCleanDisk};
+ghost use Rattle.contest_store.specs.Lists.{loaded};
+ghost use Rattle.contest_types.specs.State.{ContestState};
+ghost use Rattle.contest_spelling.specs.Spelling.{tables_of};
+ghost use Rattle.contest_tables.specs.Connected.{shown_by, counts_of};
+ghost use Rattle.contest_tables.specs.Steps.{Call, Step, Content, Full, Holds, MakesNone, Rises, Showing, Within};
+ghost use Rattle.contest_tables.specs.Tables.{TableRows};
+ghost use Rattle.contest_tables.specs.declared.table_name.TableName.{TableName as Name};
+ghost use Rattle.contest_changes.specs.ContestTables.{loaded_tables, table_rows};
+ghost use Rattle.contest_changes.specs.Sound.{IsSound};
+ghost use Rattle.contest_sqlite.specs.Loading.{no_rows, with_loaded};
+ghost use Rattle.contest_sqlite.specs.Steps.{HoldsDesk};
+
+use contest_spelling::{LoadedRows, read_lists};
+use contest_store::{Lists, StoreError};
+use contest_tables::{ALL_TABLES, TableName, Tables};
+use sqlite::{Alter, Row};
+use std::alloc::{AllocError, Global};
+
+/// The lists of the contest that the tables show, in a transaction, which is begun where there is none.
+///
+/// # Errors
+///
+/// `Memory` where a growth was refused; `Fault` where the connection failed for another cause, or where
+/// the rows are those of no contest.
+pub(crate) fn load_lists<S: Alter>(
+    tables: &mut Tables<S>,
+    alloc: Global,
+) -> Result<Lists, StoreError>
+    ensures lists { HasCleanDisk (shown_by S.Store tables.new) → (x : ContestState) (kept : Content) → IsSound x → Holds (shown_by S.Store tables.old) (Showing (table_rows x)) kept → IfOk result (λ lists. lists ≡ loaded x) }
+    ensures call { Call result (shown_by S.Store tables.old) (shown_by S.Store tables.new) (counts_of tables.old) (counts_of tables.new) HoldsDesk Full (MakesNone (shown_by S.Store tables.old) HoldsDesk) }
+{
+    match tables.begin() {
+        Ok(()) => load_within(tables, alloc),
+        Err(error) => Err(error),
+    }
+}
+
+fn load_within<S: Alter>(tables: &mut Tables<S>, alloc: Global) -> Result<Lists, StoreError>
+    ensures lists { HasCleanDisk (shown_by S.Store tables.new) → (x : ContestState) (kept : Content) → IsSound x → Within (shown_by S.Store tables.old) (Showing (table_rows x)) kept → IfOk result (λ lists. lists ≡ loaded x) }
+    ensures step { Step result (shown_by S.Store tables.old) (shown_by S.Store tables.new) (counts_of tables.old) (counts_of tables.new) Full Full (MakesNone (shown_by S.Store tables.old) Full) }
+{
+    match load_rows(tables, alloc) {
+        Ok(rows) => match read_lists(alloc, &rows) {
+            Ok(Some(lists)) => Ok(lists),
+            Ok(None) => Err(tables.give_up(StoreError::Fault)),
+            Err(AllocError) => Err(tables.give_up(StoreError::Memory)),
+        },
+        Err(error) => Err(error),
+    }
+}
+
+/// The rows of all tables, within a transaction.
+pub(crate) fn load_rows<S: Alter>(
+    tables: &mut Tables<S>,
+    alloc: Global,
+) -> Result<LoadedRows, StoreError>
+    ensures rows { HasCleanDisk (shown_by S.Store tables.new) → (now : TableRows) (kept : Content) → Within (shown_by S.Store tables.old) (Showing now) kept → ((name : Name) → Rises name (now name)) → IfOk result (λ rows. tables_of rows ≡ loaded_tables now) }
+    ensures step { Step result (shown_by S.Store tables.old) (shown_by S.Store tables.new) (counts_of tables.old) (counts_of tables.new) Full Full (MakesNone (shown_by S.Store tables.old) Full) }
+{
+    let mut rows = without_rows(alloc);
+    for table in ALL_TABLES {
+        match tables.load(table) {
+            Ok(found) => put(&mut rows, table, found),
+            Err(error) => return Err(error),
+        }
+    }
+    Ok(rows)
+}
+
+fn without_rows(alloc: Global) -> LoadedRows
+    ensures { tables_of result ≡ no_rows }
+{
+    LoadedRows {
+        desk: Vec::new(alloc),
+        contest: Vec::new(alloc),
+        items: Vec::new(alloc),
+        accounts: Vec::new(alloc),
+        submissions: Vec::new(alloc),
+        proposals: Vec::new(alloc),
+        releases: Vec::new(alloc),
+        rejudgings: Vec::new(alloc),
+        members: Vec::new(alloc),
+        clarifications: Vec::new(alloc),
+    }
+}
+
+fn put(rows: &mut LoadedRows, table: TableName, found: Vec<Row>)
+    ensures { tables_of rows.new ≡ with_loaded table found.items (tables_of rows.old) }
+{
+    match table {
+        TableName::Desk => rows.desk = found,
+        TableName::Contest => rows.contest = found,
+        TableName::Items => rows.items = found,
+        TableName::Accounts => rows.accounts = found,
+        TableName::Submissions => rows.submissions = found,
+        TableName::Proposals => rows.proposals = found,
+        TableName::Releases => rows.releases = found,
+        TableName::Rejudgings => rows.rejudgings = found,
+        TableName::Members => rows.members = found,
+        TableName::Clarifications => rows.clarifications = found,
+    }
+}
