@@ -1,1 +1,5 @@
 pub mod CallLemmas
+pub mod CountLemmas
+pub mod ShownContests
+pub mod LeaveLemmas
+pub mod KeeperLemmas
