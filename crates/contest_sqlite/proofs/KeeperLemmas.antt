@@ -55,6 +55,15 @@ module _ (old new : State) (b a : Counts) (c : ℕ) (l : Bool) (was : StaysKept 
   same : HasCleanDisk old → IsTrue old.is_open → Full new (now_in old) (kept_in old) → HoldsContests new (contest_of old) (committed_of old)
   same clean up h = (let k = (was clean).holds up in record { sound = k.sound; was_sound = k.was_sound; holds = h.0.0 })
 
+  -- what was read is of the contest that the tables show
+  pub read_of_it : {T : Type 0} (x : T) (P : ContestState → Type 0) → Call (Ok x) old new b a HoldsDesk Full (MakesNone old HoldsDesk)
+      → (HasCleanDisk new → (y : ContestState) (kept : Content) → IsSound y → Holds old (Showing (table_rows y)) kept → P y) → HasCleanDisk new → P (contest_of old)
+  read_of_it x P one all clean = (
+    let early : HasCleanDisk old = omega (arith, one.step.survives.clean) in
+    let k = (was early).holds (one.up clean (was early).live) in
+    all clean (contest_of old) _ k.sound k.holds
+  )
+
   -- the lists were read
   pub load_ok : {T : Type 0} (x : T) (lists : ContestState) → Call (Ok x) old new b a HoldsDesk Full (MakesNone old HoldsDesk)
       → (HasCleanDisk new → (y : ContestState) (kept : Content) → IsSound y → Holds old (Showing (table_rows y)) kept → lists ≡ loaded y)
@@ -63,10 +72,7 @@ module _ (old new : State) (b a : Counts) (c : ℕ) (l : Bool) (was : StaysKept 
       let left = answered old new b a c l HoldsDesk Full _ was desk (contest_of old) (committed_of old) (λ _. ⊥) (λ n. n) (nothing HoldsDesk desk) x one same tt c true refl (λ _. refl) in (
         (
           left.1,
-          λ clean.
-              let early : HasCleanDisk old = omega (arith, one.step.survives.clean) in
-              let k = (was early).holds (one.up clean (was early).live) in
-              held_is new (contest_of old) (committed_of old) lists (left.0 clean) (are clean (contest_of old) _ k.sound k.holds),
+          λ clean. held_is new (contest_of old) (committed_of old) lists (left.0 clean) (read_of_it x (λ y. lists ≡ loaded y) one are clean),
         ),
         left.2,
       )
@@ -86,10 +92,6 @@ module _ (old new : State) (b a : Counts) (c : ℕ) (l : Bool) (was : StaysKept 
   read_err U e one =
       let left = refused old new b a c l HoldsDesk Full _ was desk (contest_of old) (committed_of old) (λ _. ⊥) (λ n. n) (nothing HoldsDesk desk) e one false in
       ((left.0, λ clean. tt), left.1)
-
-  -- the contest that a file is read of
-  pub file_of_it : (P : ContestState → Type 0) → HasCleanDisk old → IsTrue old.is_open → ((y : ContestState) (kept : Content) → IsSound y → Holds old (Showing (table_rows y)) kept → P y) → P (contest_of old)
-  file_of_it P clean up all = (let k = (was clean).holds up in all (contest_of old) _ k.sound k.holds)
 
   -- a change, of lists that were taken
   module _ (lists : ContestState) (e : Entry) (had : StaysHeld old (Some lists)) (may : IsTrusted old → is_addable (contest_of old) e ≡ true) (kinds : IsOfKinds e) where
@@ -124,11 +126,11 @@ module _ (old new : State) (b a : Counts) (c : ℕ) (l : Bool) (was : StaysKept 
           left.2,
         )
 
-    pub add_err : {T : Type 0} (error : StoreError) → Call {T = T} (Err error) old new b a (MayAdd lists e) (HasAdded lists e) (MakesNone old (MayAdd lists e))
-        → (StaysKept new × StaysHeld new None) × Adds {T = Unit {0}} (Err error) (kept_of old b c l) (kept_of new a c false) (add (contest_of old) e)
-    add_err error one =
-        let left = refused old new b a c l (MayAdd lists e) (HasAdded lists e) _ was admits (add (contest_of old) e) (committed_of old) (λ _. ⊥) (λ n. n) (nothing (MayAdd lists e) admits) error one false in
-        ((left.0, λ clean. tt), left.1)
+    pub add_err : {T : Type 0} (error : StoreError) (held : Option ContestState) → held ≡ None → Call {T = T} (Err error) old new b a (MayAdd lists e) (HasAdded lists e) (MakesNone old (MayAdd lists e))
+        → (StaysKept new × StaysHeld new held) × Adds {T = Unit {0}} (Err error) (kept_of old b c l) (kept_of new a c (is_some held)) (add (contest_of old) e)
+    add_err error held none one =
+        let left = refused old new b a c l (MayAdd lists e) (HasAdded lists e) _ was admits (add (contest_of old) e) (committed_of old) (λ _. ⊥) (λ n. n) (nothing (MayAdd lists e) admits) error one (is_some held) in
+        ((left.0, subst (StaysHeld new) (sym none) (λ clean. tt)), left.1)
 
   -- a commit
   all_held : Meets old Holds
