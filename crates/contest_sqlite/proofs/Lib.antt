@@ -1,1 +1,4 @@
 pub mod CallLemmas
+pub mod BegunLemmas
+pub mod OwnNumbers
+pub mod FileRows
