@@ -1,6 +1,6 @@
 -- The rows that a look for a file gives, and the file.
-use Rattle.std.proofs.Common.{◌≡◌, ◌∙◌, ◌⊎◌, ◌≤◌, ◌<◌, ◌+◌, ℕ, zero, suc, Bool, true, false, List, [], ◌∷◌, length, map, filter, Option, Some, None, slice_get, find, refl, sym, ap, subst, arith, IsPermutation}
-use Rattle.std.specs.Prelude.{◌==◌, ◌&&◌, All, if◌then◌else◌}
+use Rattle.std.proofs.Common.{◌≡◌, ◌∙◌, ◌≤◌, ◌<◌, ◌+◌, ℕ, zero, suc, Bool, true, false, List, [], ◌∷◌, length, map, filter, Option, Some, None, refl, sym, ap, subst, arith}
+use Rattle.std.specs.Prelude.{◌==◌, ◌&&◌, All, IsPermutation, find, slice_get, if◌then◌else◌}
 use Rattle.std.specs.Option.{option_map}
 use Rattle.std.proofs.lemmas.List.{length-map}
 use Rattle.std.proofs.lemmas.List.Sorted.{All-permutation, length_permutation}
@@ -9,7 +9,6 @@ use Rattle.sqlite_value.specs.declared.value.Value.TheVariants.{Blob}
 use Rattle.contest_types.specs.Loads.{file_of}
 use Rattle.contest_types.specs.Setup.{Setup}
 use Rattle.contest_types.specs.State.{ContestState, names, of_submission}
-use Rattle.contest_types.specs.Valid.{is_valid}
 use Rattle.contest_types.specs.declared.limits.TheConstants.{TEAM_SUBMISSIONS, TEAMS}
 use Rattle.contest_types.specs.declared.submission.Submission.{Submission}
 use Rattle.contest_rows.specs.Cells.{number}
@@ -34,13 +33,15 @@ ends_true a false = refl
 is_named : (s : Setup) (team n place : ℕ) (x : Submission) → is_submission (number (team + 1)) (number n) (submission_row s place x) ≡ names team n (of_submission x)
 is_named s team n place x = rw (same_number (x.team + 1) (team + 1), same_after x.team team, same_number x.number n) (ends_true (x.team == team) (x.number == n))
 
-files_from : (s : Setup) (team n place : ℕ) (xs : List Submission) → files_of (number (team + 1)) (number n) (rows_from (submission_row s) place xs) ≡ map file_row (named_by team n xs)
+files_from : (s : Setup) (team n place : ℕ) (xs : List Submission)
+    → files_of (number (team + 1)) (number n) (rows_from (submission_row s) place xs) ≡ map file_row (named_by team n xs)
 files_from s team n place [] = refl
 files_from s team n place (x ∷ xs) =
     let rest = files_from s team n (place + 1) xs in
     let all = rows_from (submission_row s) (place + 1) xs in
     let is = is_submission (number (team + 1)) (number n) in
-    let go : (b : Bool) → map (λ r. column r 7 ∷ []) (if b then submission_row s place x ∷ filter is all else filter is all) ≡ map file_row (if b then x ∷ named_by team n xs else named_by team n xs) =
+    let go : (b : Bool) → map (λ r. column r 7 ∷ []) (if b then submission_row s place x ∷ filter is all else filter is all)
+    ≡ map file_row (if b then x ∷ named_by team n xs else named_by team n xs) =
     elim [ true ↦ ap (λ rows. file_row x ∷ rows) rest | false ↦ rest ] in
     rw (is_named s team n place x) (go (names team n (of_submission x)))
 

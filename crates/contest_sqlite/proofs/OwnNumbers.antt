@@ -1,5 +1,5 @@
 -- The submissions of a team with one number: in a valid contest there is at most one.
-use Rattle.std.proofs.Common.{◌≡◌, ◌∙◌, ◌⊎◌, ◌≤◌, ◌<◌, ◌+◌, ℕ, suc, Bool, true, false, cond, List, [], ◌∷◌, length, map, filter, None, refl, sym, ap, inl, inr, arith}
+use Rattle.std.proofs.Common.{◌≡◌, ◌∙◌, ◌⊎◌, ◌≤◌, ◌<◌, ◌+◌, ℕ, suc, Bool, true, false, List, [], ◌∷◌, length, map, filter, None, refl, ap, inl, inr, arith}
 use Rattle.std.specs.Prelude.{◌==◌, ◌&&◌, nat_lt, nat_le, if◌then◌else◌}
 use Rattle.std.specs.List.{list_all, range_with_len}
 use Rattle.std.proofs.lemmas.Bool.Decides.{nat_tests}
@@ -84,7 +84,9 @@ record CountsUp (own : List Submission) : Type 0 where
 counts_up : (own : List Submission) → are_valid_submissions own ≡ true → CountsUp own
 counts_up own series =
     let numbers = map number_of own in
-    let tests = four (count_up numbers) (never_fall (map (λ (s : Submission). s.time) own)) (have_own_keys (map (λ (s : Submission). s.key) own)) (nat_le (length own) TEAM_SUBMISSIONS) series in
+    let times = map (λ (s : Submission). s.time) own in
+    let keys = map (λ (s : Submission). s.key) own in
+    let tests = four (count_up numbers) (never_fall times) (have_own_keys keys) (nat_le (length own) TEAM_SUBMISSIONS) series in
     let all : numbers ≡ range_with_len 1 (length numbers) = (bytes_eq-Decides numbers (range_with_len 1 (length numbers))).0 tests.first in
     record { up = all ∙ ap (range_with_len 1) (length-map own number_of); few = at_most (length own) TEAM_SUBMISSIONS tests.fourth }
 
@@ -121,5 +123,5 @@ none_teamed x team number valid few beyond =
     let n = length x.fixed.settings.teams in
     let there : list_all (is_valid_submission x.fixed) x.submissions ≡ true = and_left _ _ (parts x valid).submissions in
     let low : list_all (λ (s : Submission). nat_lt s.team n) x.submissions ≡ true =
-    all_wider (is_valid_submission x.fixed) (λ (s : Submission). nat_lt s.team n) (λ s h. and_left _ _ (and_left _ _ (and_left _ _ (and_left _ _ (and_left _ _ h))))) x.submissions there in
+    all_wider (is_valid_submission x.fixed) _ (λ s h. and_left _ _ (and_left _ _ (and_left _ _ (and_left _ _ (and_left _ _ h))))) x.submissions there in
     of_team team number x.submissions ∙ ap (with_number number) (none_of_team n team x.submissions (omega (arith, few, beyond)) low)

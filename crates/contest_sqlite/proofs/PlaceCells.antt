@@ -1,7 +1,6 @@
 -- The cells that a file is asked for with.
 use Rattle.std.proofs.Common.{◌≡◌, ◌∙◌, ◌<◌, ◌+◌, ◌^◌, ◌+ℤ◌, ℕ, ℤ, pos, [], ◌∷◌, w64, to_z, of_z, sym, ap, ap₂, arith}
 use Rattle.std.proofs.lemmas.Int.{of_z-to_z, to_z_pos}
-use Rattle.sqlite_value.specs.Order.{Row}
 use Rattle.sqlite_value.specs.declared.value.Value.TheVariants.{Int}
 use Rattle.contest_rows.specs.Cells.{number}
 

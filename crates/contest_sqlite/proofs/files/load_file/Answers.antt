@@ -1,4 +1,3 @@
-use Rattle.contest_types.specs.State.{ContestState}
 use Rattle.contest_tables.specs.Connected.{shown_by, counts_of}
 use Rattle.contest_tables.specs.Steps.{Full, Showing}
 use Rattle.contest_changes.specs.ContestTables.{table_rows}
