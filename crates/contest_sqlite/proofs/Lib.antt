@@ -1,2 +1,4 @@
 pub mod CallLemmas
 pub mod RowsLoaded
+pub mod LaterSteps
+pub mod ListsRead

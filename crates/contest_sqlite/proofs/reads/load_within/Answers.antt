@@ -1,26 +1,23 @@
-use Rattle.std.proofs.Common.{rules, ◌≡◌, [], IfOk, ℕ, ◌+◌, ◌-◌, ◌*◌, ◌<◌, ◌≤◌, length, ◌/◌, ◌%◌, Bool, true, false, nat_eq, nat_lt, List, ◌∷◌, ◌++◌, slice_index_or, slice_set, bit_and, bit_or, Fits, w8, w32, w64, Bor, MutBor}
-use Rattle.sqlite.specs.State.{HasCleanDisk}
-use Rattle.contest_store.specs.Lists.{loaded}
-use Rattle.contest_types.specs.State.{ContestState}
+use Rattle.std.proofs.Common.{Some}
 use Rattle.contest_spelling.specs.Spelling.{tables_of}
-use Rattle.contest_tables.specs.Connected.{shown_by, counts_of}
-use Rattle.contest_tables.specs.Steps.{Call, Step, Content, Full, Holds, MakesNone, Rises, Showing, Within}
-use Rattle.contest_tables.specs.Tables.{TableRows}
-use Rattle.contest_tables.specs.declared.table_name.TableName.{TableName as Name}
-use Rattle.contest_changes.specs.ContestTables.{loaded_tables, table_rows}
-use Rattle.contest_changes.specs.Sound.{IsSound}
-use Rattle.contest_sqlite.specs.Loading.{no_rows, with_loaded}
-use Rattle.contest_sqlite.specs.Steps.{HoldsDesk}
+use Rattle.contest_tables.specs.Connected.{shown_by}
+use Rattle.contest_tables.specs.Steps.{Full}
+use Rattle.contest_changes.specs.ContestTables.{table_rows}
+use Rattle.contest_sqlite.proofs.LaterSteps.{given_up_then}
+use Rattle.contest_sqlite.proofs.ListsRead.{lists_are, sound_rises}
 use Rattle.contest_sqlite.proofs.reads.load_within.Goals as goal
 
--- src/reads.rt:44:1
 pub returns-in-Ok-Some-clause-lists : goal.returns-in-Ok-Some-clause-lists
-returns-in-Ok-Some-clause-lists g c = ?
+returns-in-Ok-Some-clause-lists g c clean x kept sound within =
+    lists_are x (tables_of c.in-Ok.rows) _ c.in-Ok-Some.lists sound (c.in-Ok.ensures.rows clean (table_rows x) kept within (sound_rises x sound)) c.in-Ok-Some.ensures c.in-Ok-Some.field-0-is
 
--- src/reads.rt:44:1
 pub returns-in-Ok-None-clause-step : goal.returns-in-Ok-None-clause-step
-returns-in-Ok-None-clause-step g c = ?
+returns-in-Ok-None-clause-step g c =
+    given_up_then _ _ _ (shown_by g.S.Store c.args.tables.now) (shown_by g.S.Store c.load_rows.new.tables) (shown_by g.S.Store c.give_up.new.self) _ _ _ Full Full Full
+    (λ now kept from full. (now, full.0)) c.in-Ok.ensures.step c.give_up.ensures.error c.give_up.ensures.undone c.give_up.ensures.counts c.give_up.ensures.survives
 
--- src/reads.rt:44:1
 pub returns-in-Ok-clause-step : goal.returns-in-Ok-clause-step
-returns-in-Ok-clause-step g c = ?
+returns-in-Ok-clause-step g c =
+    let up = c.give_up-in-Err-read_lists in
+    given_up_then _ _ _ (shown_by g.S.Store c.args.tables.now) (shown_by g.S.Store c.load_rows.new.tables) (shown_by g.S.Store up.new.self) _ _ _ Full Full Full
+    (λ now kept from full. (now, full.0)) c.in-Ok.ensures.step up.ensures.error up.ensures.undone up.ensures.counts up.ensures.survives
