@@ -1,17 +1,16 @@
-use Rattle.std.proofs.Common.{rules, ◌≡◌, IfOk, true, ℕ, ◌+◌, ◌-◌, ◌*◌, ◌<◌, ◌≤◌, length, ◌/◌, ◌%◌, Bool, false, nat_eq, nat_lt, List, [], ◌∷◌, ◌++◌, slice_index_or, slice_set, bit_and, bit_or, Fits, w8, w32, w64, Bor, MutBor}
-use Rattle.contest_store.specs.Lists.{loaded}
-use Rattle.contest_types.specs.Addable.{is_addable}
-use Rattle.contest_types.specs.State.{ContestState, add}
-use Rattle.contest_tables.specs.Connected.{shown_by, counts_of}
-use Rattle.contest_tables.specs.Steps.{Call, Step, MakesNone}
+use Rattle.contest_tables.specs.Connected.{shown_by}
 use Rattle.contest_changes.specs.Additions.{Admits, HasAdded}
-use Rattle.contest_sqlite.specs.Steps.{MayAdd}
+use Rattle.contest_sqlite.proofs.LaterSteps.{given_up_then}
+use Rattle.contest_sqlite.proofs.ListsGrown.{added_within, lists_grown}
 use Rattle.contest_sqlite.proofs.additions.add_within.Goals as goal
 
--- src/additions.rt:41:1
 pub returns-in-Ok-add-clause-lists : goal.returns-in-Ok-add-clause-lists
-returns-in-Ok-add-clause-lists g c = ?
+returns-in-Ok-add-clause-lists g c x held may = lists_grown x c.args.entry.now c.args.lists c.add.new.self held may c.in-Ok-add.ensures.ok
 
--- src/additions.rt:41:1
 pub returns-in-Err-add-clause-step : goal.returns-in-Err-add-clause-step
-returns-in-Err-add-clause-step g c = ?
+returns-in-Err-add-clause-step g c =
+    let lists = c.args.lists in
+    let entry = c.args.entry.now in
+    let mid = shown_by g.S.Store c.append.new.tables in
+    given_up_then _ _ _ (shown_by g.S.Store c.args.tables.now) mid (shown_by g.S.Store c.give_up.new.self) _ _ _ (Admits lists entry) (HasAdded lists entry) (HasAdded lists entry)
+    (λ now kept from added. added_within lists entry mid now kept added) c.in-Ok.ensures c.give_up.ensures.error c.give_up.ensures.undone c.give_up.ensures.counts c.give_up.ensures.survives
