@@ -1,5 +1,5 @@
 -- The lists of a contest with a change are its lists with the change, without its file.
-use Rattle.std.proofs.Common.{◌≡◌, ◌∙◌, List, ◌++◌, ◌∷◌, [], map, refl, sym, ap, subst, true}
+use Rattle.std.proofs.Common.{◌≡◌, ◌∙◌, List, ◌∷◌, [], refl, sym, ap, subst, true}
 use Rattle.std.proofs.lemmas.List.{map-append}
 use Rattle.sqlite.specs.State.{State}
 use Rattle.contest_store.specs.InMemory.{filed}

@@ -18,7 +18,8 @@ sound_rises x h = rises x h.by_id
 sound_is_read : (x : ContestState) → IsSound x → lists_in (loaded_tables (table_rows x)) ≡ Some (loaded x)
 sound_is_read x h = ap lists_in (tables_loaded x) ∙ contests_read_back x h.writable
 
-pub lists_are : (x : ContestState) (rows : Tables) (found : Option ContestState) (lists : ContestState) → IsSound x → rows ≡ loaded_tables (table_rows x) → found ≡ lists_in rows → found ≡ Some lists → lists ≡ loaded x
+pub lists_are : (x : ContestState) (rows : Tables) (found : Option ContestState) (lists : ContestState) → IsSound x
+    → rows ≡ loaded_tables (table_rows x) → found ≡ lists_in rows → found ≡ Some lists → lists ≡ loaded x
 lists_are x rows found lists sound are read is =
     let both : Some lists ≡ Some (loaded x) = sym is ∙ read ∙ ap lists_in are ∙ sound_is_read x sound in
     cc both

@@ -11,6 +11,7 @@ pub returns-in-Err-add-clause-step : goal.returns-in-Err-add-clause-step
 returns-in-Err-add-clause-step g c =
     let lists = c.args.lists in
     let entry = c.args.entry.now in
+    let up = c.give_up in
     let mid = shown_by g.S.Store c.append.new.tables in
-    given_up_then _ _ _ (shown_by g.S.Store c.args.tables.now) mid (shown_by g.S.Store c.give_up.new.self) _ _ _ (Admits lists entry) (HasAdded lists entry) (HasAdded lists entry)
-    (λ now kept from added. added_within lists entry mid now kept added) c.in-Ok.ensures c.give_up.ensures.error c.give_up.ensures.undone c.give_up.ensures.counts c.give_up.ensures.survives
+    given_up_then _ _ _ (shown_by g.S.Store c.args.tables.now) mid (shown_by g.S.Store up.new.self) _ _ _ (Admits lists entry) (HasAdded lists entry) (HasAdded lists entry)
+    (λ now kept from added. added_within lists entry mid now kept added) c.in-Ok.ensures up.ensures.error up.ensures.undone up.ensures.counts up.ensures.survives

@@ -14,8 +14,10 @@ returns-in-Ok-clause-lists g c clean x kept sound holds =
 
 pub returns-in-Ok-clause-call : goal.returns-in-Ok-clause-call
 returns-in-Ok-clause-call g c =
-    begun_then (shown_by g.S.Store c.args.tables.now) (shown_by g.S.Store c.begin.new.self) (shown_by g.S.Store c.load_within.new.tables) _ _ _ HoldsDesk Full Full (λ now kept h. h.0) _ _ c.in-Ok.ensures c.load_within.ensures.step
-    (λ now kept h within. (within, h.1))
+    let old = shown_by g.S.Store c.args.tables.now in
+    let mid = shown_by g.S.Store c.begin.new.self in
+    let new = shown_by g.S.Store c.load_within.new.tables in
+    begun_then old mid new _ _ _ HoldsDesk Full Full (λ now kept h. h.0) _ _ c.in-Ok.ensures c.load_within.ensures.step (λ now kept h within. (within, h.1))
 
 pub returns-in-Err-clause-call : goal.returns-in-Err-clause-call
 returns-in-Err-clause-call g c =
