@@ -23,7 +23,7 @@ rows_loaded : (s : Setup) (n : ℕ) (xs : List Submission) → map (loaded_row S
 rows_loaded s n [] = refl
 rows_loaded s n (x ∷ xs) = ap (λ rows. loaded_submission_row s n (length x.file) x ∷ rows) (rows_loaded s (n + 1) xs)
 
-tables_loaded : (x : ContestState) → loaded_tables (table_rows x) ≡ loaded_rows_of x
+pub tables_loaded : (x : ContestState) → loaded_tables (table_rows x) ≡ loaded_rows_of x
 tables_loaded x = ap (λ rows. record (rows_of x) { submissions = rows }) (rows_loaded x.fixed.settings 1 x.submissions)
 
 -- each submission gets its file back from its row

@@ -8,3 +8,7 @@ pub mod GivenUp
 pub mod OwnNumbers
 pub mod FileRows
 pub mod PlaceCells
+pub mod RowsLoaded
+pub mod LaterSteps
+pub mod ListsRead
+pub mod ListsGrown

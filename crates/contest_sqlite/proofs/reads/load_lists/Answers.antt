@@ -1,0 +1,26 @@
+use Rattle.std.proofs.Common.{arith}
+use Rattle.sqlite.specs.State.{HasCleanDisk}
+use Rattle.contest_tables.specs.Connected.{shown_by, counts_of}
+use Rattle.contest_tables.specs.Steps.{Full, Showing}
+use Rattle.contest_changes.specs.ContestTables.{table_rows}
+use Rattle.contest_sqlite.specs.Steps.{HoldsDesk}
+use Rattle.contest_sqlite.proofs.CallLemmas.{begun_then, not_begun}
+use Rattle.contest_sqlite.proofs.reads.load_lists.Goals as goal
+
+pub returns-in-Ok-clause-lists : goal.returns-in-Ok-clause-lists
+returns-in-Ok-clause-lists g c clean x kept sound holds =
+    let early : HasCleanDisk (shown_by g.S.Store c.begin.new.self) = omega (arith, clean, c.load_within.ensures.step.survives.clean) in
+    c.load_within.ensures.lists clean x kept sound (c.in-Ok.ensures.step.ok early (Showing (table_rows x)) kept holds)
+
+pub returns-in-Ok-clause-call : goal.returns-in-Ok-clause-call
+returns-in-Ok-clause-call g c =
+    let old = shown_by g.S.Store c.args.tables.now in
+    let mid = shown_by g.S.Store c.begin.new.self in
+    let new = shown_by g.S.Store c.load_within.new.tables in
+    begun_then old mid new _ _ _ HoldsDesk Full Full (λ now kept h. h.0) _ _ c.in-Ok.ensures c.load_within.ensures.step (λ now kept h within. (within, h.1))
+
+pub returns-in-Err-clause-call : goal.returns-in-Err-clause-call
+returns-in-Err-clause-call g c =
+    let new = shown_by g.S.Store c.begin.new.self in
+    let counts = counts_of c.begin.new.self in
+    not_begun (shown_by g.S.Store c.args.tables.now) new new _ counts counts HoldsDesk Full Full (λ now kept h. h.0) _ c.in-Err.ensures
