@@ -4,7 +4,6 @@ pub mod ShownContests
 pub mod LeaveLemmas
 pub mod KeeperLemmas
 pub mod BegunLemmas
-pub mod GivenUp
 pub mod OwnNumbers
 pub mod FileRows
 pub mod PlaceCells

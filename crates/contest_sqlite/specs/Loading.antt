@@ -2,8 +2,14 @@
 use Rattle.std.specs.Prelude.{List, []}
 use Rattle.sqlite_value.specs.Order.{Row}
 use Rattle.contest_rows.specs.Tables.{Tables}
+use Rattle.contest_tables.specs.Steps.{Rises}
+use Rattle.contest_tables.specs.Tables.{TableRows}
 use Rattle.contest_tables.specs.declared.table_name.TableName.{TableName}
 use Rattle.contest_tables.specs.declared.table_name.TableName.TheVariants.{Desk, Contest, Items, Accounts, Submissions, Proposals, Releases, Rejudgings, Members, Clarifications}
+
+-- the rows of each table rise by its key, so that they have one order
+abbrev pub AllRise : TableRows → Type 0
+AllRise rows = (name : TableName) → Rises name (rows name)
 
 abbrev pub no_rows : Tables
 no_rows = record { desk = []; contest = []; items = []; accounts = []; submissions = []; proposals = []; releases = []; rejudgings = []; members = []; clarifications = [] }

@@ -1,16 +1,12 @@
 //! The lists of a contest, read from its tables.
-ghost use Rattle.std.specs.Prelude.{◌≡◌, [], IfOk};
+ghost use Rattle.std.specs.Prelude.{◌≡◌, IfOk, Some};
 ghost use Rattle.sqlite.specs.State.{HasCleanDisk};
-ghost use Rattle.contest_store.specs.Lists.{loaded};
-ghost use Rattle.contest_types.specs.State.{ContestState};
-ghost use Rattle.contest_spelling.specs.Spelling.{tables_of};
+ghost use Rattle.contest_spelling.specs.Spelling.{lists_in, tables_of};
 ghost use Rattle.contest_tables.specs.Connected.{shown_by, counts_of};
-ghost use Rattle.contest_tables.specs.Steps.{Call, Step, Content, Full, Holds, MakesNone, Rises, Showing, Within};
+ghost use Rattle.contest_tables.specs.Steps.{Call, Step, Content, Full, Holds, MakesNone, Showing, Within};
 ghost use Rattle.contest_tables.specs.Tables.{TableRows};
-ghost use Rattle.contest_tables.specs.declared.table_name.TableName.{TableName as Name};
-ghost use Rattle.contest_changes.specs.ContestTables.{loaded_tables, table_rows};
-ghost use Rattle.contest_changes.specs.Sound.{IsSound};
-ghost use Rattle.contest_sqlite.specs.Loading.{no_rows, with_loaded};
+ghost use Rattle.contest_changes.specs.ContestTables.{loaded_tables};
+ghost use Rattle.contest_sqlite.specs.Loading.{AllRise, no_rows, with_loaded};
 ghost use Rattle.contest_sqlite.specs.Steps.{HoldsDesk};
 
 use contest_spelling::{LoadedRows, read_lists};
@@ -29,7 +25,7 @@ pub(crate) fn load_lists<S: Alter>(
     tables: &mut Tables<S>,
     alloc: Global,
 ) -> Result<Lists, StoreError>
-    ensures lists { HasCleanDisk (shown_by S.Store tables.new) → (x : ContestState) (kept : Content) → IsSound x → Holds (shown_by S.Store tables.old) (Showing (table_rows x)) kept → IfOk result (λ lists. lists ≡ loaded x) }
+    ensures lists { HasCleanDisk (shown_by S.Store tables.new) → (now : TableRows) (kept : Content) → Holds (shown_by S.Store tables.old) (Showing now) kept → AllRise now → IfOk result (λ lists. lists_in (loaded_tables now) ≡ Some lists) }
     ensures call { Call result (shown_by S.Store tables.old) (shown_by S.Store tables.new) (counts_of tables.old) (counts_of tables.new) HoldsDesk Full (MakesNone (shown_by S.Store tables.old) HoldsDesk) }
 {
     match tables.begin() {
@@ -39,7 +35,7 @@ pub(crate) fn load_lists<S: Alter>(
 }
 
 fn load_within<S: Alter>(tables: &mut Tables<S>, alloc: Global) -> Result<Lists, StoreError>
-    ensures lists { HasCleanDisk (shown_by S.Store tables.new) → (x : ContestState) (kept : Content) → IsSound x → Within (shown_by S.Store tables.old) (Showing (table_rows x)) kept → IfOk result (λ lists. lists ≡ loaded x) }
+    ensures lists { HasCleanDisk (shown_by S.Store tables.new) → (now : TableRows) (kept : Content) → Within (shown_by S.Store tables.old) (Showing now) kept → AllRise now → IfOk result (λ lists. lists_in (loaded_tables now) ≡ Some lists) }
     ensures step { Step result (shown_by S.Store tables.old) (shown_by S.Store tables.new) (counts_of tables.old) (counts_of tables.new) Full Full (MakesNone (shown_by S.Store tables.old) Full) }
 {
     match load_rows(tables, alloc) {
@@ -57,7 +53,7 @@ pub(crate) fn load_rows<S: Alter>(
     tables: &mut Tables<S>,
     alloc: Global,
 ) -> Result<LoadedRows, StoreError>
-    ensures rows { HasCleanDisk (shown_by S.Store tables.new) → (now : TableRows) (kept : Content) → Within (shown_by S.Store tables.old) (Showing now) kept → ((name : Name) → Rises name (now name)) → IfOk result (λ rows. tables_of rows ≡ loaded_tables now) }
+    ensures rows { HasCleanDisk (shown_by S.Store tables.new) → (now : TableRows) (kept : Content) → Within (shown_by S.Store tables.old) (Showing now) kept → AllRise now → IfOk result (λ rows. tables_of rows ≡ loaded_tables now) }
     ensures step { Step result (shown_by S.Store tables.old) (shown_by S.Store tables.new) (counts_of tables.old) (counts_of tables.new) Full Full (MakesNone (shown_by S.Store tables.old) Full) }
 {
     let mut rows = without_rows(alloc);

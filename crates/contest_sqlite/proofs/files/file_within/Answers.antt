@@ -3,9 +3,10 @@ use Rattle.std.specs.Option.{option_map}
 use Rattle.sqlite_value.specs.Order.{column}
 use Rattle.contest_rows.specs.Cells.{number}
 use Rattle.contest_tables.specs.Connected.{shown_by}
+use Rattle.contest_tables.specs.Steps.{Full}
 use Rattle.contest_changes.specs.ContestTables.{bytes_of, table_rows}
 use Rattle.contest_sqlite.proofs.FileRows.{found_file, no_such_number, no_such_team}
-use Rattle.contest_sqlite.proofs.GivenUp.{given_up_after}
+use Rattle.contest_sqlite.proofs.LaterSteps.{given_up_then}
 use Rattle.contest_sqlite.proofs.PlaceCells.{place_cells}
 use Rattle.contest_sqlite.proofs.files.file_within.Goals as goal
 use Rattle.contest_sqlite.proofs.files.file_within.Goals.{then-team-via-then-team, then-team-via-else-team+then-number}
@@ -29,4 +30,4 @@ returns-in-Ok-clause-step g c =
     let old = shown_by g.S.Store c.args.tables.now in
     let mid = shown_by g.S.Store c.files.new.self in
     let new = shown_by g.S.Store c.give_up.new.self in
-    given_up_after c.in-Ok.rows _ _ old mid new _ _ _ c.in-Ok.ensures.step c.give_up.ensures.error c.give_up.ensures.undone c.give_up.ensures.counts c.give_up.ensures.survives
+    given_up_then _ _ _ old mid new _ _ _ Full Full Full (λ now kept from full. (now, full.0)) c.in-Ok.ensures.step c.give_up.ensures.error c.give_up.ensures.undone c.give_up.ensures.counts c.give_up.ensures.survives

@@ -2,15 +2,14 @@ use Rattle.std.proofs.Common.{arith}
 use Rattle.sqlite.specs.State.{HasCleanDisk}
 use Rattle.contest_tables.specs.Connected.{shown_by, counts_of}
 use Rattle.contest_tables.specs.Steps.{Full, Showing}
-use Rattle.contest_changes.specs.ContestTables.{table_rows}
 use Rattle.contest_sqlite.specs.Steps.{HoldsDesk}
 use Rattle.contest_sqlite.proofs.CallLemmas.{begun_then, not_begun}
 use Rattle.contest_sqlite.proofs.reads.load_lists.Goals as goal
 
 pub returns-in-Ok-clause-lists : goal.returns-in-Ok-clause-lists
-returns-in-Ok-clause-lists g c clean x kept sound holds =
+returns-in-Ok-clause-lists g c clean now kept holds up =
     let early : HasCleanDisk (shown_by g.S.Store c.begin.new.self) = omega (arith, clean, c.load_within.ensures.step.survives.clean) in
-    c.load_within.ensures.lists clean x kept sound (c.in-Ok.ensures.step.ok early (Showing (table_rows x)) kept holds)
+    c.load_within.ensures.lists clean now kept (c.in-Ok.ensures.step.ok early (Showing now) kept holds) up
 
 pub returns-in-Ok-clause-call : goal.returns-in-Ok-clause-call
 returns-in-Ok-clause-call g c =

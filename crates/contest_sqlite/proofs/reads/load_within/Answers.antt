@@ -1,15 +1,13 @@
-use Rattle.contest_spelling.specs.Spelling.{tables_of}
+use Rattle.std.proofs.Common.{◌∙◌, ap, sym}
+use Rattle.contest_spelling.specs.Spelling.{lists_in}
 use Rattle.contest_tables.specs.Connected.{shown_by}
 use Rattle.contest_tables.specs.Steps.{Full}
-use Rattle.contest_changes.specs.ContestTables.{table_rows}
 use Rattle.contest_sqlite.proofs.LaterSteps.{given_up_then}
-use Rattle.contest_sqlite.proofs.ListsRead.{lists_are, sound_rises}
 use Rattle.contest_sqlite.proofs.reads.load_within.Goals as goal
 
 pub returns-in-Ok-Some-clause-lists : goal.returns-in-Ok-Some-clause-lists
-returns-in-Ok-Some-clause-lists g c clean x kept sound within =
-    let rows = c.in-Ok.ensures.rows clean (table_rows x) kept within (sound_rises x sound) in
-    lists_are x (tables_of c.in-Ok.rows) _ c.in-Ok-Some.lists sound rows c.in-Ok-Some.ensures c.in-Ok-Some.field-0-is
+returns-in-Ok-Some-clause-lists g c clean now kept within up =
+    ap lists_in (sym (c.in-Ok.ensures.rows clean now kept within up)) ∙ sym c.in-Ok-Some.ensures ∙ c.in-Ok-Some.field-0-is
 
 pub returns-in-Ok-None-clause-step : goal.returns-in-Ok-None-clause-step
 returns-in-Ok-None-clause-step g c =

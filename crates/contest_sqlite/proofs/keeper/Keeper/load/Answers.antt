@@ -1,17 +1,18 @@
 use Rattle.std.proofs.Common.{is_some}
 use Rattle.contest_tables.specs.Connected.{shown_by}
 use Rattle.contest_sqlite.proofs.KeeperLemmas.{load_ok, read_err}
+use Rattle.contest_sqlite.proofs.ListsRead.{read_sound}
 use Rattle.contest_sqlite.proofs.keeper.Keeper.load.Goals as goal
 
 pub returns-in-Ok-clause-whole : goal.returns-in-Ok-clause-whole
 returns-in-Ok-clause-whole g c =
     (load_ok (shown_by g.S.Store c.args.self.now.tables) (shown_by g.S.Store c.load_lists.new.tables) _ _ c.args.self.now.commits (is_some c.args.self.now.held) c.requires.0
-    _ c.in-Ok.lists c.in-Ok.ensures.call c.in-Ok.ensures.lists).0
+    _ c.in-Ok.lists c.in-Ok.ensures.call (λ clean. read_sound (shown_by g.S.Store c.args.self.now.tables) c.in-Ok.lists (c.in-Ok.ensures.lists clean))).0
 
 pub returns-in-Ok-clause-leaves : goal.returns-in-Ok-clause-leaves
 returns-in-Ok-clause-leaves g c =
     (load_ok (shown_by g.S.Store c.args.self.now.tables) (shown_by g.S.Store c.load_lists.new.tables) _ _ c.args.self.now.commits (is_some c.args.self.now.held) c.requires.0
-    _ c.in-Ok.lists c.in-Ok.ensures.call c.in-Ok.ensures.lists).1
+    _ c.in-Ok.lists c.in-Ok.ensures.call (λ clean. read_sound (shown_by g.S.Store c.args.self.now.tables) c.in-Ok.lists (c.in-Ok.ensures.lists clean))).1
 
 pub returns-in-Err-clause-whole : goal.returns-in-Err-clause-whole
 returns-in-Err-clause-whole g c =
