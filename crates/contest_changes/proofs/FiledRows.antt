@@ -22,7 +22,7 @@ use Rattle.contest_changes.specs.Laws.{IsWide}
 abbrev is_blob : Value → Bool
 is_blob v = bytes_eq (text_of v) (codes "blob")
 
-blob_is : (v : Value) → type_of v ≡ Text (codes "blob") → v ≡ Blob (bytes_of v)
+pub blob_is : (v : Value) → type_of v ≡ Text (codes "blob") → v ≡ Blob (bytes_of v)
 blob_is Null is = absurd (false≢true (ap is_blob is))
 blob_is (Int n) is = absurd (false≢true (ap is_blob is))
 blob_is (Real x) is = absurd (false≢true (ap is_blob is))

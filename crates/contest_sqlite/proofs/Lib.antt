@@ -11,3 +11,5 @@ pub mod RowsLoaded
 pub mod LaterSteps
 pub mod ListsRead
 pub mod ListsGrown
+pub mod FilelessLists
+pub mod FoundContests
