@@ -2,7 +2,9 @@
 #![tactic(auto)]
 
 mod counts;
+mod forms;
 mod row_change;
+mod schema_test;
 mod statements;
 mod table_name;
 mod tables;
