@@ -13,3 +13,4 @@ pub mod MakingLemmas
 pub mod UpdateLemmas
 pub mod PlaceLemmas
 pub mod ChangeLemmas
+pub mod ZipLemmas

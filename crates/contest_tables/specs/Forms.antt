@@ -2,11 +2,13 @@
 use Rattle.std.specs.Prelude.{ℕ, Bool, true, false, List, [], ◌∷◌, map}
 use Rattle.sqlite.specs.Table.{Table}
 use Rattle.sqlite_schema.specs.declared.schema.Column.{Column}
+use Rattle.sqlite_schema.specs.declared.schema.Index.{Index}
 use Rattle.sqlite_value.specs.Keys.{plain}
-use Rattle.contest_tables.specs.Schema.{number, number_or_none, text, text_or_none, bytes}
+use Rattle.contest_tables.specs.Schema.{number, number_or_none, text, text_or_none, bytes, no_stamps, index_on}
 use Rattle.contest_tables.specs.declared.forms.ColumnForm.{ColumnForm}
 use Rattle.contest_tables.specs.declared.forms.ColumnForm.TheVariants.{Number, NumberOrNone, Text, TextOrNone, Bytes}
 use Rattle.contest_tables.specs.declared.forms.TableForm.{TableForm}
+use Rattle.contest_tables.specs.declared.forms.IndexForm.{IndexForm}
 
 abbrev pub column_in : ColumnForm → Column
 column_in (Number name) = number name.now
@@ -27,6 +29,9 @@ table_in form = record {
   checks = [];
   references = [];
   computed = [];
-  stamps = record { places = []; terms = []; formats = [] };
+  stamps = no_stamps;
   is_counted = false;
 }
+
+abbrev pub index_in : IndexForm → Index
+index_in form = index_on form.name.now form.tree form.table form.columns.now

@@ -193,3 +193,61 @@ pub(crate) const TABLE_FORMS: [TableForm; 10] = [
         ],
     },
 ];
+
+/// The indexes, in the order in which they are made.
+pub(crate) const INDEX_FORMS: [IndexForm; 9] = [
+    IndexForm {
+        name: b"sqlite_autoindex_items_1",
+        tree: 3,
+        table: 2,
+        columns: &[1, 2],
+    },
+    IndexForm {
+        name: b"sqlite_autoindex_items_2",
+        tree: 4,
+        table: 2,
+        columns: &[1, 3],
+    },
+    IndexForm {
+        name: b"sqlite_autoindex_accounts_1",
+        tree: 6,
+        table: 5,
+        columns: &[1],
+    },
+    IndexForm {
+        name: b"sqlite_autoindex_accounts_2",
+        tree: 7,
+        table: 5,
+        columns: &[4],
+    },
+    IndexForm {
+        name: b"sqlite_autoindex_submissions_1",
+        tree: 9,
+        table: 8,
+        columns: &[2, 3],
+    },
+    IndexForm {
+        name: b"sqlite_autoindex_submissions_2",
+        tree: 10,
+        table: 8,
+        columns: &[2, 9],
+    },
+    IndexForm {
+        name: b"sqlite_autoindex_releases_1",
+        tree: 13,
+        table: 12,
+        columns: &[2, 3, 4],
+    },
+    IndexForm {
+        name: b"sqlite_autoindex_members_1",
+        tree: 16,
+        table: 15,
+        columns: &[1, 2],
+    },
+    IndexForm {
+        name: b"sqlite_autoindex_clarifications_1",
+        tree: 18,
+        table: 17,
+        columns: &[2, 3],
+    },
+];
