@@ -14,3 +14,4 @@ pub mod UpdateLemmas
 pub mod PlaceLemmas
 pub mod ChangeLemmas
 pub mod ZipLemmas
+pub mod NumberedLemmas
