@@ -13,3 +13,5 @@ pub mod MakingLemmas
 pub mod UpdateLemmas
 pub mod PlaceLemmas
 pub mod ChangeLemmas
+pub mod ZipLemmas
+pub mod NumberedLemmas

@@ -6,3 +6,4 @@ pub mod Connected
 pub mod Steps
 pub mod Making
 pub mod Changes
+pub mod Forms

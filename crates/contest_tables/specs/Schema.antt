@@ -8,6 +8,7 @@ use Rattle.sqlite.specs.Kind.{Kind}
 use Rattle.sqlite.specs.Kind.TheVariants.{Integer, Text, Blob}
 use Rattle.sqlite_schema.specs.declared.schema.Column.{Column}
 use Rattle.sqlite_schema.specs.declared.schema.Index.{Index}
+use Rattle.sqlite_schema.specs.declared.schema.Stamps.{Stamps}
 use Rattle.sqlite_value.specs.Keys.{plain}
 use Rattle.contest_tables.specs.declared.table_name.TableName.{TableName}
 use Rattle.contest_tables.specs.declared.table_name.TableName.TheVariants.{Desk, Contest, Items, Accounts, Submissions, Proposals, Releases, Rejudgings, Members, Clarifications}
@@ -30,6 +31,10 @@ number_or_none = column_of Integer false
 abbrev pub text_or_none : List ℕ → Column
 text_or_none = column_of Text false
 
+-- no column takes the time
+abbrev pub no_stamps : Stamps
+no_stamps = record { places = []; terms = []; formats = [] }
+
 -- a table with these columns, of which some are the key, and others stand once too
 abbrev pub table_of : List ℕ → (tree : ℕ) → (key : List ℕ) → List (List ℕ) → List Column → Table
 table_of name tree key once columns = record {
@@ -43,7 +48,7 @@ table_of name tree key once columns = record {
   checks = [];
   references = [];
   computed = [];
-  stamps = record { places = []; terms = []; formats = [] };
+  stamps = no_stamps;
   is_counted = false;
 }
 
@@ -60,7 +65,7 @@ numbered_table name tree once columns = record {
   checks = [];
   references = [];
   computed = [];
-  stamps = record { places = []; terms = []; formats = [] };
+  stamps = no_stamps;
   is_counted = false;
 }
 

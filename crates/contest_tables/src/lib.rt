@@ -2,7 +2,10 @@
 #![tactic(auto)]
 
 mod counts;
+mod forms;
 mod row_change;
+mod schema_test;
+mod standing;
 mod statements;
 mod table_name;
 mod tables;
@@ -10,5 +13,6 @@ mod texts;
 
 pub use counts::{Counts, one_more};
 pub use row_change::RowChange;
+pub use standing::Standing;
 pub use table_name::{ALL_TABLES, TableName};
 pub use tables::Tables;

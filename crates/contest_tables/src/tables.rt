@@ -1,6 +1,7 @@
 //! The calls of the connection: each failure is counted and rolls the transaction back.
-ghost use Rattle.std.specs.Prelude.{◌≡◌, ◌⊎◌, ℕ, false, [], Ok, Err, IsTrue, IfOk, OnOk, OnErr};
+ghost use Rattle.std.specs.Prelude.{◌≡◌, ℕ, false, [], Ok, Err, IsTrue, IfOk, OnOk, OnErr};
 ghost use Rattle.sqlite.specs.Values.{bound};
+ghost use Rattle.sqlite.specs.Effect.{IsDatabase};
 ghost use Rattle.sqlite.specs.Held.{state};
 ghost use Rattle.sqlite.specs.State.{HasCleanDisk, Survives, Executes, CommitsBy, CommitsShowing, Shown};
 ghost use Rattle.contest_tables.specs.Counts.{counted, CountsCall};
@@ -8,8 +9,9 @@ ghost use Rattle.contest_tables.specs.Steps.{OnlyMade, Showing, AreNumbered, Hol
 ghost use Rattle.contest_tables.specs.Tables.{rows_in};
 ghost use Rattle.contest_tables.specs.Connected.{connection_of, shown_by, counts_of, IsAtRest, IsOfDesk, IsBare, IsUndone};
 
-use crate::Counts;
 use crate::counts::cause_of;
+use crate::schema_test::{is_bare, is_of_desk};
+use crate::{Counts, Standing};
 use contest_store::StoreError;
 use sqlite::types::ValueRef;
 use sqlite::{Alter, Connection, Row};
@@ -52,13 +54,29 @@ impl<S: Alter> Tables<S> {
         conn
     }
 
-    /// Whether the tables of a contest stand, in a database that has these or none.
-    pub fn stand(&self) -> bool
-        requires { IsOfDesk (shown_by S.Store self.now) ⊎ IsBare (shown_by S.Store self.now) }
-        ensures stand { IsTrue result → IsOfDesk (shown_by S.Store self.now) }
-        ensures none { result ≡ false → IsBare (shown_by S.Store self.now) }
+    /// Which tables stand in the database.
+    pub fn standing(&self) -> Standing
+        ensures desk { result ≡ Standing.Desk → IsOfDesk (shown_by S.Store self.now) }
+        ensures bare { result ≡ Standing.Bare → IsBare (shown_by S.Store self.now) }
+        ensures foreign { result ≡ Standing.Foreign → (¬ IsOfDesk (shown_by S.Store self.now)) × (¬ IsBare (shown_by S.Store self.now)) }
+        ensures sound { IsTrue (shown_by S.Store self.now).is_open → IsDatabase (shown_by S.Store self.now).now }
     {
-        !self.conn.schema().tables.as_slice().is_empty()
+        let schema = self.conn.schema();
+        if is_of_desk(schema) {
+            Standing::Desk
+        } else if is_bare(schema) {
+            Standing::Bare
+        } else {
+            Standing::Foreign
+        }
+    }
+
+    /// Whether a transaction stands. Where none does, an open connection shows the last commit.
+    pub fn is_in_transaction(&self) -> bool
+        ensures value { result ≡ (shown_by S.Store self.now).in_transaction }
+        ensures rest { result ≡ false → IsTrue (shown_by S.Store self.now).is_open → IsAtRest (shown_by S.Store self.now) }
+    {
+        !self.conn.is_autocommit()
     }
 
     /// How many of its calls failed.
@@ -106,12 +124,6 @@ impl<S: Alter> Tables<S> {
             Ok(rows) => Ok(rows),
             Err(error) => Err(self.give_up(cause_of(&error))),
         }
-    }
-
-    pub(crate) fn is_in_transaction(&self) -> bool
-        ensures { result ≡ (shown_by S.Store self.now).in_transaction }
-    {
-        !self.conn.is_autocommit()
     }
 }
 

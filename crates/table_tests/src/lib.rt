@@ -3,4 +3,6 @@
 #![tactic(auto)]
 
 #[cfg(test)]
+mod standing;
+#[cfg(test)]
 mod tables;
