@@ -5,3 +5,4 @@ pub mod Laws
 pub mod Value
 pub mod Loading
 pub mod Steps
+pub mod Opening

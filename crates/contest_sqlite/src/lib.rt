@@ -4,6 +4,7 @@
 mod additions;
 mod files;
 mod keeper;
+mod opening;
 mod reads;
 mod store;
 

@@ -2,9 +2,11 @@
 ghost use Rattle.std.specs.Prelude.{◌≡◌};
 
 use crate::keeper::Keeper;
+use crate::opening::read_desk;
 use contest_store::{ContestStore, Lists, StoreError};
-use contest_types::{Entry, Rows};
-use sqlite::Alter;
+use contest_tables::Tables;
+use contest_types::{Entry, Refusal, Rows};
+use sqlite::{Alter, Connection};
 use std::alloc::Global;
 use std::marker::Model;
 
@@ -38,9 +40,38 @@ impl<S: Alter> Model for Store<S> {
 }
 
 impl<S: Alter> Store<S> {
-    ghost use Rattle.sqlite.specs.State.{HasCleanDisk};
+    ghost use Rattle.std.specs.Prelude.{IfOk, IfErr};
+    ghost use Rattle.sqlite.specs.Held.{state};
+    ghost use Rattle.sqlite.specs.State.{HasCleanDisk, Survives};
     ghost use Rattle.contest_sqlite.specs.Keeping.{IsTrusted};
-    ghost use Rattle.contest_sqlite.specs.Value.{shown_in};
+    ghost use Rattle.contest_sqlite.specs.Opening.{IsNew, IsNumbered, Opened};
+    ghost use Rattle.contest_sqlite.specs.Value.{shown_in, stored};
+
+    /// The store over the tables of a contest, which are read at once, outside of a transaction.
+    ///
+    /// # Errors
+    ///
+    /// `StoreFault` where the tables aren't exactly those of a desk or show no valid contest, where a
+    /// transaction stands, or where the connection failed; `Memory` where a growth was refused. The
+    /// connection is handed back, and what is committed is as it was.
+    pub fn open(alloc: Global, conn: Connection<S>) -> Result<Store<S>, (Refusal, Connection<S>)>
+        requires { IsNumbered (state S.Store conn) }
+        ensures opened { IfOk result (λ store. HasCleanDisk (shown_in S.Store store) → Opened (state S.Store conn) (stored S.Store store)) }
+        ensures new { IfOk result IsNew }
+        ensures refused { IfErr result (λ e. Survives (state S.Store conn) (state S.Store e.1) (λ _. ⊥)) }
+    {
+        let mut tables = Tables::new(conn);
+        match read_desk(&mut tables, alloc) {
+            Ok(lists) => Ok(Store {
+                keeper: Keeper {
+                    tables,
+                    held: Some(lists),
+                    commits: 0,
+                },
+            }),
+            Err(error) => Err((error.refusal(), tables.into_connection())),
+        }
+    }
 
     /// How many calls failed for another cause than memory.
     pub fn faults(&self) -> u64

@@ -1,0 +1,32 @@
+-- What is found where a store is opened.
+use Rattle.std.specs.Prelude.{◌≡◌, IsTrue, Some, true}
+use Rattle.sqlite.specs.State.{HasCleanDisk, State}
+use Rattle.contest_types.specs.State.{ContestState}
+use Rattle.contest_store.specs.Keeping.{Kept, LeavesNoMore, Shows}
+use Rattle.contest_store.specs.Lists.{loaded}
+use Rattle.contest_tables.specs.Steps.{AreNumbered}
+use Rattle.contest_sqlite.specs.Contests.{contest_in_trees, HoldsContests, may_leave_of}
+use Rattle.contest_sqlite.specs.Value.{StoreValue}
+
+-- the rows of an open connection's tables rise by their numbers, as they do in each database that was made or found in
+-- files: the connection keeps it true, though no clause of its own says so
+abbrev pub IsNumbered : State → Type 0
+IsNumbered s = HasCleanDisk s → IsTrue s.is_open → AreNumbered s.now.trees
+
+-- the lists are those of the valid contest that the tables showed, and they show it still
+pub record IsRead (old new : State) (lists : ContestState) : Type 0 where
+  pub contest : ContestState
+  pub found : contest_in_trees old.now.trees ≡ Some contest
+  pub held : lists ≡ loaded contest
+  pub holds : HoldsContests new contest contest
+
+-- a store shows the valid contest that the tables of the connection showed, and a crash leaves no more than it could before
+pub record Opened (s : State) (kept : Kept) : Type 0 where
+  pub contest : ContestState
+  pub found : contest_in_trees s.now.trees ≡ Some contest
+  pub shows : Shows kept contest contest
+  pub crash : LeavesNoMore (may_leave_of s) kept.may_leave
+
+-- no call failed yet, no commit was answered, and the lists are in memory
+abbrev pub IsNew : {S : Type 0} → StoreValue S → Type 0
+IsNew v = (v.faults ≡ 0) × (v.refusals ≡ 0) × (v.commits ≡ 0) × (v.is_loaded ≡ true)

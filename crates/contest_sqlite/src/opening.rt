@@ -1,0 +1,62 @@
+//! The contest that the tables of a connection show, where it is a valid one.
+ghost use Rattle.std.specs.Prelude.{◌≡◌, ◌&&◌, IfOk, OnOk, Some, true};
+ghost use Rattle.sqlite.specs.State.{HasCleanDisk, Survives};
+ghost use Rattle.contest_types.specs.State.{ContestState};
+ghost use Rattle.contest_types.specs.Valid.{is_valid};
+ghost use Rattle.contest_store.specs.Lists.{loaded};
+ghost use Rattle.contest_spelling.specs.Spelling.{lists_in};
+ghost use Rattle.contest_tables.specs.Connected.{shown_by, counts_of};
+ghost use Rattle.contest_tables.specs.Steps.{Call, Content, Full, Holds, MakesNone, Showing};
+ghost use Rattle.contest_tables.specs.Tables.{TableRows};
+ghost use Rattle.contest_valid.specs.Files.{has_small_files};
+ghost use Rattle.contest_changes.specs.ContestTables.{loaded_tables};
+ghost use Rattle.contest_sqlite.specs.Loading.{AllRise};
+ghost use Rattle.contest_sqlite.specs.Opening.{IsNumbered, IsRead};
+ghost use Rattle.contest_sqlite.specs.Steps.{HoldsDesk};
+
+use crate::reads::load_lists;
+use contest_store::{Lists, StoreError};
+use contest_tables::{Standing, Tables};
+use contest_valid::is_valid;
+use sqlite::Alter;
+use std::alloc::{AllocError, Global};
+
+/// The lists of the valid contest that the tables show, outside of a transaction, and begins one.
+///
+/// # Errors
+///
+/// `Memory` where a growth was refused. `Fault` where the connection failed for another cause, where a
+/// transaction stands already, where the tables aren't a desk's, or where they show no valid contest.
+pub(crate) fn read_desk<S: Alter>(
+    tables: &mut Tables<S>,
+    alloc: Global,
+) -> Result<Lists, StoreError>
+    requires { IsNumbered (shown_by S.Store tables.old) }
+    ensures read { HasCleanDisk (shown_by S.Store tables.new) → IfOk result (IsRead (shown_by S.Store tables.old) (shown_by S.Store tables.new)) }
+    ensures counts { OnOk result (counts_of tables.new ≡ counts_of tables.old) }
+    ensures survives { Survives (shown_by S.Store tables.old) (shown_by S.Store tables.new) (λ _. ⊥) }
+{
+    if tables.is_in_transaction() {
+        return Err(StoreError::Fault);
+    }
+    match tables.standing() {
+        Standing::Desk => read_valid(tables, alloc),
+        Standing::Bare | Standing::Foreign => Err(StoreError::Fault),
+    }
+}
+
+// The lists, if they are a valid contest's. No file of theirs is too large, since none is read then.
+fn read_valid<S: Alter>(tables: &mut Tables<S>, alloc: Global) -> Result<Lists, StoreError>
+    ensures lists { HasCleanDisk (shown_by S.Store tables.new) → (now : TableRows) (kept : Content) → Holds (shown_by S.Store tables.old) (Showing now) kept → AllRise now → IfOk result (λ lists. lists_in (loaded_tables now) ≡ Some lists) }
+    ensures valid { IfOk result (λ lists. (x : ContestState) → loaded x ≡ lists → (true && has_small_files x) ≡ is_valid x) }
+    ensures call { Call result (shown_by S.Store tables.old) (shown_by S.Store tables.new) (counts_of tables.old) (counts_of tables.new) HoldsDesk Full (MakesNone (shown_by S.Store tables.old) HoldsDesk) }
+{
+    match load_lists(tables, alloc) {
+        Ok(lists) => match is_valid(alloc, &lists) {
+            Ok(true) => Ok(lists),
+            Ok(false) => Err(tables.give_up(StoreError::Fault)),
+            Err(AllocError) => Err(tables.give_up(StoreError::Memory)),
+        },
+        Err(error) => Err(error),
+    }
+}
