@@ -66,7 +66,8 @@ LoadsTable mid new name found =
 
 -- and then the next
 module _ {T : Type 0} (x : T) (old mid new : State) (b m a : Counts) (i : ℕ) (d : TableName) (before after : Tables) (found : List Row)
-    (one : LoadsFirst old mid b m i before) (more : i < 10) (two : Reads (Ok x) mid new m a) (loads : LoadsTable mid new (get_or all_tables i d) found) (put : after ≡ with_loaded (get_or all_tables i d) found before) where
+    (one : LoadsFirst old mid b m i before) (more : i < 10) (two : Reads (Ok x) mid new m a)
+    (loads : LoadsTable mid new (get_or all_tables i d) found) (put : after ≡ with_loaded (get_or all_tables i d) found before) where
   rows_after : AreLoaded old new after (first_loaded (i + 1))
   rows_after clean now kept within up =
       let name = get_or all_tables i d in
