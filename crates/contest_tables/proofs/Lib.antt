@@ -2,6 +2,8 @@ pub mod TextMeanings
 pub mod OneWordTexts
 pub mod UndoLemmas
 pub mod SortedLemmas
+pub mod StrictSort
+pub mod SoundRows
 pub mod LoadLemmas
 pub mod PlainQueryLemmas
 pub mod FileLemmas
