@@ -12,6 +12,7 @@ use Rattle.contest_changes.specs.Sound.{IsSound}
 use Rattle.contest_changes.proofs.SoundReadings.{sound_contests_read_back}
 use Rattle.contest_sqlite.specs.Contests.{committed_of, contest_in_trees, contest_of, HoldsContests, no_contest}
 use Rattle.contest_sqlite.specs.Keeping.{IsKept, IsTrusted, StaysKept, kept_of}
+use Rattle.contest_sqlite.specs.Opening.{IsNumbered}
 
 pub shown_is : (db : Trees) (x : ContestState) → IsSound x → rows_in db ≡ table_rows x → contest_in_trees db ≡ Some x
 shown_is db x sound is = ap valid_contest_in is ∙ sound_contests_read_back x sound
@@ -35,3 +36,7 @@ module _ (s : State) (x y : ContestState) (h : HoldsContests s x y) where
 -- an open connection that is kept shows a contest where it was last committed
 pub trusted : (s : State) → StaysKept s → HasCleanDisk s → IsTrusted s
 trusted s kept clean = (clean, λ up. (let h = (kept clean).holds up in shown_is s.committed.trees (committed_of s) h.was_sound h.holds.keeps.1))
+
+-- and its rows rise by their numbers
+pub kept_numbered : (s : State) → StaysKept s → IsNumbered s
+kept_numbered s kept clean up = ((kept clean).holds up).holds.shows.2

@@ -43,6 +43,7 @@ impl<S: Alter> Store<S> {
     ghost use Rattle.std.specs.Prelude.{IfOk, IfErr};
     ghost use Rattle.sqlite.specs.Held.{state};
     ghost use Rattle.sqlite.specs.State.{HasCleanDisk, Survives};
+    ghost use Rattle.contest_sqlite.specs.Contests.{committed_of, contest_of};
     ghost use Rattle.contest_sqlite.specs.Keeping.{IsTrusted};
     ghost use Rattle.contest_sqlite.specs.Opening.{IsNew, IsNumbered, Opened};
     ghost use Rattle.contest_sqlite.specs.Value.{shown_in, stored};
@@ -71,6 +72,16 @@ impl<S: Alter> Store<S> {
             }),
             Err(error) => Err((error.refusal(), tables.into_connection())),
         }
+    }
+
+    /// The connection alone, where no change stands that wasn't committed. A transaction stands in it
+    /// where the lists were read since the last commit.
+    pub fn into_connection(self) -> Connection<S>
+        requires { HasCleanDisk (shown_in S.Store self) → contest_of (shown_in S.Store self) ≡ committed_of (shown_in S.Store self) }
+        ensures connection { result ≡ self.conn }
+        ensures numbered { IsNumbered (state S.Store result) }
+    {
+        self.keeper.tables.into_connection()
     }
 
     /// How many calls failed for another cause than memory.
