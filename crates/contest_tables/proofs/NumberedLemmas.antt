@@ -1,6 +1,6 @@
 -- The rows of a desk's tables rise by their numbers in a sound database whose trees are in order. That a
 -- database is sound doesn't say by itself that they are: two rows of `desk` with one number would be sound.
-use Rattle.std.proofs.Common.{◌≡◌, inl, inr, ℕ, ◌+◌, ◌^◌, ◌<◌, List, [], sym, ap, subst, rules}
+use Rattle.std.proofs.Common.{◌≡◌, inl, inr, ℕ, ◌^◌, ◌<◌, [], sym, ap, subst, rules}
 use Rattle.std.proofs.Math.Logic.{∥∥₁_elim}
 use Rattle.sqlite.specs.Tree.{Trees}
 use Rattle.sqlite.specs.State.{State}
@@ -17,11 +17,10 @@ use Rattle.sqlite_trees.specs.declared.store.Shape.{Shape}
 use Rattle.sqlite_trees.specs.declared.store.Shape.TheVariants as shape
 use Rattle.sqlite_trees.specs.Objects.{catalog_tree, IsListed}
 use Rattle.sqlite_trees.specs.Props.{IsOrdered-prop}
-use Rattle.sqlite_trees.specs.View.{IsShaped, IsOrdered}
+use Rattle.sqlite_trees.specs.View.{View, IsShaped, IsOrdered}
 use Rattle.contest_tables.specs.Connected.{IsAtRest, IsOfDesk}
 use Rattle.contest_tables.specs.Schema.{form_of, desk_schema}
 use Rattle.contest_tables.specs.Steps.{AreNumbered}
-use Rattle.contest_tables.specs.declared.table_name.TableName.{TableName}
 use Rattle.contest_tables.proofs.RowLemmas.{at_table}
 
 module _ (shapes : ℕ → Shape) (reals : ℕ → ℕ) (db : Trees) (ordered : IsOrdered shapes db) (listed : IsListed (db catalog_tree) shapes reals) where
@@ -54,3 +53,9 @@ found_numbered image s rest desk sound found =
         numbered (all_shapes file.2) (all_reals file.2) s.now.trees (subst (IsOrdered (all_shapes file.2)) read ordered)
         (subst (λ (db : Trees). IsListed (db catalog_tree) (all_shapes file.2) (all_reals file.2)) read listed) sound_desk
     go (inr nothing) = empty_numbered s.now.trees nothing.1.0
+
+-- and over a store that was in order when the connection to it was made
+pub over_numbered : (v : View) (s : State) → IsOrdered v.shape v.trees → IsListed (v.trees catalog_tree) v.shape v.reals → s.now.trees ≡ v.trees → IsOfDesk s → IsDatabase s.now → AreNumbered s.now.trees
+over_numbered v s ordered listed same desk sound =
+    let of_desk = subst (λ schema. IsSound schema s.now.trees) desk sound in
+    subst AreNumbered (sym same) (numbered v.shape v.reals v.trees ordered listed (subst (IsSound desk_schema) same of_desk))
