@@ -1,7 +1,8 @@
 -- The rows of a desk's tables rise by their numbers in a sound database whose trees are in order. That a
 -- database is sound doesn't say by itself that they are: two rows of `desk` with one number would be sound.
-use Rattle.std.proofs.Common.{◌≡◌, inl, inr, ℕ, ◌+◌, ◌^◌, ◌<◌, List, [], sym, ap, subst, rules}
+use Rattle.std.proofs.Common.{◌≡◌, inl, inr, ℕ, ◌^◌, ◌<◌, [], sym, ap, subst, rules, ◌∙◌}
 use Rattle.std.proofs.Math.Logic.{∥∥₁_elim}
+use Rattle.sqlite.specs.Schema.{Schema}
 use Rattle.sqlite.specs.Tree.{Trees}
 use Rattle.sqlite.specs.State.{State}
 use Rattle.sqlite.specs.Effect.{Database, IsDatabase}
@@ -17,11 +18,10 @@ use Rattle.sqlite_trees.specs.declared.store.Shape.{Shape}
 use Rattle.sqlite_trees.specs.declared.store.Shape.TheVariants as shape
 use Rattle.sqlite_trees.specs.Objects.{catalog_tree, IsListed}
 use Rattle.sqlite_trees.specs.Props.{IsOrdered-prop}
-use Rattle.sqlite_trees.specs.View.{IsShaped, IsOrdered}
-use Rattle.contest_tables.specs.Connected.{IsAtRest, IsOfDesk}
+use Rattle.sqlite_trees.specs.View.{View, IsShaped, IsOrdered}
+use Rattle.contest_tables.specs.Connected.{IsAtRest, IsOfDesk, IsBare}
 use Rattle.contest_tables.specs.Schema.{form_of, desk_schema}
 use Rattle.contest_tables.specs.Steps.{AreNumbered}
-use Rattle.contest_tables.specs.declared.table_name.TableName.{TableName}
 use Rattle.contest_tables.proofs.RowLemmas.{at_table}
 
 module _ (shapes : ℕ → Shape) (reals : ℕ → ℕ) (db : Trees) (ordered : IsOrdered shapes db) (listed : IsListed (db catalog_tree) shapes reals) where
@@ -31,15 +31,15 @@ module _ (shapes : ℕ → Shape) (reals : ℕ → ℕ) (db : Trees) (ordered : 
       let laid = laid_out listed objects sound.lists.listed in
       subst (λ s. IsShaped s (db (form_of name).tree)) (at_table (λ t. shapes t.tree ≡ shape.Table) name laid.tables) (ordered (form_of name).tree)
 
--- as they are where no tree has a row
+-- so they do where no tree has a row
 empty_numbered : (db : Trees) → ((tree : ℕ) → tree < 2 ^ 32 → db tree ≡ []) → AreNumbered db
 empty_numbered db none name =
     let low : (form_of name).tree < 2 ^ 32 = at_table (λ t. t.tree < 2 ^ 32) name (search rules) in
     subst (IsShaped shape.Table) (sym (none (form_of name).tree low)) (tt, tt)
 
--- and of what an open finds in files
-pub found_numbered : (image : Image) (s : State) → IsAtRest s → IsOfDesk s → IsDatabase s.now → FindsIn image s → AreNumbered s.now.trees
-found_numbered image s rest desk sound found =
+-- and in what an open finds in files
+pub found_numbered : (image : Image) (s : State) → IsAtRest s → IsDatabase s.now → FindsIn image s → IsOfDesk s → AreNumbered s.now.trees
+found_numbered image s rest sound found desk =
     let same : s.committed.trees ≡ s.now.trees = ap (λ (d : Database). d.trees) (sym rest.1) in
     go (subst (λ (db : Trees). AreFoundIn image db) same found.reads)
   where
@@ -54,3 +54,13 @@ found_numbered image s rest desk sound found =
         numbered (all_shapes file.2) (all_reals file.2) s.now.trees (subst (IsOrdered (all_shapes file.2)) read ordered)
         (subst (λ (db : Trees). IsListed (db catalog_tree) (all_shapes file.2) (all_reals file.2)) read listed) sound_desk
     go (inr nothing) = empty_numbered s.now.trees nothing.1.0
+
+-- and in what a connection shows that was made over a store in order
+pub over_numbered : (v : View) (s : State) → IsOrdered v.shape v.trees → IsListed (v.trees catalog_tree) v.shape v.reals → s.now.trees ≡ v.trees → IsDatabase s.now → IsOfDesk s → AreNumbered s.now.trees
+over_numbered v s ordered listed same sound desk =
+    let of_desk = subst (λ schema. IsSound schema s.now.trees) desk sound in
+    subst AreNumbered (sym same) (numbered v.shape v.reals v.trees ordered listed (subst (IsSound desk_schema) same of_desk))
+
+-- in a database without a table no desk stands
+pub bare_numbered : (s : State) → IsBare s → IsOfDesk s → AreNumbered s.now.trees
+bare_numbered s bare desk = let tables = ap (λ (schema : Schema). schema.tables) (sym bare ∙ desk) in absurd (cc)

@@ -1,5 +1,5 @@
 -- A walk over a slice whose items are read by a function.
-use Rattle.std.proofs.Common.{ℕ, List, [], ◌∷◌, map, Option, ap}
+use Rattle.std.proofs.Common.{List, [], ◌∷◌, map, Option, ap}
 use Rattle.std.specs.Iterator.{AlwaysYields}
 use Rattle.std.proofs.lemmas.Iterator.{YieldsList}
 

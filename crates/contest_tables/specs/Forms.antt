@@ -1,5 +1,5 @@
 -- The forms of the tables, as tables of a database.
-use Rattle.std.specs.Prelude.{ℕ, Bool, true, false, List, [], ◌∷◌, map}
+use Rattle.std.specs.Prelude.{false, [], map}
 use Rattle.sqlite.specs.Table.{Table}
 use Rattle.sqlite_schema.specs.declared.schema.Column.{Column}
 use Rattle.sqlite_schema.specs.declared.schema.Index.{Index}

@@ -1,24 +1,26 @@
 //! The tables of a contest as a database has them, once the statements of `texts` have made them.
 
-use sqlite_schema::schema::Kind;
+use ColumnForm::{Bytes, Number, NumberOrNone, Text, TextOrNone};
 
 /// A column of a STRICT table, by its name.
-#[derive(Clone, Copy, Debug)]
 pub(crate) enum ColumnForm {
     /// Integers, of which none is missing.
     Number(&'static [u8]),
+    /// Integers, of which any may be missing.
     NumberOrNone(&'static [u8]),
+    /// Texts, of which none is missing.
     Text(&'static [u8]),
+    /// Texts, of which any may be missing.
     TextOrNone(&'static [u8]),
+    /// Blobs, of which none is missing.
     Bytes(&'static [u8]),
 }
 
 /// A table, and the tree of its rows.
-#[derive(Clone, Copy, Debug)]
 pub(crate) struct TableForm {
     pub(crate) name: &'static [u8],
     pub(crate) tree: u32,
-    /// Whether the first column is the number of a row in the tree.
+    /// The column that is the number of a row in the tree, if one is.
     pub(crate) key: Option<usize>,
     /// The places of the primary key.
     pub(crate) primary: &'static [usize],
@@ -28,7 +30,6 @@ pub(crate) struct TableForm {
 }
 
 /// An index, its tree and that of its table, and the places of its columns.
-#[derive(Clone, Copy, Debug)]
 pub(crate) struct IndexForm {
     pub(crate) name: &'static [u8],
     pub(crate) tree: u32,
@@ -36,10 +37,8 @@ pub(crate) struct IndexForm {
     pub(crate) columns: &'static [usize],
 }
 
-use ColumnForm::{Bytes, Number, NumberOrNone, Text, TextOrNone};
-
 /// The tables, in the order in which they are made.
-pub(crate) const TABLE_FORMS: [TableForm; 10] = [
+pub(crate) static TABLE_FORMS: [TableForm; 10] = [
     TableForm {
         name: b"desk",
         tree: 0,
@@ -195,7 +194,7 @@ pub(crate) const TABLE_FORMS: [TableForm; 10] = [
 ];
 
 /// The indexes, in the order in which they are made.
-pub(crate) const INDEX_FORMS: [IndexForm; 9] = [
+pub(crate) static INDEX_FORMS: [IndexForm; 9] = [
     IndexForm {
         name: b"sqlite_autoindex_items_1",
         tree: 3,

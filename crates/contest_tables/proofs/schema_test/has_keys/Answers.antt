@@ -1,8 +1,6 @@
 use Rattle.std.proofs.Common.{rules, tests, map, arith, Bor, List, ℕ}
-use Rattle.std.proofs.lemmas.Bool.Decides.{Decides-eqb}
 use Rattle.std.proofs.lemmas.Iterator.{YieldsList-from_slice, YieldsList-from_zip, same_from_all}
 use Rattle.std.proofs.lemmas.List.{length-map}
-use Rattle.std.proofs.lemmas.Slice.Eq.{slice_eq-Decides}
 use Rattle.contest_tables.proofs.ZipLemmas.{read_by}
 use Rattle.contest_tables.proofs.schema_test.has_keys.Goals as goal
 
