@@ -1,10 +1,11 @@
 -- Steps after one that was answered.
-use Rattle.std.proofs.Common.{◌≡◌, Result, Ok, Err, refl, subst, sym}
+use Rattle.std.proofs.Common.{◌≡◌, Result, Ok, Err, refl, subst, sym, arith}
 use Rattle.sqlite.specs.State.{HasCleanDisk, State, Survives}
+use Rattle.sqlite.proofs.StateLemmas.{survives_then}
 use Rattle.contest_store.specs.declared.store_error.StoreError.{StoreError}
 use Rattle.contest_tables.specs.Connected.{IsUndone}
-use Rattle.contest_tables.specs.Counts.{counted}
-use Rattle.contest_tables.specs.Steps.{Content, Full, Holding, MakesNone, Showing, Step, Within}
+use Rattle.contest_tables.specs.Counts.{counted, CountsCall}
+use Rattle.contest_tables.specs.Steps.{Call, Content, Full, Holding, MakesNone, Showing, Step, Within}
 use Rattle.contest_tables.specs.Tables.{TableRows}
 use Rattle.contest_tables.specs.declared.counts.Counts.{Counts}
 use Rattle.contest_tables.proofs.StepLemmas.{given_up, in_turn, refuses}
@@ -39,3 +40,27 @@ module _ {T U : Type 0} (x : U) (e given : StoreError) (old mid new : State) (b 
       let two = refuses e mid new m a Within Within NoOther (λ _. ⊥) (given_up {T = T} e mid new m a undone told survives) in
       in_turn x (Err e) old mid new b m a From Mid Within NoOther To (MakesNone old From) (λ _. ⊥) one two
       (λ now kept from held. (let on = leads now kept from held in (on.0, on.1, λ none. absurd none))) (λ db on none. absurd none) (λ db none. none)
+
+early : (mid new : State) → Survives mid new (λ _. ⊥) → HasCleanDisk new → HasCleanDisk mid
+early mid new survives clean = omega (arith, survives.clean)
+
+-- what is given up after a call that began a transaction
+module _ {T U : Type 0} (x : U) (e given : StoreError) (old mid new : State) (b m a : Counts) (From Mid To : Holding)
+    (leads : (now kept : Content) → From old now kept → Mid mid now kept → (between : Content) × Within mid between kept)
+    (one : Call (Ok x) old mid b m From Mid (MakesNone old From)) where
+  pub call_given_up : e ≡ given → (HasCleanDisk new → IsUndone mid new) → a ≡ counted given m → Survives mid new (λ _. ⊥)
+      → Call {T = T} (Err e) old new b a From To (MakesNone old From)
+  call_given_up same undone counts survives =
+      let told = subst (λ (g : StoreError). a ≡ counted g m) (sym same) counts in
+      let two = given_up {T = T} e mid new m a undone told survives in
+      record {
+        step = record {
+          ok = λ _ _ _ _. tt;
+          err = λ clean. (let u = two.err clean in record { autocommit = u.autocommit; holds = λ is now kept from.
+              (let on = leads now kept from (one.step.ok (early mid new survives clean) now kept from) in u.holds is on.0 kept on.1) });
+          counts = subst (λ n. CountsCall {T = T} (Err e) n a) one.step.counts two.counts;
+          survives = survives_then old mid new _ (λ _. ⊥) _ (λ _ db made. made) (λ clean db none. absurd none) one.step.survives two.survives;
+        };
+        up = λ _ _. tt;
+        back = λ clean live is. one.up (early mid new survives clean) live;
+      }

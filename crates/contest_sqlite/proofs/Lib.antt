@@ -13,3 +13,4 @@ pub mod ListsRead
 pub mod ListsGrown
 pub mod FilelessLists
 pub mod FoundContests
+pub mod OpenedContests

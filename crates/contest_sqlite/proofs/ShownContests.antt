@@ -39,4 +39,4 @@ trusted s kept clean = (clean, λ up. (let h = (kept clean).holds up in shown_is
 
 -- and its rows rise by their numbers
 pub kept_numbered : (s : State) → StaysKept s → IsNumbered s
-kept_numbered s kept clean up = ((kept clean).holds up).holds.shows.2
+kept_numbered s kept clean up desk = ((kept clean).holds up).holds.shows.2

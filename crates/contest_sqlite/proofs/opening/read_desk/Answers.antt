@@ -1,23 +1,14 @@
-use Rattle.std.proofs.Common.{rules, ◌≡◌, ◌&&◌, IfOk, OnOk, Some, true, ℕ, ◌+◌, ◌-◌, ◌*◌, ◌<◌, ◌≤◌, length, ◌/◌, ◌%◌, Bool, false, nat_eq, nat_lt, List, [], ◌∷◌, ◌++◌, slice_index_or, slice_set, bit_and, bit_or, Fits, w8, w32, w64, Bor, MutBor}
-use Rattle.sqlite.specs.State.{HasCleanDisk, Survives}
-use Rattle.contest_types.specs.State.{ContestState}
-use Rattle.contest_types.specs.Valid.{is_valid}
-use Rattle.contest_store.specs.Lists.{loaded}
-use Rattle.contest_spelling.specs.Spelling.{lists_in}
-use Rattle.contest_tables.specs.Connected.{shown_by, counts_of}
-use Rattle.contest_tables.specs.Steps.{Call, Content, Full, Holds, MakesNone, Showing}
-use Rattle.contest_tables.specs.Tables.{TableRows}
-use Rattle.contest_valid.specs.Files.{has_small_files}
-use Rattle.contest_changes.specs.ContestTables.{loaded_tables}
-use Rattle.contest_sqlite.specs.Loading.{AllRise}
-use Rattle.contest_sqlite.specs.Opening.{IsNumbered, IsRead}
-use Rattle.contest_sqlite.specs.Steps.{HoldsDesk}
+use Rattle.std.proofs.Common.{sym}
+use Rattle.contest_tables.specs.Connected.{shown_by}
+use Rattle.contest_sqlite.proofs.OpenedContests.{is_read, no_more}
 use Rattle.contest_sqlite.proofs.opening.read_desk.Goals as goal
 
--- src/opening.rt:30:1
 pub returns-in-Desk-clause-read : goal.returns-in-Desk-clause-read
-returns-in-Desk-clause-read g c = ?
+returns-in-Desk-clause-read g c clean =
+    is_read (shown_by g.S.Store c.args.tables.now) (shown_by g.S.Store c.read_valid.new.tables) _ _ (sym c.if-is_in_transaction.ensures.value) (c.is_in_transaction.ensures.rest c.if-is_in_transaction.false)
+    (c.standing.ensures.desk c.in-Desk.is) c.standing.ensures.sound c.requires c.read_valid.result c.read_valid.ensures.call clean (c.read_valid.ensures.lists clean) c.read_valid.ensures.valid
 
--- src/opening.rt:30:1
 pub returns-in-Desk-clause-survives : goal.returns-in-Desk-clause-survives
-returns-in-Desk-clause-survives g c = ?
+returns-in-Desk-clause-survives g c =
+    no_more (shown_by g.S.Store c.args.tables.now) (shown_by g.S.Store c.read_valid.new.tables) _ _ c.read_valid.result c.read_valid.ensures.call
+    (sym c.if-is_in_transaction.ensures.value) (c.is_in_transaction.ensures.rest c.if-is_in_transaction.false) (c.standing.ensures.desk c.in-Desk.is) c.requires
