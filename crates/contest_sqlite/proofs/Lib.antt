@@ -14,3 +14,4 @@ pub mod ListsGrown
 pub mod FilelessLists
 pub mod FoundContests
 pub mod OpenedContests
+pub mod MadeRows
