@@ -15,3 +15,4 @@ pub mod FilelessLists
 pub mod FoundContests
 pub mod OpenedContests
 pub mod MadeRows
+pub mod MadeContests

@@ -1,21 +1,12 @@
-use Rattle.std.proofs.Common.{rules, ◌≡◌, ◌⊎◌, ◌↔◌, [], IfErr, IfOk, IfSome, IsTrue, OnOk, Some, false, ℕ, ◌+◌, ◌-◌, ◌*◌, ◌<◌, ◌≤◌, length, ◌/◌, ◌%◌, Bool, true, nat_eq, nat_lt, List, ◌∷◌, ◌++◌, slice_index_or, slice_set, bit_and, bit_or, Fits, w8, w32, w64, Bor, MutBor}
-use Rattle.sqlite.specs.State.{HasCleanDisk, Survives}
-use Rattle.contest_types.specs.State.{new_contest}
-use Rattle.contest_types.specs.Valid.{is_valid}
 use Rattle.contest_spelling.specs.Spelling.{without_rows}
-use Rattle.contest_tables.specs.Connected.{IsBare, counts_of, shown_by}
-use Rattle.contest_tables.specs.Steps.{Call, HasFirst, MakesNone, Step}
-use Rattle.contest_changes.specs.Kinds.{IsMoment}
-use Rattle.contest_changes.specs.Sound.{IsSound}
-use Rattle.contest_sqlite.specs.Contests.{contest_in_trees}
-use Rattle.contest_sqlite.specs.Creation.{HasContest, HasNoRow, HoldsNone, IsMade, IsOfKindsContest, IsOfStore, IsReadEqual, KeepsContest, MakesContest, StoodOther}
-use Rattle.contest_sqlite.specs.Opening.{IsNumbered}
+use Rattle.contest_tables.specs.Connected.{shown_by}
+use Rattle.contest_sqlite.proofs.MadeContests.{not_made, then_committed}
 use Rattle.contest_sqlite.proofs.creation.make_desk.Goals as goal
 
--- src/creation.rt:175:1
 pub returns-in-Ok : goal.returns-in-Ok
-returns-in-Ok g c = ?
+returns-in-Ok g c =
+    then_committed c.in-Ok.field-0 c.commit.result (shown_by g.S.Store c.args.tables.now) (shown_by g.S.Store c.make_rows.new.tables) (shown_by g.S.Store c.commit.new.self) _ _ _
+    (without_rows c.args.fixed.now) c.in-Ok.ensures c.commit.ensures
 
--- src/creation.rt:175:1
 pub returns-in-Err : goal.returns-in-Err
-returns-in-Err g c = ?
+returns-in-Err g c = not_made c.in-Err.error (shown_by g.S.Store c.args.tables.now) (shown_by g.S.Store c.make_rows.new.tables) _ _ (without_rows c.args.fixed.now) c.in-Err.ensures

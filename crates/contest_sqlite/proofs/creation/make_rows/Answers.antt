@@ -1,21 +1,19 @@
-use Rattle.std.proofs.Common.{rules, ◌≡◌, ◌⊎◌, ◌↔◌, [], IfErr, IfOk, IfSome, IsTrue, OnOk, Some, false, ℕ, ◌+◌, ◌-◌, ◌*◌, ◌<◌, ◌≤◌, length, ◌/◌, ◌%◌, Bool, true, nat_eq, nat_lt, List, ◌∷◌, ◌++◌, slice_index_or, slice_set, bit_and, bit_or, Fits, w8, w32, w64, Bor, MutBor}
-use Rattle.sqlite.specs.State.{HasCleanDisk, Survives}
-use Rattle.contest_types.specs.State.{new_contest}
-use Rattle.contest_types.specs.Valid.{is_valid}
 use Rattle.contest_spelling.specs.Spelling.{without_rows}
-use Rattle.contest_tables.specs.Connected.{IsBare, counts_of, shown_by}
-use Rattle.contest_tables.specs.Steps.{Call, HasFirst, MakesNone, Step}
-use Rattle.contest_changes.specs.Kinds.{IsMoment}
-use Rattle.contest_changes.specs.Sound.{IsSound}
-use Rattle.contest_sqlite.specs.Contests.{contest_in_trees}
-use Rattle.contest_sqlite.specs.Creation.{HasContest, HasNoRow, HoldsNone, IsMade, IsOfKindsContest, IsOfStore, IsReadEqual, KeepsContest, MakesContest, StoodOther}
-use Rattle.contest_sqlite.specs.Opening.{IsNumbered}
+use Rattle.contest_tables.specs.Connected.{counts_of, shown_by}
+use Rattle.contest_tables.specs.Steps.{HasFirst}
+use Rattle.contest_sqlite.specs.Creation.{HasContest, HoldsNone}
+use Rattle.contest_sqlite.proofs.CallLemmas.{begun_then, not_begun}
+use Rattle.contest_sqlite.proofs.MadeContests.{has_none, none_holds}
 use Rattle.contest_sqlite.proofs.creation.make_rows.Goals as goal
 
--- src/creation.rt:185:1
 pub returns-in-Ok : goal.returns-in-Ok
-returns-in-Ok g c = ?
+returns-in-Ok g c =
+    let old = shown_by g.S.Store c.args.tables.now in
+    let mid = shown_by g.S.Store c.begin.new.self in
+    begun_then old mid (shown_by g.S.Store c.make_within.new.tables) _ _ _ HoldsNone (HasFirst 0) (HasContest (without_rows c.args.fixed.now)) (none_holds old)
+    c.in-Ok.field-0 c.make_within.result c.in-Ok.ensures c.make_within.ensures (has_none old mid)
 
--- src/creation.rt:185:1
 pub returns-in-Err : goal.returns-in-Err
-returns-in-Err g c = ?
+returns-in-Err g c =
+    let old = shown_by g.S.Store c.args.tables.now in
+    not_begun old old (shown_by g.S.Store c.begin.new.self) (counts_of c.args.tables.now) (counts_of c.args.tables.now) _ HoldsNone (HasFirst 0) (HasContest (without_rows c.args.fixed.now)) (none_holds old) c.in-Err.error c.in-Err.ensures
