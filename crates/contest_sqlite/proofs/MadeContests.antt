@@ -1,10 +1,12 @@
 -- A contest that is made where no table stood, and committed.
-use Rattle.std.proofs.Common.{◌≡◌, ℕ, false, [], Result, Ok, Err, Some, IsTrue, IfOk, refl, subst, arith}
+use Rattle.std.proofs.Common.{◌≡◌, ◌∙◌, false, [], Result, Ok, Err, Some, IsTrue, ap, refl, subst, sym, arith}
 use Rattle.sqlite.specs.State.{HasCleanDisk, State, Survives}
 use Rattle.sqlite.specs.Tree.{Trees}
 use Rattle.sqlite.proofs.StateLemmas.{survives_then, survives_weaker}
-use Rattle.contest_types.specs.State.{ContestState}
+use Rattle.contest_types.specs.State.{ContestState, FixedPart}
+use Rattle.contest_types.specs.declared.contest.ContestHead.{ContestHead}
 use Rattle.contest_store.specs.declared.store_error.StoreError.{StoreError}
+use Rattle.contest_spelling.specs.Spelling.{without_rows}
 use Rattle.contest_tables.specs.Connected.{IsAtRest, IsBare}
 use Rattle.contest_tables.specs.Counts.{CountsCall}
 use Rattle.contest_tables.specs.Steps.{Call, Content, Ended, HasFirst, Holds, MakesNone, MakesNow, OnlyMade, Showing, Step, Undoes, Within}
@@ -13,8 +15,9 @@ use Rattle.contest_tables.proofs.HoldLemmas.{bare_holds, on_err, on_ok}
 use Rattle.contest_sqlite.proofs.CallLemmas.{any_err, any_ok}
 use Rattle.contest_changes.specs.ContestTables.{table_rows}
 use Rattle.contest_changes.specs.Sound.{IsSound}
-use Rattle.contest_sqlite.specs.Contests.{contest_in_trees, HoldsContests}
-use Rattle.contest_sqlite.specs.Creation.{HasContest, HoldsNone, KeepsContest, MakesContest}
+use Rattle.contest_sqlite.specs.Contests.{contest_in_trees}
+use Rattle.contest_sqlite.specs.Creation.{HasContest, HoldsNone, IsMade, IsReadEqual, KeepsContest, MakesContest}
+use Rattle.contest_sqlite.specs.Opening.{IsRead}
 use Rattle.contest_sqlite.proofs.LeaveLemmas.{not_inside}
 use Rattle.contest_sqlite.proofs.ShownContests.{shown_is}
 
@@ -64,21 +67,41 @@ not_made e old new b a y one = record {
 }
 
 -- what was made outside of a transaction
-module _ {T : Type 0} (r : Result T StoreError) (old new : State) (b a : Counts) (y : ContestState) (one : Call r old new b a HoldsNone (KeepsContest y) (MakesContest y old)) (sound : IsSound y)
-    (outside : old.in_transaction ≡ false) (rests : IsTrue old.is_open → IsAtRest old) (bare : IsBare old) where
+module _ (old new : State) (b a : Counts) (f value : FixedPart) (same : f ≡ value) (sound : IsSound (without_rows value)) (outside : old.in_transaction ≡ false)
+    (rests : IsTrue old.is_open → IsAtRest old) (bare : IsBare old) where
   stood : IsTrue old.is_open → HoldsNone old (OnlyMade []) (OnlyMade [])
   stood up = (bare_holds old (rests up) bare, refl)
 
-  -- a crash leaves no other contest
-  pub only_this : Survives old new (λ db. contest_in_trees db ≡ Some y)
-  only_this = survives_weaker old new _ _ (λ _ db made. (
-    let up = made.0 (not_inside old.in_transaction outside) in
-    shown_is db y sound (made.1 (OnlyMade []) (OnlyMade []) (stood up))
-  )) one.step.survives
+  -- of the shared part
+  shared : {T : Type 0} (r : Result T StoreError) → Call r old new b a HoldsNone (KeepsContest (without_rows f)) (MakesContest (without_rows f) old)
+      → Call r old new b a HoldsNone (KeepsContest (without_rows value)) (MakesContest (without_rows value) old)
+  shared r = subst (λ g. Call r old new b a HoldsNone (KeepsContest (without_rows g)) (MakesContest (without_rows g) old)) same
 
--- the tables show it then
-pub made_holds : {T : Type 0} (x : T) (old new : State) (b a : Counts) (y : ContestState) → Call (Ok x) old new b a HoldsNone (KeepsContest y) (MakesContest y old) → IsSound y
-    → old.in_transaction ≡ false → (IsTrue old.is_open → IsAtRest old) → IsBare old → HasCleanDisk new → HoldsContests new y y
-made_holds x old new b a y one sound outside rests bare clean =
-    let up = one.up clean (not_inside old.in_transaction outside) in
-    record { sound = sound; was_sound = sound; holds = one.step.ok clean (OnlyMade []) (OnlyMade []) (bare_holds old (rests up) bare, refl) }
+  -- a crash leaves no other contest
+  pub only_this : {T : Type 0} (r : Result T StoreError) → Call r old new b a HoldsNone (KeepsContest (without_rows f)) (MakesContest (without_rows f) old)
+      → Survives old new (λ db. contest_in_trees db ≡ Some (without_rows value))
+  only_this r one = survives_weaker old new _ _ (λ _ db made. (
+    let up = made.0 (not_inside old.in_transaction outside) in
+    shown_is db (without_rows value) sound (made.1 (OnlyMade []) (OnlyMade []) (stood up))
+  )) (shared r one).step.survives
+
+  -- and the tables show it then
+  pub is_made : {T : Type 0} (x : T) (lists : ContestState) → lists ≡ without_rows value → Call (Ok x) old new b a HoldsNone (KeepsContest (without_rows f)) (MakesContest (without_rows f) old)
+      → HasCleanDisk new → IsMade (without_rows value) old new lists
+  is_made x lists is one clean =
+      let up = one.up clean (not_inside old.in_transaction outside) in
+      record {
+        bare = bare;
+        held = is;
+        holds = record { sound = sound; was_sound = sound; holds = (shared (Ok x) one).step.ok clean (OnlyMade []) (OnlyMade []) (stood up) };
+      }
+
+-- a contest that stood, whose lists have this head
+pub is_equal : (old new : State) (head : ContestHead) (lists : ContestState) → ¬ IsBare old → IsRead old new lists → lists.fixed.settings.head ≡ head → Survives old new (λ _. ⊥)
+    → IsReadEqual head old new lists
+is_equal old new head lists stood read same survives = record {
+  stood = stood;
+  read = read;
+  equal = ap (λ (x : ContestState). x.fixed.settings.head) (sym read.held) ∙ same;
+  survives = survives;
+}

@@ -1,25 +1,19 @@
-use Rattle.std.proofs.Common.{rules, ◌≡◌, ◌⊎◌, ◌↔◌, [], IfErr, IfOk, IfSome, IsTrue, OnOk, Some, false, ℕ, ◌+◌, ◌-◌, ◌*◌, ◌<◌, ◌≤◌, length, ◌/◌, ◌%◌, Bool, true, nat_eq, nat_lt, List, ◌∷◌, ◌++◌, slice_index_or, slice_set, bit_and, bit_or, Fits, w8, w32, w64, Bor, MutBor}
-use Rattle.sqlite.specs.State.{HasCleanDisk, Survives}
-use Rattle.contest_types.specs.State.{new_contest}
-use Rattle.contest_types.specs.Valid.{is_valid}
-use Rattle.contest_spelling.specs.Spelling.{without_rows}
-use Rattle.contest_tables.specs.Connected.{IsBare, counts_of, shown_by}
-use Rattle.contest_tables.specs.Steps.{Call, HasFirst, MakesNone, Step}
-use Rattle.contest_changes.specs.Kinds.{IsMoment}
-use Rattle.contest_changes.specs.Sound.{IsSound}
-use Rattle.contest_sqlite.specs.Contests.{contest_in_trees}
-use Rattle.contest_sqlite.specs.Creation.{HasContest, HasNoRow, HoldsNone, IsMade, IsOfKindsContest, IsOfStore, IsReadEqual, KeepsContest, MakesContest, StoodOther}
-use Rattle.contest_sqlite.specs.Opening.{IsNumbered}
+use Rattle.std.proofs.Common.{sym}
+use Rattle.contest_tables.specs.Connected.{shown_by}
+use Rattle.contest_sqlite.proofs.MadeContests.{is_made, only_this}
 use Rattle.contest_sqlite.proofs.creation.make_contest.Goals as goal
 
--- src/creation.rt:154:1
 pub returns-in-Ok-clause-made : goal.returns-in-Ok-clause-made
-returns-in-Ok-clause-made g c = ?
+returns-in-Ok-clause-made g c =
+    is_made (shown_by g.S.Store c.args.tables.now) (shown_by g.S.Store c.make_desk.new.tables) _ _ c.deref.result.now c.args.fixed.value c.deref.ensures c.requires.sound
+    (sym c.if-is_in_transaction.ensures.value) (c.is_in_transaction.ensures.rest c.if-is_in_transaction.false) c.requires.bare c.in-Ok.field-0 c.new.result c.new.ensures c.in-Ok.ensures
 
--- src/creation.rt:154:1
 pub returns-in-Ok-clause-survives : goal.returns-in-Ok-clause-survives
-returns-in-Ok-clause-survives g c = ?
+returns-in-Ok-clause-survives g c =
+    only_this (shown_by g.S.Store c.args.tables.now) (shown_by g.S.Store c.make_desk.new.tables) _ _ c.deref.result.now c.args.fixed.value c.deref.ensures c.requires.sound
+    (sym c.if-is_in_transaction.ensures.value) (c.is_in_transaction.ensures.rest c.if-is_in_transaction.false) c.requires.bare c.make_desk.result c.make_desk.ensures
 
--- src/creation.rt:154:1
 pub returns-in-Err-clause-survives : goal.returns-in-Err-clause-survives
-returns-in-Err-clause-survives g c = ?
+returns-in-Err-clause-survives g c =
+    only_this (shown_by g.S.Store c.args.tables.now) (shown_by g.S.Store c.make_desk.new.tables) _ _ c.deref.result.now c.args.fixed.value c.deref.ensures c.requires.sound
+    (sym c.if-is_in_transaction.ensures.value) (c.is_in_transaction.ensures.rest c.if-is_in_transaction.false) c.requires.bare c.make_desk.result c.make_desk.ensures

@@ -1,17 +1,10 @@
-use Rattle.std.proofs.Common.{rules, ◌≡◌, ◌⊎◌, ◌↔◌, [], IfErr, IfOk, IfSome, IsTrue, OnOk, Some, false, ℕ, ◌+◌, ◌-◌, ◌*◌, ◌<◌, ◌≤◌, length, ◌/◌, ◌%◌, Bool, true, nat_eq, nat_lt, List, ◌∷◌, ◌++◌, slice_index_or, slice_set, bit_and, bit_or, Fits, w8, w32, w64, Bor, MutBor}
-use Rattle.sqlite.specs.State.{HasCleanDisk, Survives}
-use Rattle.contest_types.specs.State.{new_contest}
-use Rattle.contest_types.specs.Valid.{is_valid}
-use Rattle.contest_spelling.specs.Spelling.{without_rows}
-use Rattle.contest_tables.specs.Connected.{IsBare, counts_of, shown_by}
-use Rattle.contest_tables.specs.Steps.{Call, HasFirst, MakesNone, Step}
-use Rattle.contest_changes.specs.Kinds.{IsMoment}
-use Rattle.contest_changes.specs.Sound.{IsSound}
-use Rattle.contest_sqlite.specs.Contests.{contest_in_trees}
-use Rattle.contest_sqlite.specs.Creation.{HasContest, HasNoRow, HoldsNone, IsMade, IsOfKindsContest, IsOfStore, IsReadEqual, KeepsContest, MakesContest, StoodOther}
-use Rattle.contest_sqlite.specs.Opening.{IsNumbered}
+use Rattle.std.proofs.Common.{◌∙◌, ap, refl, sym}
+use Rattle.contest_types.specs.State.{FixedPart}
+use Rattle.contest_tables.specs.Connected.{shown_by}
+use Rattle.contest_sqlite.proofs.MadeContests.{is_equal}
 use Rattle.contest_sqlite.proofs.creation.read_equal.Goals as goal
 
--- src/creation.rt:119:1
 pub returns-then-has_head-clause-equal : goal.returns-then-has_head-clause-equal
-returns-then-has_head-clause-equal g c = ?
+returns-then-has_head-clause-equal g c clean =
+    is_equal (shown_by g.S.Store c.args.tables.now) (shown_by g.S.Store c.read_desk.new.tables) c.args.head.now c.in-Ok.lists c.requires.stood (c.in-Ok.ensures.read clean)
+    (ap (λ (f : FixedPart). f.settings.head) (sym c.fixed.ensures) ∙ c.if-has_head.ensures.0 refl) c.in-Ok.ensures.survives
