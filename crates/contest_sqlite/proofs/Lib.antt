@@ -16,3 +16,4 @@ pub mod FoundContests
 pub mod OpenedContests
 pub mod MadeRows
 pub mod MadeContests
+pub mod CreatedStores
