@@ -9,11 +9,11 @@ use Rattle.contest_tables.specs.Steps.{Call, Content, Holding, Holds, MakesNone,
 use Rattle.contest_tables.specs.declared.counts.Counts.{Counts}
 use Rattle.contest_tables.proofs.HoldLemmas.{on_err}
 
-any_ok : {T E P : Type 0} (r : Result T E) → P → OnOk r P
+pub any_ok : {T E P : Type 0} (r : Result T E) → P → OnOk r P
 any_ok (Ok x) p = p
 any_ok (Err e) p = tt
 
-any_err : {T E P : Type 0} (r : Result T E) → P → OnErr r P
+pub any_err : {T E P : Type 0} (r : Result T E) → P → OnErr r P
 any_err (Ok x) p = tt
 any_err (Err e) p = p
 

@@ -24,7 +24,7 @@ kept_in s = Showing (table_rows (committed_of s))
 abbrev pub Meets : State → Holding → Type 0
 Meets old From = HasCleanDisk old → IsTrue old.is_open → From old (now_in old) (kept_in old)
 
-not_inside : {P : Type 0} (b : Bool) → b ≡ false → IsTrue b → P
+pub not_inside : {P : Type 0} (b : Bool) → b ≡ false → IsTrue b → P
 not_inside b e i = absurd (let x = rw e at i in cc)
 
 module _ {T : Type 0} (old new : State) (b a : Counts) (c : ℕ) (l : Bool) (From To : Holding) (Made : Trees → Type 0) (was : StaysKept old) (from : Meets old From)

@@ -2,7 +2,8 @@
 use Rattle.std.specs.Prelude.{◌≡◌, ◌≢◌, false, [], IfSome, Some}
 use Rattle.sqlite.specs.State.{State, Survives}
 use Rattle.sqlite.specs.Tree.{Trees}
-use Rattle.contest_types.specs.State.{ContestState, new_contest}
+use Rattle.contest_types.specs.SetupAdditions.{IsNew}
+use Rattle.contest_types.specs.State.{ContestState, FixedPart, new_contest}
 use Rattle.contest_types.specs.declared.contest.Contest.{Contest}
 use Rattle.contest_types.specs.declared.contest.ContestHead.{ContestHead}
 use Rattle.contest_types.specs.declared.refusal.Refusal.{Refusal}
@@ -41,6 +42,11 @@ pub record StoodOther (head : ContestHead) (s after : State) : Type 0 where
 pub record IsOfKindsContest (c : Contest) : Type 0 where
   pub head : IsWritableItem c.head.id c.head.name
   pub start : IfSome c.start IsMoment
+
+-- but for a head and marks nothing is set up
+pub record HasHeadAlone (f : FixedPart) : Type 0 where
+  pub settings : IsNew f.settings.head f.settings
+  pub accounts : f.accounts ≡ []
 
 -- no table stands
 abbrev pub HoldsNone : Holding

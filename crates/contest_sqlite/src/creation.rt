@@ -9,7 +9,7 @@ ghost use Rattle.contest_tables.specs.Steps.{Call, HasFirst, MakesNone, Step};
 ghost use Rattle.contest_changes.specs.Kinds.{IsMoment};
 ghost use Rattle.contest_changes.specs.Sound.{IsSound};
 ghost use Rattle.contest_sqlite.specs.Contests.{contest_in_trees};
-ghost use Rattle.contest_sqlite.specs.Creation.{HasContest, HasNoRow, HoldsNone, IsMade, IsOfKindsContest, IsOfStore, IsReadEqual, KeepsContest, MakesContest, StoodOther};
+ghost use Rattle.contest_sqlite.specs.Creation.{HasContest, HasHeadAlone, HasNoRow, HoldsNone, IsMade, IsOfKindsContest, IsOfStore, IsReadEqual, KeepsContest, MakesContest, StoodOther};
 ghost use Rattle.contest_sqlite.specs.Opening.{IsNumbered};
 
 use crate::opening::read_desk;
@@ -28,6 +28,7 @@ use std::rc::Rc;
 /// `Malformed` where a number of the head is off its range or the end is no moment; `Memory`.
 pub(crate) fn new_fixed(alloc: Global, contest: Contest) -> Result<Rc<Fixed>, Refusal>
     ensures value { IfOk result (λ fixed. without_rows fixed.value ≡ new_contest contest) }
+    ensures new { IfOk result (λ fixed. HasHeadAlone fixed.value) }
     ensures sound { OnOk result (IsSound (new_contest contest)) }
     ensures refused { IfErr result (λ e. (e ≡ Refusal.Memory) ⊎ ((e ≡ Refusal.Malformed) × (is_valid (new_contest contest) ≡ false))) }
 {
@@ -98,6 +99,7 @@ pub(crate) fn make_or_read<S: Alter>(
     fixed: Rc<Fixed>,
 ) -> Result<Lists, Refusal>
     requires numbered { IsNumbered (shown_by S.Store tables.old) }
+    requires new { HasHeadAlone fixed.value }
     requires sound { IsSound (without_rows fixed.value) }
     ensures outcome { HasCleanDisk (shown_by S.Store tables.new) → IfOk result (λ lists. IsMade (without_rows fixed.value) (shown_by S.Store tables.old) (shown_by S.Store tables.new) lists
         ⊎ IsReadEqual fixed.value.settings.head (shown_by S.Store tables.old) (shown_by S.Store tables.new) lists) }
@@ -157,6 +159,7 @@ fn make_contest<S: Alter>(
     fixed: Rc<Fixed>,
 ) -> Result<Lists, StoreError>
     requires bare { IsBare (shown_by S.Store tables.old) }
+    requires new { HasHeadAlone fixed.value }
     requires sound { IsSound (without_rows fixed.value) }
     ensures made { HasCleanDisk (shown_by S.Store tables.new) → IfOk result (IsMade (without_rows fixed.value) (shown_by S.Store tables.old) (shown_by S.Store tables.new)) }
     ensures counts { OnOk result (counts_of tables.new ≡ counts_of tables.old) }
@@ -173,6 +176,7 @@ fn make_contest<S: Alter>(
 
 // Makes the tables with the rows of a contest in which nothing stands yet, in one commit.
 fn make_desk<S: Alter>(tables: &mut Tables<S>, fixed: &Fixed) -> Result<(), StoreError>
+    requires { HasHeadAlone fixed.now }
     ensures { Call result (shown_by S.Store tables.old) (shown_by S.Store tables.new) (counts_of tables.old) (counts_of tables.new) HoldsNone (KeepsContest (without_rows fixed.now))
         (MakesContest (without_rows fixed.now) (shown_by S.Store tables.old)) }
 {
@@ -183,6 +187,7 @@ fn make_desk<S: Alter>(tables: &mut Tables<S>, fixed: &Fixed) -> Result<(), Stor
 }
 
 fn make_rows<S: Alter>(tables: &mut Tables<S>, fixed: &Fixed) -> Result<(), StoreError>
+    requires { HasHeadAlone fixed.now }
     ensures { Call result (shown_by S.Store tables.old) (shown_by S.Store tables.new) (counts_of tables.old) (counts_of tables.new) HoldsNone (HasContest (without_rows fixed.now))
         (MakesNone (shown_by S.Store tables.old) HoldsNone) }
 {
@@ -194,6 +199,7 @@ fn make_rows<S: Alter>(tables: &mut Tables<S>, fixed: &Fixed) -> Result<(), Stor
 
 // Within a transaction.
 fn make_within<S: Alter>(tables: &mut Tables<S>, fixed: &Fixed) -> Result<(), StoreError>
+    requires { HasHeadAlone fixed.now }
     ensures { Step result (shown_by S.Store tables.old) (shown_by S.Store tables.new) (counts_of tables.old) (counts_of tables.new) (HasFirst 0) (HasContest (without_rows fixed.now))
         (MakesNone (shown_by S.Store tables.old) (HasFirst 0)) }
 {
@@ -205,6 +211,7 @@ fn make_within<S: Alter>(tables: &mut Tables<S>, fixed: &Fixed) -> Result<(), St
 
 // The row that says what the tables are, and that of the contest, into empty tables.
 fn insert_rows<S: Alter>(tables: &mut Tables<S>, fixed: &Fixed) -> Result<(), StoreError>
+    requires { HasHeadAlone fixed.now }
     ensures { Step result (shown_by S.Store tables.old) (shown_by S.Store tables.new) (counts_of tables.old) (counts_of tables.new) HasNoRow (HasContest (without_rows fixed.now))
         (MakesNone (shown_by S.Store tables.old) HasNoRow) }
 {
