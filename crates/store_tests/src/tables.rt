@@ -12,10 +12,10 @@ ghost use Rattle.store_tests.specs.FirstChanges.{IsBare};
 
 use crate::first_changes::first_change;
 use crate::memory_changes::{AFTER, counts};
-use contest_fixtures::{MEDALS, demo_head};
+use contest_fixtures::{MEDALS, after, demo_head};
 use contest_sqlite::Store;
 use contest_store::ContestStore;
-use contest_types::{Contest, Refusal};
+use contest_types::{Contest, Moment, Refusal};
 use sqlite::{Connection, MemStore};
 use std::alloc::Global;
 use std::test::Fail;
@@ -41,6 +41,7 @@ fn refused<T: Drop>(_of: (Refusal, T)) -> Fail {
 fn made(alloc: Global) -> Result<Store<MemStore>, Fail>
     ensures loaded { IfOk result (λ store. IsTrue store.is_loaded) }
     ensures bare { IfOk result (λ store. HasCleanDisk (shown_in over_memory store) → (f : FixedPart) × (IsBare f × (contest_of (shown_in over_memory store) ≡ with_submissions f []))) }
+    ensures kept { IfOk result (λ store. HasCleanDisk (shown_in over_memory store) → contest_of (shown_in over_memory store) ≡ committed_of (shown_in over_memory store)) }
 {
     match Store::create(alloc, no_tables(alloc)?, contest(alloc)?) {
         Ok(store) => Ok(store),
@@ -73,8 +74,49 @@ fn counts_after(alloc: Global, kind: usize) -> Result<[usize; 9], Fail> {
 
 #[test]
 fn keeps_each_change(rt: HostRuntime) -> Result<(), Fail> {
-    for (kind, after) in AFTER.iter().enumerate() {
-        assert_eq!(rt; &counts_after(rt.alloc(), kind)?, after);
+    for (kind, counts) in AFTER.iter().enumerate() {
+        assert_eq!(rt; &counts_after(rt.alloc(), kind)?, counts);
     }
+    Ok(())
+}
+
+/// How a second creation is refused, if it is, with this penalty and this start.
+fn again(alloc: Global, penalty_time: u32, start: Option<Moment>) -> Result<Option<Refusal>, Fail> {
+    let first = made(alloc)?;
+    let mut second = contest(alloc)?;
+    second.head.penalty_time = penalty_time;
+    second.start = start;
+    match Store::create(alloc, first.into_connection(), second) {
+        Ok(_) => Ok(None),
+        Err((refusal, _)) => Ok(Some(refusal)),
+    }
+}
+
+/// The first has a penalty of 20 minutes, and no start.
+#[test]
+fn compares_the_heads_of_contests(rt: HostRuntime) -> Result<(), Fail> {
+    let alloc = rt.alloc();
+    let cases = [
+        (20, None, None),
+        (20, Some(after(0)?), None),
+        (21, None, Some(Refusal::KeyReused)),
+        (1001, None, Some(Refusal::Malformed)),
+    ];
+    for (penalty_time, start, refusal) in cases {
+        assert_eq!(rt; again(alloc, penalty_time, start)?, refusal);
+    }
+    Ok(())
+}
+
+fn opened(alloc: Global) -> Result<Option<Refusal>, Fail> {
+    match Store::open(alloc, no_tables(alloc)?) {
+        Ok(_) => Ok(None),
+        Err((refusal, _)) => Ok(Some(refusal)),
+    }
+}
+
+#[test]
+fn is_refused_without_tables(rt: HostRuntime) -> Result<(), Fail> {
+    assert_eq!(rt; opened(rt.alloc())?, Some(Refusal::StoreFault));
     Ok(())
 }
