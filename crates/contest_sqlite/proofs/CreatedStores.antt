@@ -5,6 +5,7 @@ use Rattle.contest_types.specs.State.{ContestState, new_contest}
 use Rattle.contest_types.specs.declared.contest.Contest.{Contest}
 use Rattle.contest_types.specs.declared.contest.ContestHead.{ContestHead}
 use Rattle.contest_types.specs.declared.refusal.Refusal.{Refusal}
+use Rattle.contest_types.specs.declared.refusal.Refusal.TheVariants as refusal
 use Rattle.contest_types.specs.declared.refusal.Refusal.TheVariants.{KeyReused}
 use Rattle.contest_store.specs.Keeping.{Shows}
 use Rattle.contest_store.specs.Lists.{loaded}
@@ -68,6 +69,11 @@ module _ (x : ContestState) (head : ContestHead) (old new : State) (lists : Cont
 not_reused : (e : StoreError) → refusal_of e ≡ KeyReused → ⊥
 not_reused Fault is = cc
 not_reused Memory is = cc
+
+-- what isn't set up is malformed, or wants memory
+pub not_set_up : (given : Refusal) (P : Type 0) → (given ≡ refusal.Memory) ⊎ ((given ≡ refusal.Malformed) × P) → (given ≡ refusal.Malformed) ⊎ ((given ≡ KeyReused) ⊎ IsOfStore given)
+not_set_up given P (inl is) = inr (inr (Memory, is))
+not_set_up given P (inr is) = inl is.0
 
 pub stood_other : (head given : ContestHead) (old new : State) (refusal : Refusal) → head ≡ given → IsOfStore refusal ⊎ ((refusal ≡ KeyReused) × StoodOther head old new) → refusal ≡ KeyReused
     → StoodOther given old new
