@@ -1,7 +1,6 @@
 -- A transaction that is begun, and then a step in it.
-use Rattle.std.proofs.Common.{Result, Ok, Err, IsTrue, subst, arith}
+use Rattle.std.proofs.Common.{Result, Ok, Err, subst, arith}
 use Rattle.std.specs.Prelude.{OnErr, OnOk}
-use Rattle.sqlite.specs.Tree.{Trees}
 use Rattle.sqlite.specs.State.{HasCleanDisk, State}
 use Rattle.sqlite.proofs.StateLemmas.{survives_then, survives_weaker}
 use Rattle.contest_store.specs.declared.store_error.StoreError.{StoreError}

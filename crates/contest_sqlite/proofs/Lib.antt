@@ -14,6 +14,7 @@ pub mod ListsGrown
 pub mod FilelessLists
 pub mod FoundContests
 pub mod OpenedContests
+pub mod StoresMade
 pub mod MadeRows
 pub mod MadeContests
 pub mod CreatedStores

@@ -1,15 +1,17 @@
-use Rattle.std.proofs.Common.{rules, ◌≡◌, IfOk, IfErr, ℕ, ◌+◌, ◌-◌, ◌*◌, ◌<◌, ◌≤◌, length, ◌/◌, ◌%◌, Bool, true, false, nat_eq, nat_lt, List, [], ◌∷◌, ◌++◌, slice_index_or, slice_set, bit_and, bit_or, Fits, w8, w32, w64, Bor, MutBor}
+use Rattle.std.proofs.Common.{subst, true}
 use Rattle.sqlite.specs.Held.{state}
-use Rattle.sqlite.specs.State.{HasCleanDisk, Survives}
-use Rattle.contest_sqlite.specs.Keeping.{IsTrusted}
-use Rattle.contest_sqlite.specs.Opening.{IsNew, IsNumbered, Opened}
-use Rattle.contest_sqlite.specs.Value.{shown_in, stored}
+use Rattle.contest_tables.specs.Connected.{shown_by, counts_of}
+use Rattle.contest_sqlite.specs.Keeping.{kept_of}
+use Rattle.contest_sqlite.specs.Opening.{Opened}
+use Rattle.contest_sqlite.proofs.StoresMade.{is_whole, opened}
 use Rattle.contest_sqlite.proofs.store.Store.open.Goals as goal
 
--- src/store.rt:65:26
 pub invariant_of-result : goal.invariant_of-result
-invariant_of-result g c = ?
+invariant_of-result g c = is_whole (shown_by g.S.Store c.new-tables.result) (shown_by g.S.Store c.read_desk.new.tables) c.in-Ok.lists c.in-Ok.ensures.read
 
--- src/store.rt:57:5
 pub returns-in-Ok-clause-opened : goal.returns-in-Ok-clause-opened
-returns-in-Ok-clause-opened g c = ?
+returns-in-Ok-clause-opened g c clean =
+    let new = shown_by g.S.Store c.read_desk.new.tables in
+    let counts = counts_of c.read_desk.new.tables in
+    subst (λ conn. Opened (state g.S.Store conn) (kept_of new counts 0 true)) c.new-tables.ensures.connection
+    (opened (shown_by g.S.Store c.new-tables.result) new counts 0 true c.in-Ok.lists (c.in-Ok.ensures.read clean) c.read_desk.ensures.survives clean)
