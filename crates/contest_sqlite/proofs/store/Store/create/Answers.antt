@@ -30,7 +30,8 @@ returns-in-Ok-make_or_read-clause-stood g c clean other =
     let same = c.new-tables.ensures.connection in
     subst (λ conn. StoodEqual c.args.contest (state g.S.Store conn) (kept_of new (counts_of c.make_or_read.new.tables) 0 true)) same
     (stood_equal (without_rows c.in-Ok.fixed.value) c.in-Ok.fixed.value.settings.head old new c.in-Ok-make_or_read.lists c.args.contest (counts_of c.make_or_read.new.tables) 0 true clean
-    (ap (λ (x : ContestState). x.fixed.settings.head) c.in-Ok.ensures.value) (c.in-Ok-make_or_read.ensures.outcome clean) (λ bare. other (subst (λ conn. IsBare (state g.S.Store conn)) same bare)))
+    (ap (λ (x : ContestState). x.fixed.settings.head) c.in-Ok.ensures.value) (c.in-Ok-make_or_read.ensures.outcome clean)
+    (λ bare. other (subst (λ conn. IsBare (state g.S.Store conn)) same bare)))
 
 pub returns-in-Err-make_or_read-clause-differs : goal.returns-in-Err-make_or_read-clause-differs
 returns-in-Err-make_or_read-clause-differs g c clean is =
