@@ -5,6 +5,7 @@ use Rattle.contest_types.specs.State.{ContestState, new_contest}
 use Rattle.contest_types.specs.declared.contest.Contest.{Contest}
 use Rattle.contest_types.specs.declared.contest.ContestHead.{ContestHead}
 use Rattle.contest_types.specs.declared.refusal.Refusal.{Refusal}
+use Rattle.contest_types.specs.declared.refusal.Refusal.TheVariants as refusal
 use Rattle.contest_types.specs.declared.refusal.Refusal.TheVariants.{KeyReused}
 use Rattle.contest_store.specs.Keeping.{Shows}
 use Rattle.contest_store.specs.Lists.{loaded}
@@ -43,7 +44,8 @@ module _ (x : ContestState) (head : ContestHead) (old new : State) (lists : Cont
   )
 
   module _ (c : Contest) (counts : Counts) (commits : ℕ) (is_loaded : Bool) (clean : HasCleanDisk new) where
-    pub created : x ≡ new_contest c → IsEither x head old new lists → Survives old new (λ db. contest_in_trees db ≡ Some x) → IsBare old → Created c old (kept_of new counts commits is_loaded)
+    pub created : x ≡ new_contest c → IsEither x head old new lists → Survives old new (λ db. contest_in_trees db ≡ Some x) → IsBare old
+        → Created c old (kept_of new counts commits is_loaded)
     created is (inl made) survives bare = record {
       shows = subst (λ y. Shows (kept_of new counts commits is_loaded) y y) is (shows new x x made.holds counts commits is_loaded);
       crash = λ d left. elim (survives.crash clean left.0 left.1) [ inl before ↦ inl (left.0, before, left.2) | inr it ↦ inr (sym left.2 ∙ it ∙ ap Some is) ];
@@ -69,7 +71,13 @@ not_reused : (e : StoreError) → refusal_of e ≡ KeyReused → ⊥
 not_reused Fault is = cc
 not_reused Memory is = cc
 
-pub stood_other : (head given : ContestHead) (old new : State) (refusal : Refusal) → head ≡ given → IsOfStore refusal ⊎ ((refusal ≡ KeyReused) × StoodOther head old new) → refusal ≡ KeyReused
-    → StoodOther given old new
+-- what isn't set up is malformed, or wants memory
+pub not_set_up : (given : Refusal) (P : Type 0) → (given ≡ refusal.Memory) ⊎ ((given ≡ refusal.Malformed) × P)
+    → (given ≡ refusal.Malformed) ⊎ ((given ≡ KeyReused) ⊎ IsOfStore given)
+not_set_up given P (inl is) = inr (inr (Memory, is))
+not_set_up given P (inr is) = inl is.0
+
+pub stood_other : (head given : ContestHead) (old new : State) (refusal : Refusal) → head ≡ given
+    → IsOfStore refusal ⊎ ((refusal ≡ KeyReused) × StoodOther head old new) → refusal ≡ KeyReused → StoodOther given old new
 stood_other head given old new refusal same (inl failed) is = absurd (not_reused failed.0 (sym failed.1 ∙ is))
 stood_other head given old new refusal same (inr other) is = subst (λ h. StoodOther h old new) same other.1

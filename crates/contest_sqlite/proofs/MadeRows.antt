@@ -53,8 +53,8 @@ HasDesk s now kept = Within s (Showing with_desk) kept
 -- with that of the contest these are its rows
 both_rows : (f : FixedPart) → HasHeadAlone f → with_rows Contest (contest_row f ∷ []) with_desk ≡ table_rows (without_rows f)
 both_rows f alone =
-    same_tables (with_rows Contest (contest_row f ∷ []) with_desk) (table_rows (without_rows f)) refl refl (sym (ap items_rows alone.settings)) (sym (ap (map (account_row f.settings)) alone.accounts))
-    refl refl refl refl refl refl
+    same_tables (with_rows Contest (contest_row f ∷ []) with_desk) (table_rows (without_rows f)) refl refl
+    (sym (ap items_rows alone.settings)) (sym (ap (map (account_row f.settings)) alone.accounts)) refl refl refl refl refl refl
 
 module _ (old mid : State) (b m : Counts) (desk : List ValueRef) (is : lent desk ≡ desk_row) where
   starts : (now kept : Content) → HasNoRow old now kept → Full old now kept × (HasInserted Desk (bound desk) mid now kept → HasDesk mid now kept)
@@ -64,17 +64,20 @@ module _ (old mid : State) (b m : Counts) (desk : List ValueRef) (is : lent desk
   )
 
   -- the row of the desk
-  pub desk_inserted : {T : Type 0} (r : Result T StoreError) → Step r old mid b m Full (HasInserted Desk (bound desk)) (MakesNone old Full) → Step r old mid b m HasNoRow HasDesk (MakesNone old HasNoRow)
+  pub desk_inserted : {T : Type 0} (r : Result T StoreError) → Step r old mid b m Full (HasInserted Desk (bound desk)) (MakesNone old Full)
+      → Step r old mid b m HasNoRow HasDesk (MakesNone old HasNoRow)
   desk_inserted r s = from_more r old mid b m Full HasNoRow (HasInserted Desk (bound desk)) HasDesk starts s
 
   -- and then that of the contest
   module _ (new : State) (a : Counts) (f : FixedPart) (alone : HasHeadAlone f) (contest : List ValueRef) (row_is : lent contest ≡ contest_row f) where
-    then_contest : (now kept : Content) → HasDesk mid now kept → (between : Content) × Full mid between kept × (HasInserted Contest (bound contest) new between kept → HasContest (without_rows f) new now kept)
+    then_contest : (now kept : Content) → HasDesk mid now kept
+        → (between : Content) × Full mid between kept × (HasInserted Contest (bound contest) new between kept → HasContest (without_rows f) new now kept)
     then_contest now kept within = (
       Showing with_desk,
       (within, (with_desk, refl)),
       λ inserted. subst (λ rows. Within new (Showing rows) kept) (both_rows f alone)
-          (inserted with_desk (contest_row f ∷ []) refl (only_row Contest (bound contest) (contest_row f) (bound_as contest (contest_row f) (contest_unreal f) row_is) (contest_given f))),
+          (inserted with_desk (contest_row f ∷ []) refl (only_row Contest (bound contest) (contest_row f) (bound_as contest (contest_row f) (contest_unreal f) row_is)
+          (contest_given f))),
     )
 
     pub rows_inserted : {T U : Type 0} (x : T) (r : Result U StoreError) → Step (Ok x) old mid b m Full (HasInserted Desk (bound desk)) (MakesNone old Full)
@@ -85,8 +88,10 @@ module _ (old mid : State) (b m : Counts) (desk : List ValueRef) (is : lent desk
         (λ db on none now kept from. (let next = then_contest now kept (on now kept from) in none next.0 kept next.1)) (λ db none. none)
 
 -- tables that were made, and then these rows
-pub made_with_rows : {T U : Type 0} (x : T) (r : Result U StoreError) (old mid new : State) (b m a : Counts) (f : FixedPart) → Step (Ok x) old mid b m (HasFirst 0) HasMade (MakesNone old (HasFirst 0))
-    → Step r mid new m a HasNoRow (HasContest (without_rows f)) (MakesNone mid HasNoRow) → Step r old new b a (HasFirst 0) (HasContest (without_rows f)) (MakesNone old (HasFirst 0))
+pub made_with_rows : {T U : Type 0} (x : T) (r : Result U StoreError) (old mid new : State) (b m a : Counts) (f : FixedPart)
+    → Step (Ok x) old mid b m (HasFirst 0) HasMade (MakesNone old (HasFirst 0))
+    → Step r mid new m a HasNoRow (HasContest (without_rows f)) (MakesNone mid HasNoRow)
+    → Step r old new b a (HasFirst 0) (HasContest (without_rows f)) (MakesNone old (HasFirst 0))
 made_with_rows x r old mid new b m a f one two =
     in_turn x r old mid new b m a (HasFirst 0) HasMade HasNoRow (HasContest (without_rows f)) (HasContest (without_rows f)) (MakesNone old (HasFirst 0)) (MakesNone mid HasNoRow) one two
     (λ now kept from made. (Showing no_row, (made, refl), λ to. to)) (λ db on none now kept from. none (Showing no_row) kept (on now kept from, refl)) (λ db none. none)

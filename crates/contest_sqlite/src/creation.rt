@@ -101,9 +101,11 @@ pub(crate) fn make_or_read<S: Alter>(
     requires numbered { IsNumbered (shown_by S.Store tables.old) }
     requires new { HasHeadAlone fixed.value }
     requires sound { IsSound (without_rows fixed.value) }
-    ensures outcome { HasCleanDisk (shown_by S.Store tables.new) → IfOk result (λ lists. IsMade (without_rows fixed.value) (shown_by S.Store tables.old) (shown_by S.Store tables.new) lists
+    ensures outcome { HasCleanDisk (shown_by S.Store tables.new)
+        → IfOk result (λ lists. IsMade (without_rows fixed.value) (shown_by S.Store tables.old) (shown_by S.Store tables.new) lists
         ⊎ IsReadEqual fixed.value.settings.head (shown_by S.Store tables.old) (shown_by S.Store tables.new) lists) }
-    ensures differs { HasCleanDisk (shown_by S.Store tables.new) → IfErr result (λ e. IsOfStore e ⊎ ((e ≡ Refusal.KeyReused) × StoodOther fixed.value.settings.head (shown_by S.Store tables.old) (shown_by S.Store tables.new))) }
+    ensures differs { HasCleanDisk (shown_by S.Store tables.new)
+        → IfErr result (λ e. IsOfStore e ⊎ ((e ≡ Refusal.KeyReused) × StoodOther fixed.value.settings.head (shown_by S.Store tables.old) (shown_by S.Store tables.new))) }
     ensures kinds { IfErr result (λ e. IsOfStore e ⊎ (e ≡ Refusal.KeyReused)) }
     ensures counts { OnOk result (counts_of tables.new ≡ counts_of tables.old) }
     ensures survives { Survives (shown_by S.Store tables.old) (shown_by S.Store tables.new) (λ db. contest_in_trees db ≡ Some (without_rows fixed.value)) }
@@ -126,7 +128,8 @@ fn read_equal<S: Alter>(
     requires numbered { IsNumbered (shown_by S.Store tables.old) }
     requires stood { ¬ IsBare (shown_by S.Store tables.old) }
     ensures equal { HasCleanDisk (shown_by S.Store tables.new) → IfOk result (IsReadEqual head.now (shown_by S.Store tables.old) (shown_by S.Store tables.new)) }
-    ensures differs { HasCleanDisk (shown_by S.Store tables.new) → IfErr result (λ e. IsOfStore e ⊎ ((e ≡ Refusal.KeyReused) × StoodOther head.now (shown_by S.Store tables.old) (shown_by S.Store tables.new))) }
+    ensures differs { HasCleanDisk (shown_by S.Store tables.new)
+        → IfErr result (λ e. IsOfStore e ⊎ ((e ≡ Refusal.KeyReused) × StoodOther head.now (shown_by S.Store tables.old) (shown_by S.Store tables.new))) }
     ensures kinds { IfErr result (λ e. IsOfStore e ⊎ (e ≡ Refusal.KeyReused)) }
     ensures counts { OnOk result (counts_of tables.new ≡ counts_of tables.old) }
     ensures survives { Survives (shown_by S.Store tables.old) (shown_by S.Store tables.new) (λ _. ⊥) }

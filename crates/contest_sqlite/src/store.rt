@@ -41,14 +41,14 @@ impl<S: Alter> Model for Store<S> {
 }
 
 impl<S: Alter> Store<S> {
-    ghost use Rattle.std.specs.Prelude.{false, IfOk, IfErr, OnOk, Some, true};
+    ghost use Rattle.std.specs.Prelude.{◌⊎◌, false, IfOk, IfErr, OnOk, Some, true};
     ghost use Rattle.sqlite.specs.Held.{state};
     ghost use Rattle.sqlite.specs.State.{HasCleanDisk, Survives};
     ghost use Rattle.contest_types.specs.State.{new_contest};
     ghost use Rattle.contest_types.specs.Valid.{is_valid};
     ghost use Rattle.contest_tables.specs.Connected.{IsBare};
     ghost use Rattle.contest_sqlite.specs.Contests.{committed_of, contest_in_trees, contest_of};
-    ghost use Rattle.contest_sqlite.specs.Creation.{Created, StoodEqual, StoodOther};
+    ghost use Rattle.contest_sqlite.specs.Creation.{Created, IsOfStore, StoodEqual, StoodOther};
     ghost use Rattle.contest_sqlite.specs.Keeping.{IsTrusted};
     ghost use Rattle.contest_sqlite.specs.Opening.{IsNew, IsNumbered, Opened};
     ghost use Rattle.contest_sqlite.specs.Value.{shown_in, stored};
@@ -100,6 +100,7 @@ impl<S: Alter> Store<S> {
         ensures new { IfOk result IsNew }
         ensures valid { OnOk result (is_valid (new_contest contest) ≡ true) }
         ensures differs { IfErr result (λ e. HasCleanDisk (state S.Store e.1) → e.0 ≡ Refusal.KeyReused → StoodOther contest.head (state S.Store conn) (state S.Store e.1)) }
+        ensures kinds { IfErr result (λ e. (e.0 ≡ Refusal.Malformed) ⊎ ((e.0 ≡ Refusal.KeyReused) ⊎ IsOfStore e.0)) }
         ensures malformed { IfErr result (λ e. e.0 ≡ Refusal.Malformed → (is_valid (new_contest contest) ≡ false) × (e.1 ≡ conn)) }
         ensures refused { IfErr result (λ e. Survives (state S.Store conn) (state S.Store e.1) (λ db. contest_in_trees db ≡ Some (new_contest contest))) }
     {

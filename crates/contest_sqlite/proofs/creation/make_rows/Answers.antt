@@ -16,4 +16,6 @@ returns-in-Ok g c =
 pub returns-in-Err : goal.returns-in-Err
 returns-in-Err g c =
     let old = shown_by g.S.Store c.args.tables.now in
-    not_begun old old (shown_by g.S.Store c.begin.new.self) (counts_of c.args.tables.now) (counts_of c.args.tables.now) _ HoldsNone (HasFirst 0) (HasContest (without_rows c.args.fixed.now)) (none_holds old) c.in-Err.error c.in-Err.ensures
+    let counts = counts_of c.args.tables.now in
+    not_begun old old (shown_by g.S.Store c.begin.new.self) counts counts _ HoldsNone (HasFirst 0) (HasContest (without_rows c.args.fixed.now)) (none_holds old)
+    c.in-Err.error c.in-Err.ensures

@@ -6,7 +6,7 @@ use Rattle.contest_spelling.specs.Spelling.{without_rows}
 use Rattle.contest_tables.specs.Connected.{IsBare, counts_of, shown_by}
 use Rattle.contest_sqlite.specs.Creation.{Created, StoodEqual, StoodOther}
 use Rattle.contest_sqlite.specs.Keeping.{kept_of}
-use Rattle.contest_sqlite.proofs.CreatedStores.{created, created_whole, stood_equal, stood_other}
+use Rattle.contest_sqlite.proofs.CreatedStores.{created, created_whole, not_set_up, stood_equal, stood_other}
 use Rattle.contest_sqlite.proofs.store.Store.create.Goals as goal
 
 pub invariant_of-result : goal.invariant_of-result
@@ -30,7 +30,8 @@ returns-in-Ok-make_or_read-clause-stood g c clean other =
     let same = c.new-tables.ensures.connection in
     subst (λ conn. StoodEqual c.args.contest (state g.S.Store conn) (kept_of new (counts_of c.make_or_read.new.tables) 0 true)) same
     (stood_equal (without_rows c.in-Ok.fixed.value) c.in-Ok.fixed.value.settings.head old new c.in-Ok-make_or_read.lists c.args.contest (counts_of c.make_or_read.new.tables) 0 true clean
-    (ap (λ (x : ContestState). x.fixed.settings.head) c.in-Ok.ensures.value) (c.in-Ok-make_or_read.ensures.outcome clean) (λ bare. other (subst (λ conn. IsBare (state g.S.Store conn)) same bare)))
+    (ap (λ (x : ContestState). x.fixed.settings.head) c.in-Ok.ensures.value) (c.in-Ok-make_or_read.ensures.outcome clean)
+    (λ bare. other (subst (λ conn. IsBare (state g.S.Store conn)) same bare)))
 
 pub returns-in-Err-make_or_read-clause-differs : goal.returns-in-Err-make_or_read-clause-differs
 returns-in-Err-make_or_read-clause-differs g c clean is =
@@ -40,3 +41,6 @@ returns-in-Err-make_or_read-clause-differs g c clean is =
     subst₂ (λ before after. StoodOther c.args.contest.head (state g.S.Store before) (state g.S.Store after)) c.new-tables.ensures.connection (sym later)
     (stood_other c.in-Ok.fixed.value.settings.head c.args.contest.head old new c.in-Err-make_or_read.refusal (ap (λ (x : ContestState). x.fixed.settings.head) c.in-Ok.ensures.value)
     (c.in-Err-make_or_read.ensures.differs (subst (λ conn. HasCleanDisk (state g.S.Store conn)) later clean)) is)
+
+pub returns-in-Err-clause-kinds : goal.returns-in-Err-clause-kinds
+returns-in-Err-clause-kinds g c = not_set_up c.in-Err.refusal _ c.in-Err.ensures.refused
