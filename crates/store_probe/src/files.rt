@@ -1,12 +1,10 @@
 //! A store over the files at a path.
 ghost use Rattle.std.specs.Prelude.{◌≡◌, ◌≢◌, IfOk};
-ghost use Rattle.sqlite.specs.Files.{file_state};
-ghost use Rattle.sqlite.specs.Start.{FindsIn};
+ghost use Rattle.sqlite.specs.Files.{file_state, over_files};
 ghost use Rattle.sqlite.specs.State.{HasCleanDisk};
-ghost use Rattle.sqlite_wal.specs.Files.{image_at};
-ghost use Rattle.contest_sqlite.specs.Opening.{IsNumbered};
+ghost use Rattle.contest_sqlite.specs.Opening.{IsNew, IsNumbered};
 ghost use Rattle.contest_sqlite.specs.Value.{shown_in, stored};
-ghost use Rattle.store_probe.specs.Found.{OpensOver};
+ghost use Rattle.store_probe.specs.Found.{ShowsSome};
 
 use contest_sqlite::Store;
 use contest_types::Refusal;
@@ -23,7 +21,8 @@ pub(crate) fn open_store<S: Start>(
     path: &str,
     start: S,
 ) -> Result<Store<FileStore<FileFrom<S>>>, Refusal>
-    ensures { IfOk result (λ store. HasCleanDisk (file_state store.conn) → OpensOver (image_at S.Start) store) }
+    ensures shows { IfOk result (λ store. HasCleanDisk (shown_in over_files store) → ShowsSome (stored over_files store)) }
+    ensures new { IfOk result IsNew }
 {
     let conn = open_files(rt, path, start)?;
     match Store::open(rt.alloc(), conn) {
@@ -38,8 +37,7 @@ fn open_files<S: Start>(
     path: &str,
     start: S,
 ) -> Result<Connection<FileStore<FileFrom<S>>>, Refusal>
-    ensures found { IfOk result (λ conn. HasCleanDisk (file_state conn) → FindsIn (image_at S.Start) (file_state conn)) }
-    ensures numbered { IfOk result (λ conn. IsNumbered (file_state conn)) }
+    ensures { IfOk result (λ conn. IsNumbered (file_state conn)) }
 {
     match Connection::open_from(rt, path, false, start) {
         Ok(conn) => Ok(conn),

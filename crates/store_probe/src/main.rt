@@ -16,9 +16,8 @@ use contest_store::ContestStore;
 use contest_types::Refusal;
 use sqlite::Unknown;
 use std::alloc::AllocError;
-use std::env;
-use std::io;
 use std::process::ExitCode;
+use std::{env, io};
 
 /// What was done.
 #[derive(Drop)]
