@@ -1,0 +1,56 @@
+//! A store over the files at a path.
+ghost use Rattle.std.specs.Prelude.{◌≡◌, ◌≢◌, IfOk};
+ghost use Rattle.sqlite.specs.Files.{file_state, over_files};
+ghost use Rattle.sqlite.specs.State.{HasCleanDisk};
+ghost use Rattle.contest_sqlite.specs.Opening.{IsNew, IsNumbered};
+ghost use Rattle.contest_sqlite.specs.Value.{shown_in, stored};
+ghost use Rattle.store_probe.specs.Found.{ShowsSome};
+
+use contest_sqlite::Store;
+use contest_types::Refusal;
+use sqlite::{Connection, Error, ErrorCode, FileFrom, FileStore, Start};
+
+/// The store over the tables that the files hold, of whatever first contents.
+///
+/// # Errors
+///
+/// `StoreFault` where the files hold no valid contest or can't be read; `Memory` where a growth was
+/// refused.
+pub(crate) fn open_store<S: Start>(
+    rt: &HostRuntime,
+    path: &str,
+    start: S,
+) -> Result<Store<FileStore<FileFrom<S>>>, Refusal>
+    ensures shows { IfOk result (λ store. HasCleanDisk (shown_in over_files store) → ShowsSome (stored over_files store)) }
+    ensures new { IfOk result IsNew }
+{
+    let conn = open_files(rt, path, start)?;
+    match Store::open(rt.alloc(), conn) {
+        Ok(store) => Ok(store),
+        Err((refusal, _)) => Err(refusal),
+    }
+}
+
+// A connection to the files, in whose database a desk's rows rise by their numbers.
+fn open_files<S: Start>(
+    rt: &HostRuntime,
+    path: &str,
+    start: S,
+) -> Result<Connection<FileStore<FileFrom<S>>>, Refusal>
+    ensures { IfOk result (λ conn. IsNumbered (file_state conn)) }
+{
+    match Connection::open_from(rt, path, false, start) {
+        Ok(conn) => Ok(conn),
+        Err((error, _)) => Err(refusal_of(&error)),
+    }
+}
+
+fn refusal_of(error: &Error) -> Refusal
+    ensures memory { error.now ≡ Error.SqliteFailure ErrorCode.OutOfMemory → result ≡ Refusal.Memory }
+    ensures fault { error.now ≢ Error.SqliteFailure ErrorCode.OutOfMemory → result ≡ Refusal.StoreFault }
+{
+    match error {
+        Error::SqliteFailure(ErrorCode::OutOfMemory) => Refusal::Memory,
+        _ => Refusal::StoreFault,
+    }
+}

@@ -1,0 +1,92 @@
+//! The program `store_probe`, for tests from outside: opens the file of a contest as the store does, and
+//! tells what it found or why it was refused.
+//!
+//! - `store_probe open FILE` prints how many rows there are of each kind.
+//! - `store_probe thaw FILE MILLISECONDS` sets the thaw, so long after 1970, and commits it.
+#![tactic(auto)]
+
+mod files;
+mod tasks;
+mod words;
+
+use crate::files::open_store;
+use crate::tasks::{counts_of, thaw};
+use crate::words::{Task, task_of};
+use contest_store::ContestStore;
+use contest_types::Refusal;
+use sqlite::Unknown;
+use std::alloc::AllocError;
+use std::process::ExitCode;
+use std::{env, io};
+
+/// What was done.
+#[derive(Drop)]
+enum Done {
+    /// The file is a contest's, with so many rows of each kind.
+    Opened([usize; 11]),
+    /// The thaw is committed.
+    Thawed,
+}
+
+fn main(rt: HostRuntime) -> ExitCode {
+    let said = match words_of(&rt) {
+        Ok(words) => match task_of(&words) {
+            Some(task) => tell(&rt, &answer(&rt, task)),
+            None => tell_usage(&rt),
+        },
+        Err(refusal) => tell(&rt, &Err(refusal)),
+    };
+    ExitCode::from(said.unwrap_or(3))
+}
+
+fn words_of(rt: &HostRuntime) -> Result<Vec<String>, Refusal> {
+    match env::args(rt) {
+        Ok(args) => match args.skip(1).collect::<Vec<String>>(rt.alloc()) {
+            Ok(words) => Ok(words),
+            Err(AllocError) => Err(Refusal::Memory),
+        },
+        Err(error) if error.kind() == io::ErrorKind::OutOfMemory => Err(Refusal::Memory),
+        Err(_) => Err(Refusal::Malformed),
+    }
+}
+
+fn answer(rt: &HostRuntime, task: Task<'_>) -> Result<Done, Refusal> {
+    match task {
+        Task::Open(path) => {
+            let store = open_store(rt, path, Unknown)?;
+            Ok(Done::Opened(counts_of(store.lists())))
+        }
+        Task::Thaw(path, moment) => {
+            let mut store = open_store(rt, path, Unknown)?;
+            thaw(rt.alloc(), &mut store, moment)?;
+            Ok(Done::Thawed)
+        }
+    }
+}
+
+fn tell(rt: &HostRuntime, done: &Result<Done, Refusal>) -> io::Result<u8> {
+    match done {
+        Ok(Done::Opened(counts)) => {
+            print!(rt; "open:")?;
+            for count in counts {
+                print!(rt; " {count}")?;
+            }
+            println!(rt; "")?;
+            Ok(0)
+        }
+        Ok(Done::Thawed) => {
+            println!(rt; "done")?;
+            Ok(0)
+        }
+        Err(refusal) => {
+            let row = refusal.row();
+            println!(rt; "refused: E{} {}", row.number, row.name)?;
+            Ok(1)
+        }
+    }
+}
+
+fn tell_usage(rt: &HostRuntime) -> io::Result<u8> {
+    eprintln!(rt; "usage: store_probe open FILE | thaw FILE MILLISECONDS")?;
+    Ok(2)
+}

@@ -1,0 +1,315 @@
+#!/usr/bin/env python3
+"""Makes files with sqlite3, and holds what the store answers that is opened over them.
+
+    store_files.py [--program PATH] [--every N] [--no-memory]
+
+The program is store_probe, which opens a file as the store does, and sets the thaw if it is asked to. What is in a file
+afterwards is asked of sqlite3. tables/store_demo.sql is a contest; tables/store_rows.tsv has changes of it, which leave
+another contest or break one rule each, and tables/store_files.tsv other databases. A file that is refused keeps its
+bytes, and a change is made whole or not at all: also where one of the program's calls for memory is refused (see
+refuse_call.c), each alone, and all from one on. With --every N only each Nth is.
+
+Takes sqlite3 and a C compiler. Ends with the line `N passed, M failed`; the exit status is 0 where M is 0.
+"""
+
+import argparse
+import concurrent.futures
+import os
+import pathlib
+import random
+import re
+import shutil
+import subprocess
+import sys
+import tempfile
+
+sys.dont_write_bytecode = True
+
+import refuse_memory
+
+TESTS = pathlib.Path(__file__).resolve().parent
+ROOT = TESTS.parent
+TEXTS = (ROOT / "crates/contest_tables/src/texts.rt").read_text(encoding="utf-8")
+TABLES = "".join(text + ";\n" for text in re.findall(r'"(CREATE TABLE [^"]*)"', TEXTS))
+ROWS = (TESTS / "tables/store_demo.sql").read_text(encoding="utf-8")
+COUNTS = "3 2 3 2 4 7 5 4 4 3 4"
+OPEN = (0, f"open: {COUNTS}\n", "")
+DONE = (0, "done\n", "")
+FAULT = (1, "refused: E24 StoreFault\n", "")
+MEMORY = (1, "refused: E25 Memory\n", "")
+THAW = 1709388000000
+LAST_MOMENT = 253370764799999
+
+# Words that are none, with a file that isn't there.
+WORDS = [
+    [],
+    ["open"],
+    ["shut", "{}"],
+    ["open", "{}", "{}"],
+    ["thaw", "{}"],
+    ["thaw", "{}", ""],
+    ["thaw", "{}", "-1"],
+    ["thaw", "{}", "1e3"],
+    ["thaw", "{}", str(LAST_MOMENT + 1)],
+    ["thaw", "{}", str(2**64)],
+    ["thaw", "{}", "1", "2"],
+]
+
+
+def rows(name):
+    """The rows of a table of cases, each a list of its columns."""
+    lines = (TESTS / "tables" / name).read_text(encoding="utf-8").splitlines()
+    return [line.split("\t") for line in lines if not line.startswith("#")]
+
+
+def filled(sql):
+    """The SQL of a case with the tables and the rows that it names."""
+
+    def tables(named):
+        if named[1] is None:
+            return TABLES
+        if TABLES.count(named[1]) != 1:
+            sys.exit(f"{named[1]!r} stands {TABLES.count(named[1])} times in the tables")
+        return TABLES.replace(named[1], named[2])
+
+    return re.sub(r"\{TABLES(?:\|([^|}]*)\|([^|}]*))?\}", tables, sql).replace("{ROWS}", ROWS)
+
+
+def sqlite(path, sql):
+    """What sqlite3 answers, as the command line program that anybody has."""
+    done = subprocess.run(["sqlite3", "-bail", path], input=sql.encode(), capture_output=True, timeout=120)
+    if done.returncode or done.stderr:
+        sys.exit(f"sqlite3 on {path}: {done.stderr.decode()}{sql[:300]}")
+    return done.stdout.decode("utf-8", "replace")
+
+
+def dump(path):
+    """All that sqlite3 shows of a file. It reads a copy, so that it never writes the file itself."""
+    with tempfile.TemporaryDirectory(dir=path.parent) as folder:
+        for name in (path.name, f"{path.name}-wal"):
+            if (path.parent / name).is_file():
+                shutil.copy(path.parent / name, folder)
+        return sqlite(pathlib.Path(folder, path.name), ".dump")
+
+
+def thawed(text, moment):
+    """What sqlite3 shows once the thaw is set: the contest's row has it, and all else is as it was."""
+    return re.sub(r"(?m)^(INSERT INTO contest VALUES\(.*),[^,]*,([^,]*\);)$", rf"\1,{moment},\2", text)
+
+
+def answer_of(cell):
+    return FAULT if cell == "E24" else (0, f"open: {cell}\n", "")
+
+
+class Probe:
+    """The program, the folder in which each case has a file of its own, and what was counted."""
+
+    def __init__(self, program, folder):
+        self.program, self.folder = program, pathlib.Path(folder)
+        self.made = self.passed = self.failed = 0
+        self.good = self.new_file()
+        sqlite(self.good, TABLES + ROWS)
+
+    def new_file(self):
+        self.made += 1
+        return self.folder / f"case{self.made}.db"
+
+    def copy(self):
+        """The demo contest in a file of its own."""
+        path = self.new_file()
+        shutil.copy(self.good, path)
+        return path
+
+    def run(self, *words):
+        done = subprocess.run([self.program, *map(str, words)], capture_output=True, cwd=self.folder, timeout=120)
+        return done.returncode, done.stdout.decode(), done.stderr.decode()
+
+    def note(self, is_right, what):
+        self.passed, self.failed = self.passed + is_right, self.failed + (not is_right)
+        if not is_right:
+            print(f"FAILED: {what}", flush=True)
+
+    def answers(self, what, wanted, *words):
+        given = self.run(*words)
+        self.note(given == wanted, f"{what}: {given}, wanted {wanted}")
+
+    def holds(self, what, path, wanted):
+        """An open gives this answer, and the file keeps its bytes and all that it shows."""
+        was, shown = path.read_bytes(), dump(path)
+        given = self.run("open", path)
+        same = path.read_bytes() == was and dump(path) == shown
+        self.note(given == wanted and same, f"{what}: {given}, wanted {wanted}" + ("" if same else "; the file has changed"))
+
+    def thaws(self, what, path, wanted):
+        """A thaw is made whole or refused, and nothing else changes."""
+        was, shown = path.read_bytes(), dump(path)
+        given = self.run("thaw", path, THAW)
+        if wanted == DONE:
+            same = dump(path) == thawed(shown, THAW) != shown
+        else:
+            same = path.read_bytes() == was and dump(path) == shown
+        self.note(given == wanted and same, f"thaw of {what}: {given}, wanted {wanted}" + ("" if same else "; the file shows otherwise"))
+
+
+def try_demo(probe):
+    """The demo contest is opened, thawed and written by both in turn."""
+    path = probe.copy()
+    probe.holds("the demo contest", path, OPEN)
+    probe.holds("the demo contest once more", path, OPEN)
+    probe.thaws("the demo contest", path, DONE)
+    probe.holds("the demo contest once it is thawed", path, OPEN)
+    for moment in (0, LAST_MOMENT):
+        shown = dump(path)
+        probe.answers(f"the thaw at {moment}", DONE, "thaw", path, moment)
+        probe.note(dump(path) == thawed(shown, moment), f"the thaw at {moment} isn't all that changed")
+    sqlite(path, "INSERT INTO releases VALUES (5, 4, 1, 1, 'AC', 1709371000000)")
+    probe.holds("what sqlite3 wrote after it", path, (0, "open: 3 2 3 2 4 7 5 4 5 3 4\n", ""))
+    sqlite(path, "UPDATE releases SET n = 2 WHERE seq = 5")
+    probe.holds("what sqlite3 wrote wrong after it", path, FAULT)
+    probe.thaws("what sqlite3 wrote wrong after it", path, FAULT)
+
+
+def try_rows(probe):
+    """Each change of the demo contest leaves a contest or breaks a rule."""
+    for cell, what, sql in rows("store_rows.tsv"):
+        path = probe.copy()
+        sqlite(path, sql)
+        probe.holds(what, path, answer_of(cell))
+        probe.thaws(what, path, FAULT if cell == "E24" else DONE)
+        path.unlink()
+
+
+def try_databases(probe):
+    for cell, what, sql in rows("store_files.tsv"):
+        path = probe.new_file()
+        sqlite(path, filled(sql))
+        probe.holds(what, path, answer_of(cell))
+        probe.thaws(what, path, FAULT if cell == "E24" else DONE)
+
+
+def keeps(probe, what, path, data):
+    """A file with these bytes is refused, and keeps them."""
+    path.write_bytes(data)
+    probe.answers(what, FAULT, "open", path)
+    probe.answers(f"thaw of {what}", FAULT, "thaw", path, THAW)
+    probe.note(path.read_bytes() == data, f"{what} has changed")
+
+
+def try_no_databases(probe):
+    """Files that are no databases are refused and keep their bytes. Where there is none, or one that was hardly begun, an
+    open makes a database without tables."""
+    good, chance = probe.good.read_bytes(), random.Random(1)
+    keeps(probe, "a text", probe.new_file(), b"kind,id,f1,f2,f3\ncontest,demo,Demo Cup,5:00:00,1:00:00\n")
+    keeps(probe, "statements", probe.new_file(), (TABLES + ROWS).encode())
+    keeps(probe, "garbage", probe.new_file(), chance.randbytes(20000))
+    keeps(probe, "garbage that begins with an S", probe.new_file(), b"S" + chance.randbytes(20000))
+    keeps(probe, "a database's header and garbage", probe.new_file(), good[:100] + chance.randbytes(20000))
+    keeps(probe, "a database's first page", probe.new_file(), good[:4096])
+    for size in (2, 99, 100, 4095, 4097, len(good) // 2, len(good) - 4096, len(good) - 1):
+        keeps(probe, f"the first {size} bytes", probe.new_file(), good[:size])
+    for page in range(len(good) // 4096):
+        hole = good[: page * 4096] + bytes(4096) + good[page * 4096 + 4096 :]
+        keeps(probe, f"page {page + 1} full of zeros", probe.new_file(), hole)
+    for what, data in (("no file", None), ("an empty file", b""), ("one byte", b"S")):
+        path = probe.new_file()
+        if data is not None:
+            path.write_bytes(data)
+        probe.answers(what, FAULT, "open", path)
+        probe.answers(f"thaw of {what}", FAULT, "thaw", path, THAW)
+        probe.note(sqlite(path, "SELECT count(*) FROM sqlite_schema; PRAGMA integrity_check") == "0\nok\n", f"{what} left more than an empty database")
+
+
+def try_paths(probe):
+    """Paths that name no file of one's own, links, and a file that sqlite3 writes at that moment."""
+    pipe, other, link, path, journal = (probe.new_file() for _ in range(5))
+    os.mkfifo(pipe)
+    for what, none in (("a folder", probe.folder), ("a path through a file", probe.good / "x"), ("no such folder", probe.folder / "none/x.db"), ("a pipe", pipe), ("memory", ":memory:"), ("a URI", f"file:{probe.good}"), ("no name", "")):
+        probe.answers(what, FAULT, "open", none)
+    shutil.copy(probe.good, path)
+    os.link(path, other)
+    probe.answers("a second name", FAULT, "open", other)
+    other.unlink()
+    os.symlink(path, link)
+    probe.answers("a link", OPEN, "open", link)
+    shown = dump(path)
+    probe.answers("thaw of a link", DONE, "thaw", link, THAW)
+    probe.note(dump(path) == thawed(shown, THAW), "a thaw by a link isn't all that changed where it leads")
+    shutil.copy(probe.good, journal)
+    pathlib.Path(f"{journal}-journal").write_bytes(b"\xd9\xd5\x05\xf9\x20\xa1\x63\xd7" + bytes(504))
+    probe.answers("a journal beside it", FAULT, "open", journal)
+    probe.note(journal.read_bytes() == probe.good.read_bytes(), "the file beside a journal has changed")
+    path = probe.copy()
+    with subprocess.Popen(["sqlite3", path], stdin=subprocess.PIPE, stdout=subprocess.PIPE) as writer:
+        writer.stdin.write(b"BEGIN IMMEDIATE; UPDATE contest SET name = 'Cup'; SELECT 1;\n")
+        writer.stdin.flush()
+        writer.stdout.readline()
+        probe.answers("a file that sqlite3 writes", FAULT, "thaw", path, THAW)
+        writer.communicate(b"COMMIT;\n")
+    probe.note("'demo','Cup',18000000" in dump(path), "what sqlite3 wrote in the meantime is gone")
+    probe.thaws("the file that sqlite3 wrote", path, DONE)
+
+
+def try_words(probe):
+    for words in WORDS:
+        path = probe.new_file()
+        given = probe.run(*(word.format(path) for word in words))
+        probe.note(given[:2] == (2, "") and given[2].startswith("usage: ") and not path.exists(), f"{words}: {given}")
+
+
+def refuse(probe, library, call, later):
+    """A thaw with this call for memory refused: what was wrong of it, what it answered, and whether a call was refused."""
+    with tempfile.TemporaryDirectory(dir=probe.folder) as folder:
+        path = pathlib.Path(folder, "case.db")
+        shutil.copy(probe.good, path)
+        given, refused = refuse_memory.run(probe.program, library, ["thaw", str(path), str(THAW)], b"", call, later)
+        given = given[0], given[1].decode(), given[2].decode()
+        shown = dump(path)
+    wanted = {DONE: thawed(probe.shown, THAW), MEMORY: probe.shown}
+    wrong = None if wanted.get(given) == shown else f"call {call} refused{' and all after it' if later else ''}: {given}"
+    if wrong and given in wanted:
+        wrong += ", but sqlite3 shows " + ("the thaw" if shown == thawed(probe.shown, THAW) else "something else")
+    return wrong, given, refused > 0
+
+
+def try_memory(probe, every):
+    """Each of the program's calls for memory is refused in turn, as many side by side as there are processors."""
+    probe.shown = dump(probe.good)
+    library = f"{probe.folder}/refuse_call.so"
+    subprocess.run(["cc", "-O1", "-shared", "-fPIC", "-o", library, str(TESTS / "refuse_call.c"), "-ldl"], check=True)
+    lanes = os.cpu_count() or 1
+    with concurrent.futures.ThreadPoolExecutor(lanes) as pool:
+        for later in (False, True):
+            call, refused, same, is_over = 1, 0, 0, False
+            while not is_over:
+                calls = range(call, call + 64 * every, every)
+                for wrong, given, was_refused in pool.map(lambda n: refuse(probe, library, n, later), calls):
+                    is_over = is_over or not was_refused
+                    probe.note(wrong is None, wrong)
+                    refused, same = refused + was_refused, same + (was_refused and given == DONE)
+                call += 64 * every
+            ways = "each from one on" if later else "each alone"
+            print(f"thaw, {ways}: {refused} calls refused, {same} of them without any change", flush=True)
+
+
+def main():
+    parser = argparse.ArgumentParser(description=__doc__, formatter_class=argparse.RawDescriptionHelpFormatter)
+    parser.add_argument("--program", default=str(ROOT / "crates/store_probe/out/store_probe"))
+    parser.add_argument("--every", type=int, default=1, metavar="N")
+    parser.add_argument("--no-memory", action="store_true")
+    options = parser.parse_args()
+    if not pathlib.Path(options.program).is_file():
+        parser.error(f"there is no program {options.program}: build it, or name one by --program")
+    with tempfile.TemporaryDirectory() as folder:
+        probe = Probe(str(pathlib.Path(options.program).resolve()), folder)
+        for part in (try_demo, try_rows, try_databases, try_no_databases, try_paths, try_words):
+            before = probe.passed
+            part(probe)
+            print(f"{part.__name__[4:].replace('_', ' ')}: {probe.passed - before} held", flush=True)
+        if not options.no_memory:
+            try_memory(probe, options.every)
+        print(f"{probe.passed} passed, {probe.failed} failed")
+    return 1 if probe.failed else 0
+
+
+if __name__ == "__main__":
+    sys.exit(main())
