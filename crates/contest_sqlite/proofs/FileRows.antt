@@ -81,13 +81,13 @@ first_bytes : (team n : ℕ) (xs : List Submission) → option_map (λ r. bytes_
 first_bytes team n xs = ap (option_map (λ r. bytes_of (column r 0))) (first_found file_row (λ (s : Submission). names team n (of_submission s)) xs) ∙ bytes_back _
 
 -- the first row that was found has the file
-pub found_file : (x : ContestState) (team n : ℕ) (rows : List Row) → IsSound x → IsPermutation (files_of (number (team + 1)) (number n) (table_rows x Submissions)) rows
-    → option_map (λ r. bytes_of (column r 0)) (slice_get rows 0) ≡ file_of x team n
-found_file x team n rows sound p =
+pub found_file : (x : ContestState) (team n : ℕ) (loaded : List Row) → IsSound x → IsPermutation (files_of (number (team + 1)) (number n) (table_rows x Submissions)) loaded
+    → option_map (λ r. bytes_of (column r 0)) (slice_get loaded 0) ≡ file_of x team n
+found_file x team n loaded sound p =
     let own = named_by team n x.submissions in
-    let found = subst (λ l. IsPermutation l rows) (files_from x.fixed.settings team n 1 x.submissions) p in
+    let found = subst (λ l. IsPermutation l loaded) (files_from x.fixed.settings team n 1 x.submissions) p in
     let few : length (map file_row own) ≤ 1 = omega (arith, length-map own file_row, one_named x team n sound.valid) in
-    ap (λ l. option_map (λ r. bytes_of (column r 0)) (slice_get l 0)) (same_list (map file_row own) rows few found) ∙ first_bytes team n x.submissions
+    ap (λ l. option_map (λ r. bytes_of (column r 0)) (slice_get l 0)) (same_list (map file_row own) loaded few found) ∙ first_bytes team n x.submissions
 
 -- a submission that isn't there has none
 no_file : (x : ContestState) (team n : ℕ) → named_by team n x.submissions ≡ [] → file_of x team n ≡ None

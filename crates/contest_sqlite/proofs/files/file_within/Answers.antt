@@ -23,7 +23,7 @@ returns-in-Ok-first_file-clause-value g c clean x kept sound within =
     let n = c.args.number in
     let cells = place_cells team n c.if-team.false (omega (arith, c.if-number.false)) in
     let found = c.in-Ok.ensures.rows clean (table_rows x) kept within (number (team + 1)) (number n) cells in
-    c.in-Ok-first_file.ensures ∙ ap (λ rows. option_map (λ r. bytes_of (column r 0)) (slice_get rows 0)) c.deref.ensures.value ∙ found_file x team n c.in-Ok.rows.items sound found
+    c.in-Ok-first_file.ensures ∙ ap (λ l. option_map (λ r. bytes_of (column r 0)) (slice_get l 0)) c.deref.ensures.value ∙ found_file x team n c.in-Ok.rows.items sound found
 
 pub returns-in-Ok-clause-step : goal.returns-in-Ok-clause-step
 returns-in-Ok-clause-step g c =
