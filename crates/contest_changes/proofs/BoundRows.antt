@@ -9,6 +9,7 @@ use Rattle.sqlite_value.specs.declared.value.ValueRef.{ValueRef}
 use Rattle.contest_types.specs.ProblemPlaces.{problem_id_at}
 use Rattle.contest_types.specs.SettingsNames.{type_id_at}
 use Rattle.contest_types.specs.Setup.{Setup}
+use Rattle.contest_types.specs.State.{FixedPart}
 use Rattle.contest_types.specs.declared.account.Account.{Account}
 use Rattle.contest_types.specs.declared.clarification.Clarification.{Clarification}
 use Rattle.contest_types.specs.declared.marks.Marks.{Marks}
@@ -20,7 +21,7 @@ use Rattle.contest_types.specs.declared.rejudging.RejudgingState.{RejudgingState
 use Rattle.contest_types.specs.declared.submission.Release.{Release}
 use Rattle.contest_types.specs.declared.submission.Submission.{Submission}
 use Rattle.contest_rows.specs.Cells.{lent, number}
-use Rattle.contest_rows.specs.FixedRows.{account_row, item_row, role_team}
+use Rattle.contest_rows.specs.FixedRows.{account_row, contest_row, desk_row, item_row, role_team}
 use Rattle.contest_rows.specs.ListRows.{clarification_row, member_account, member_row, member_type, proposal_row, reference_id, rejudging_row, release_row, submission_row}
 use Rattle.contest_fixed_rows.specs.Heads.{marks_row}
 use Rattle.contest_changes.specs.Laws.{member_state_given, state_given}
@@ -68,6 +69,13 @@ item_unreal kind n id name label ordinal flag_a flag_b group_ids = refl
 
 pub account_unreal : (s : Setup) (a : Account) → Unreal (account_row s a)
 account_unreal s a = rw (text (role_team s a.role)) refl
+
+-- of what is set up
+pub desk_unreal : Unreal desk_row
+desk_unreal = refl
+
+pub contest_unreal : (f : FixedPart) → Unreal (contest_row f)
+contest_unreal f = rw (moment f.settings.head.freeze, moment f.marks.start, moment f.marks.thaw, moment f.marks.finalized) refl
 
 -- and what changes of rows are given
 pub marks_unreal : (m : Marks) → Unreal (marks_row m)

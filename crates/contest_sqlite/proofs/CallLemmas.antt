@@ -1,7 +1,6 @@
 -- A transaction that is begun, and then a step in it.
-use Rattle.std.proofs.Common.{Result, Ok, Err, IsTrue, subst, arith}
+use Rattle.std.proofs.Common.{Result, Ok, Err, subst, arith}
 use Rattle.std.specs.Prelude.{OnErr, OnOk}
-use Rattle.sqlite.specs.Tree.{Trees}
 use Rattle.sqlite.specs.State.{HasCleanDisk, State}
 use Rattle.sqlite.proofs.StateLemmas.{survives_then, survives_weaker}
 use Rattle.contest_store.specs.declared.store_error.StoreError.{StoreError}
@@ -10,11 +9,11 @@ use Rattle.contest_tables.specs.Steps.{Call, Content, Holding, Holds, MakesNone,
 use Rattle.contest_tables.specs.declared.counts.Counts.{Counts}
 use Rattle.contest_tables.proofs.HoldLemmas.{on_err}
 
-any_ok : {T E P : Type 0} (r : Result T E) → P → OnOk r P
+pub any_ok : {T E P : Type 0} (r : Result T E) → P → OnOk r P
 any_ok (Ok x) p = p
 any_ok (Err e) p = tt
 
-any_err : {T E P : Type 0} (r : Result T E) → P → OnErr r P
+pub any_err : {T E P : Type 0} (r : Result T E) → P → OnErr r P
 any_err (Ok x) p = tt
 any_err (Err e) p = p
 

@@ -1,13 +1,12 @@
 -- What the calls on the tables count, as contracts see it of the store.
-use Rattle.std.proofs.Common.{◌≡◌, ◌<◌, ◌≤◌, ◌+◌, ◌-◌, ◌^◌, ℕ, min, Result, Ok, Err, ap, inl, inr, arith, subst}
-use Rattle.std.proofs.Math.Nat.{min-eq_left, min-eq_right}
+use Rattle.std.proofs.Common.{ℕ, Result, Ok, Err, ap, inl, arith}
 use Rattle.sqlite_disk.specs.Disk.{MoreFaults}
 use Rattle.contest_store.specs.Keeping.{CountsFaults, CountsRefusals}
 use Rattle.contest_store.specs.declared.store_error.StoreError.{StoreError}
 use Rattle.contest_store.specs.declared.store_error.StoreError.TheVariants.{Fault, Memory}
 use Rattle.contest_tables.specs.Counts.{CountsCall}
 use Rattle.contest_tables.specs.declared.counts.Counts.{Counts}
-use Rattle.contest_types.specs.Streams.{Failed, most_faults}
+use Rattle.contest_types.specs.Streams.{Failed}
 
 pub counts_faults : {T : Type 0} (r : Result T StoreError) (b a : Counts) → CountsCall r b a → CountsFaults r b.faults a.faults
 counts_faults (Ok x) b a is = ap (λ (c : Counts). c.faults) is

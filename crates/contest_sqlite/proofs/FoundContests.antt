@@ -1,11 +1,10 @@
 -- Valid lists that were read of rows are, with the files in the rows, the valid contest that the rows are.
-use Rattle.std.proofs.Common.{◌≡◌, ◌∙◌, ◌+◌, ◌≤◌, ℕ, Bool, true, List, [], ◌∷◌, length, map, zip, Option, Some, refl, sym, ap, ap₂, subst, arith}
-use Rattle.std.specs.Prelude.{◌&&◌, nat_le, pos}
+use Rattle.std.proofs.Common.{◌≡◌, ◌∙◌, ◌+◌, ◌≤◌, ℕ, true, List, [], ◌∷◌, length, map, zip, Some, refl, sym, ap, ap₂, subst, arith}
+use Rattle.std.specs.Prelude.{◌&&◌, nat_le}
 use Rattle.std.specs.List.{AllByRecursion, list_all}
 use Rattle.std.specs.Option.{option_and_then, option_map}
 use Rattle.std.proofs.lemmas.Bool.Decides.{nat_tests}
 use Rattle.sqlite_sql.specs.Text.{length_of}
-use Rattle.sqlite_value.specs.declared.value.Value.{Value}
 use Rattle.sqlite_value.specs.declared.value.Value.TheVariants.{Blob}
 use Rattle.sqlite_value.specs.Order.{Row, column}
 use Rattle.contest_types.specs.Loads.{without_file}
@@ -24,7 +23,7 @@ use Rattle.contest_tables.specs.Statements.{loaded_row}
 use Rattle.contest_tables.specs.Tables.{TableRows}
 use Rattle.contest_tables.specs.declared.table_name.TableName.TheVariants.{Submissions}
 use Rattle.contest_valid.specs.Files.{has_small_files}
-use Rattle.contest_changes.specs.ContestTables.{bytes_of, file_in, if_valid, loaded_tables, valid_contest_in, with_file, with_files}
+use Rattle.contest_changes.specs.ContestTables.{file_in, if_valid, loaded_tables, valid_contest_in, with_file, with_files}
 use Rattle.contest_changes.proofs.FiledRows.{blob_is}
 use Rattle.contest_sqlite.proofs.FilelessLists.{HasNoFile, lists_fileless}
 

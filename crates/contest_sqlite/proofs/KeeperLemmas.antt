@@ -1,5 +1,5 @@
 -- What each call of a keeper leaves.
-use Rattle.std.proofs.Common.{◌≡◌, ◌∙◌, ℕ, Bool, true, false, Option, None, Some, Result, Ok, Err, IsTrue, refl, sym, ap, subst, arith}
+use Rattle.std.proofs.Common.{◌≡◌, ◌∙◌, ℕ, Bool, true, false, Option, None, Some, Ok, Err, IsTrue, refl, sym, ap, subst, arith}
 use Rattle.std.specs.Prelude.{IfSome, is_some}
 use Rattle.sqlite.specs.Tree.{Trees}
 use Rattle.sqlite.specs.State.{State, HasCleanDisk}
@@ -59,10 +59,10 @@ module _ (old new : State) (b a : Counts) (c : ℕ) (l : Bool) (was : StaysKept 
   pub read_of_it : {T : Type 0} (x : T) (P : ContestState → Type 0) → Call (Ok x) old new b a HoldsDesk Full (MakesNone old HoldsDesk)
       → (HasCleanDisk new → (y : ContestState) (kept : Content) → IsSound y → Holds old (Showing (table_rows y)) kept → P y) → HasCleanDisk new → P (contest_of old)
   read_of_it x P one all clean = (
-    let early : HasCleanDisk old = omega (arith, one.step.survives.clean) in
-    let k = (was early).holds (one.up clean (was early).live) in
-    all clean (contest_of old) _ k.sound k.holds
-  )
+      let early : HasCleanDisk old = omega (arith, one.step.survives.clean) in
+      let k = (was early).holds (one.up clean (was early).live) in
+      all clean (contest_of old) _ k.sound k.holds
+      )
 
   -- the lists were read
   pub load_ok : {T : Type 0} (x : T) (lists : ContestState) → Call (Ok x) old new b a HoldsDesk Full (MakesNone old HoldsDesk)
@@ -97,20 +97,20 @@ module _ (old new : State) (b a : Counts) (c : ℕ) (l : Bool) (was : StaysKept 
   module _ (lists : ContestState) (e : Entry) (had : StaysHeld old (Some lists)) (may : IsTrusted old → is_addable (contest_of old) e ≡ true) (kinds : IsOfKinds e) where
     admits : Meets old (MayAdd lists e)
     admits clean up = (
-      let k = (was clean).holds up in
-      record { contest = contest_of old; shown = refl; sound = k.sound; held = sym (had clean).1; may = may (trusted old was clean); holds = k.holds }
-    )
+        let k = (was clean).holds up in
+        record { contest = contest_of old; shown = refl; sound = k.sound; held = sym (had clean).1; may = may (trusted old was clean); holds = k.holds }
+        )
 
     changed : HasCleanDisk old → IsTrue old.is_open → HasAdded lists e new (now_in old) (kept_in old) → HoldsContests new (add (contest_of old) e) (committed_of old)
     changed clean up h = (
-      let k = (was clean).holds up in
-      let one : h.contest ≡ contest_of old = same_contest (contest_of old) h.contest k.sound h.sound h.shown in
-      record {
-        sound = additions_stay_sound (contest_of old) e k.sound (may (trusted old was clean)) kinds;
-        was_sound = k.was_sound;
-        holds = subst (λ x. Holds new (Showing (table_rows (add x e))) (kept_in old)) one h.within.0;
-      }
-    )
+        let k = (was clean).holds up in
+        let one : h.contest ≡ contest_of old = same_contest (contest_of old) h.contest k.sound h.sound h.shown in
+        record {
+          sound = additions_stay_sound (contest_of old) e k.sound (may (trusted old was clean)) kinds;
+          was_sound = k.was_sound;
+          holds = subst (λ x. Holds new (Showing (table_rows (add x e))) (kept_in old)) one h.within.0;
+        }
+        )
 
     pub add_ok : {T : Type 0} (x : T) (after : ContestState) → Call (Ok x) old new b a (MayAdd lists e) (HasAdded lists e) (MakesNone old (MayAdd lists e))
         → ((y : ContestState) → loaded y ≡ lists → is_addable y e ≡ true → after ≡ loaded (add y e))

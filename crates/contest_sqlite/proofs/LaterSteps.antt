@@ -56,8 +56,11 @@ module _ {T U : Type 0} (x : U) (e given : StoreError) (old mid new : State) (b 
       record {
         step = record {
           ok = λ _ _ _ _. tt;
-          err = λ clean. (let u = two.err clean in record { autocommit = u.autocommit; holds = λ is now kept from.
-              (let on = leads now kept from (one.step.ok (early mid new survives clean) now kept from) in u.holds is on.0 kept on.1) });
+          err = λ clean. (let u = two.err clean in record {
+            autocommit = u.autocommit;
+            holds = λ is now kept from.
+                (let on = leads now kept from (one.step.ok (early mid new survives clean) now kept from) in u.holds is on.0 kept on.1);
+          });
           counts = subst (λ n. CountsCall {T = T} (Err e) n a) one.step.counts two.counts;
           survives = survives_then old mid new _ (λ _. ⊥) _ (λ _ db made. made) (λ clean db none. absurd none) one.step.survives two.survives;
         };

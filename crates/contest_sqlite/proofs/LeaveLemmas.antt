@@ -1,5 +1,5 @@
 -- From a call on the tables to what contracts see of the store.
-use Rattle.std.proofs.Common.{◌≡◌, inl, inr, ℕ, Bool, false, Option, Result, Ok, Err, IsTrue, refl, subst, arith}
+use Rattle.std.proofs.Common.{◌≡◌, inl, inr, ℕ, Bool, false, Option, Ok, Err, IsTrue, refl, subst, arith}
 use Rattle.sqlite.specs.Tree.{Trees}
 use Rattle.sqlite.specs.State.{State, HasCleanDisk}
 use Rattle.contest_store.specs.Keeping.{Leaves}
@@ -24,7 +24,7 @@ kept_in s = Showing (table_rows (committed_of s))
 abbrev pub Meets : State → Holding → Type 0
 Meets old From = HasCleanDisk old → IsTrue old.is_open → From old (now_in old) (kept_in old)
 
-not_inside : {P : Type 0} (b : Bool) → b ≡ false → IsTrue b → P
+pub not_inside : {P : Type 0} (b : Bool) → b ≡ false → IsTrue b → P
 not_inside b e i = absurd (let x = rw e at i in cc)
 
 module _ {T : Type 0} (old new : State) (b a : Counts) (c : ℕ) (l : Bool) (From To : Holding) (Made : Trees → Type 0) (was : StaysKept old) (from : Meets old From)
@@ -75,10 +75,10 @@ module _ {T : Type 0} (old new : State) (b a : Counts) (c : ℕ) (l : Bool) (Fro
 
     holds_err : HasCleanDisk new → IsTrue new.is_open → HoldsContests new (committed_of old) (committed_of old)
     holds_err clean is = (
-      let up = back clean is in
-      let h = (was (before clean)).holds up in
-      record { sound = h.was_sound; was_sound = h.was_sound; holds = (one.step.err clean).holds is _ _ (from (before clean) up) }
-    )
+        let up = back clean is in
+        let h = (was (before clean)).holds up in
+        record { sound = h.was_sound; was_sound = h.was_sound; holds = (one.step.err clean).holds is _ _ (from (before clean) up) }
+        )
 
     stays_err : StaysKept new
     stays_err clean = record { live = λ i. not_inside new.in_transaction (one.step.err clean).autocommit i; holds = λ is. (keeps new _ _ (holds_err clean is)).holds is }

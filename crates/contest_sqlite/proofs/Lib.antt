@@ -15,3 +15,6 @@ pub mod FilelessLists
 pub mod FoundContests
 pub mod OpenedContests
 pub mod StoresMade
+pub mod MadeRows
+pub mod MadeContests
+pub mod CreatedStores

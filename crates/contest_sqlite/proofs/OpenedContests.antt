@@ -11,7 +11,6 @@ use Rattle.contest_store.specs.Lists.{loaded}
 use Rattle.contest_store.specs.declared.store_error.StoreError.{StoreError}
 use Rattle.contest_spelling.specs.Spelling.{lists_in}
 use Rattle.contest_tables.specs.Connected.{IsAtRest, IsOfDesk}
-use Rattle.contest_tables.specs.Schema.{desk_schema}
 use Rattle.contest_tables.specs.Steps.{AreNumbered, Call, Content, Full, Holds, MakesNone, Showing}
 use Rattle.contest_tables.specs.Tables.{TableRows, rows_in}
 use Rattle.contest_tables.specs.declared.counts.Counts.{Counts}
@@ -45,9 +44,9 @@ module _ (old new : State) (b a : Counts) (r : Result ContestState StoreError) (
   -- a crash leaves no more than it could before
   pub no_more : Survives old new (λ _. ⊥)
   no_more = survives_weaker old new _ _ (λ clean db made. (
-    let up = made.0 (not_live old.in_transaction outside) in
-    made.1 (shown_of old) (shown_of old) (starts clean up, (rows_in old.now.trees, refl))
-  )) call.step.survives
+      let up = made.0 (not_live old.in_transaction outside) in
+      made.1 (shown_of old) (shown_of old) (starts clean up, (rows_in old.now.trees, refl))
+      )) call.step.survives
 
 module _ (old new : State) (b a : Counts) (outside : old.in_transaction ≡ false) (rests : IsTrue old.is_open → IsAtRest old) (desk : IsOfDesk old) (sound : IsTrue old.is_open → IsDatabase old.now)
     (numbered : IsNumbered old) where

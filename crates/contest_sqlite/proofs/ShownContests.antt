@@ -1,5 +1,5 @@
 -- The contests that a connection holds are those that its tables show.
-use Rattle.std.proofs.Common.{◌≡◌, ◌∙◌, ℕ, Bool, Option, Some, IsTrue, sym, ap, subst₂}
+use Rattle.std.proofs.Common.{◌≡◌, ◌∙◌, ℕ, Bool, Option, Some, sym, ap, subst₂}
 use Rattle.std.specs.Prelude.{unwrap_or}
 use Rattle.sqlite.specs.State.{HasCleanDisk, State}
 use Rattle.sqlite.specs.Tree.{Trees}

@@ -1,5 +1,5 @@
 -- A store over tables that were read.
-use Rattle.std.proofs.Common.{◌≡◌, ◌∙◌, ℕ, Bool, Some, sym, ap, inl, inr}
+use Rattle.std.proofs.Common.{◌∙◌, ℕ, Bool, Some, sym, ap, inl, inr}
 use Rattle.sqlite.specs.State.{HasCleanDisk, State, Survives}
 use Rattle.contest_types.specs.State.{ContestState}
 use Rattle.contest_store.specs.Lists.{loaded}

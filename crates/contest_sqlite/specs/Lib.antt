@@ -6,3 +6,4 @@ pub mod Value
 pub mod Loading
 pub mod Steps
 pub mod Opening
+pub mod Creation

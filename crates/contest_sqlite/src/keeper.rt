@@ -26,6 +26,15 @@ pub(crate) struct Keeper<S: Alter> {
 }
 
 impl<S: Alter> Keeper<S> {
+    // What failed leaves no lists in memory.
+    fn fail(&mut self, error: StoreError) -> StoreError
+        ensures error { result ≡ error }
+        ensures dropped { self.new ≡ record self.old { held = None } }
+    {
+        self.held = None;
+        error
+    }
+
     pub(crate) fn load(&mut self, alloc: Global) -> Result<(), StoreError>
         requires { IsWhole S.Store self.old }
         ensures whole { IsWhole S.Store self.new }
@@ -40,10 +49,7 @@ impl<S: Alter> Keeper<S> {
                 self.held = Some(lists);
                 Ok(())
             }
-            Err(error) => {
-                self.held = None;
-                Err(error)
-            }
+            Err(error) => Err(self.fail(error)),
         }
     }
 
@@ -60,10 +66,7 @@ impl<S: Alter> Keeper<S> {
     {
         match load_file(&mut self.tables, alloc, team, number) {
             Ok(file) => Ok(file),
-            Err(error) => {
-                self.held = None;
-                Err(error)
-            }
+            Err(error) => Err(self.fail(error)),
         }
     }
 
@@ -109,10 +112,7 @@ impl<S: Alter> Keeper<S> {
                 self.commits = one_more(self.commits);
                 Ok(())
             }
-            Err(error) => {
-                self.held = None;
-                Err(error)
-            }
+            Err(error) => Err(self.fail(error)),
         }
     }
 }

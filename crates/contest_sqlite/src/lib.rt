@@ -2,6 +2,7 @@
 #![tactic(auto)]
 
 mod additions;
+mod creation;
 mod files;
 mod keeper;
 mod opening;

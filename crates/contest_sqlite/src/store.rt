@@ -1,11 +1,12 @@
 //! A contest in SQLite tables.
 ghost use Rattle.std.specs.Prelude.{◌≡◌};
 
+use crate::creation::{make_or_read, new_fixed};
 use crate::keeper::Keeper;
 use crate::opening::read_desk;
 use contest_store::{ContestStore, Lists, StoreError};
 use contest_tables::Tables;
-use contest_types::{Entry, Refusal, Rows};
+use contest_types::{Contest, Entry, Refusal, Rows};
 use sqlite::{Alter, Connection};
 use std::alloc::Global;
 use std::marker::Model;
@@ -40,10 +41,14 @@ impl<S: Alter> Model for Store<S> {
 }
 
 impl<S: Alter> Store<S> {
-    ghost use Rattle.std.specs.Prelude.{IfOk, IfErr};
+    ghost use Rattle.std.specs.Prelude.{◌⊎◌, false, IfOk, IfErr, OnOk, Some, true};
     ghost use Rattle.sqlite.specs.Held.{state};
     ghost use Rattle.sqlite.specs.State.{HasCleanDisk, Survives};
-    ghost use Rattle.contest_sqlite.specs.Contests.{committed_of, contest_of};
+    ghost use Rattle.contest_types.specs.State.{new_contest};
+    ghost use Rattle.contest_types.specs.Valid.{is_valid};
+    ghost use Rattle.contest_tables.specs.Connected.{IsBare};
+    ghost use Rattle.contest_sqlite.specs.Contests.{committed_of, contest_in_trees, contest_of};
+    ghost use Rattle.contest_sqlite.specs.Creation.{Created, IsOfStore, StoodEqual, StoodOther};
     ghost use Rattle.contest_sqlite.specs.Keeping.{IsTrusted};
     ghost use Rattle.contest_sqlite.specs.Opening.{IsNew, IsNumbered, Opened};
     ghost use Rattle.contest_sqlite.specs.Value.{shown_in, stored};
@@ -71,6 +76,48 @@ impl<S: Alter> Store<S> {
                 },
             }),
             Err(error) => Err((error.refusal(), tables.into_connection())),
+        }
+    }
+
+    /// The store over the tables of a contest that is set up. Where no table stands, they are made with
+    /// the contest in one commit. Where a valid contest stands that has the same head, nothing is
+    /// changed: its start isn't compared, for it may have been set since.
+    ///
+    /// # Errors
+    ///
+    /// `Malformed` where a number of the head is off its range or the end is no moment: nothing is
+    /// touched. `KeyReused` where a contest with another head stands. `StoreFault` where other tables
+    /// stand or show no valid contest, where a transaction stands, or where the connection failed;
+    /// `Memory` where a growth was refused. The connection is handed back.
+    pub fn create(
+        alloc: Global,
+        conn: Connection<S>,
+        contest: Contest,
+    ) -> Result<Store<S>, (Refusal, Connection<S>)>
+        requires { IsNumbered (state S.Store conn) }
+        ensures created { IfOk result (λ store. HasCleanDisk (shown_in S.Store store) → IsBare (state S.Store conn) → Created contest (state S.Store conn) (stored S.Store store)) }
+        ensures stood { IfOk result (λ store. HasCleanDisk (shown_in S.Store store) → ¬ IsBare (state S.Store conn) → StoodEqual contest (state S.Store conn) (stored S.Store store)) }
+        ensures new { IfOk result IsNew }
+        ensures valid { OnOk result (is_valid (new_contest contest) ≡ true) }
+        ensures differs { IfErr result (λ e. HasCleanDisk (state S.Store e.1) → e.0 ≡ Refusal.KeyReused → StoodOther contest.head (state S.Store conn) (state S.Store e.1)) }
+        ensures kinds { IfErr result (λ e. (e.0 ≡ Refusal.Malformed) ⊎ ((e.0 ≡ Refusal.KeyReused) ⊎ IsOfStore e.0)) }
+        ensures malformed { IfErr result (λ e. e.0 ≡ Refusal.Malformed → (is_valid (new_contest contest) ≡ false) × (e.1 ≡ conn)) }
+        ensures refused { IfErr result (λ e. Survives (state S.Store conn) (state S.Store e.1) (λ db. contest_in_trees db ≡ Some (new_contest contest))) }
+    {
+        let fixed = match new_fixed(alloc, contest) {
+            Ok(fixed) => fixed,
+            Err(refusal) => return Err((refusal, conn)),
+        };
+        let mut tables = Tables::new(conn);
+        match make_or_read(&mut tables, alloc, fixed) {
+            Ok(lists) => Ok(Store {
+                keeper: Keeper {
+                    tables,
+                    held: Some(lists),
+                    commits: 0,
+                },
+            }),
+            Err(refusal) => Err((refusal, tables.into_connection())),
         }
     }
 

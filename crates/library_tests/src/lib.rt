@@ -2,20 +2,14 @@
 //!
 //! Of the values of contest_types: texts and times, and how a refusal is answered; expected is what the
 //! standards and worked examples say. Of boards and awards: which release of a submission counts, and the
-//! awards of small boards; expected is what counting by hand gives. Of the store in memory: which changes
-//! it makes, and that a fault takes them away; what it keeps of submissions, and what a call that fails
-//! leaves, is seen in the walks of desk_walks.
+//! awards of small boards; expected is what counting by hand gives.
 #![tactic(auto)]
 
 #[cfg(test)]
 mod awards;
 #[cfg(test)]
-mod first_changes;
-#[cfg(test)]
 mod last_releases;
 #[cfg(test)]
 mod refusals;
-#[cfg(test)]
-mod store_changes;
 #[cfg(test)]
 mod texts;

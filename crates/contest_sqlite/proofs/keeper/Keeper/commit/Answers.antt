@@ -15,10 +15,12 @@ returns-in-Ok-clause-leaves g c =
 
 pub returns-in-Err-clause-whole : goal.returns-in-Err-clause-whole
 returns-in-Err-clause-whole g c =
+    rw c.fail.ensures.dropped
     (commit_err (shown_by g.S.Store c.args.self.now.tables) (shown_by g.S.Store c.commit.new.self) _ _ c.args.self.now.commits (is_some c.args.self.now.held) c.requires.whole.0
     c.in-Err.error c.in-Err.ensures).0
 
 pub returns-in-Err-clause-leaves : goal.returns-in-Err-clause-leaves
 returns-in-Err-clause-leaves g c =
+    rw (c.fail.ensures.dropped, c.fail.ensures.error)
     (commit_err (shown_by g.S.Store c.args.self.now.tables) (shown_by g.S.Store c.commit.new.self) _ _ c.args.self.now.commits (is_some c.args.self.now.held) c.requires.whole.0
     c.in-Err.error c.in-Err.ensures).1

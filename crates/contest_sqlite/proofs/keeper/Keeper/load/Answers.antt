@@ -16,10 +16,12 @@ returns-in-Ok-clause-leaves g c =
 
 pub returns-in-Err-clause-whole : goal.returns-in-Err-clause-whole
 returns-in-Err-clause-whole g c =
+    rw c.fail.ensures.dropped
     (read_err (shown_by g.S.Store c.args.self.now.tables) (shown_by g.S.Store c.load_lists.new.tables) _ _ c.args.self.now.commits (is_some c.args.self.now.held) c.requires.0
     (Unit {0}) c.in-Err.error c.in-Err.ensures.call).0
 
 pub returns-in-Err-clause-leaves : goal.returns-in-Err-clause-leaves
 returns-in-Err-clause-leaves g c =
+    rw (c.fail.ensures.dropped, c.fail.ensures.error)
     (read_err (shown_by g.S.Store c.args.self.now.tables) (shown_by g.S.Store c.load_lists.new.tables) _ _ c.args.self.now.commits (is_some c.args.self.now.held) c.requires.0
     (Unit {0}) c.in-Err.error c.in-Err.ensures.call).1

@@ -2,7 +2,7 @@
 ghost use Rattle.std.specs.Prelude.{◌≡◌, []};
 ghost use Rattle.contest_types.specs.State.{FixedPart};
 ghost use Rattle.contest_store.specs.InMemory.{contest_of, with_submissions};
-ghost use Rattle.library_tests.specs.FirstChanges.{IsBare};
+ghost use Rattle.store_tests.specs.FirstChanges.{IsBare};
 
 use crate::first_changes::{bare, first_change};
 use contest_store::{ContestStore, Lists, MemoryStore, StoreError};
@@ -11,7 +11,7 @@ use std::process::Abort;
 use std::test::Fail;
 
 /// How many of each list stand, and which marks, after the change of each kind.
-static AFTER: [[usize; 9]; 12] = [
+pub static AFTER: [[usize; 9]; 12] = [
     [0, 0, 0, 0, 0, 0, 0, 0, 0],
     [0, 0, 0, 0, 0, 0, 1, 0, 0],
     [0, 0, 0, 0, 0, 0, 0, 1, 0],
@@ -26,7 +26,7 @@ static AFTER: [[usize; 9]; 12] = [
     [0, 0, 0, 0, 0, 1, 0, 0, 0],
 ];
 
-fn counts(lists: &Lists) -> [usize; 9] {
+pub fn counts(lists: &Lists) -> [usize; 9] {
     let fixed = lists.fixed();
     let settings = &fixed.settings;
     [

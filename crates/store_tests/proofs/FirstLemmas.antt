@@ -12,7 +12,7 @@ use Rattle.contest_types.specs.declared.objects.Group.{Group}
 use Rattle.contest_types.specs.declared.objects.Team.{Team}
 use Rattle.contest_types.specs.declared.rejudging.Rejudging.{Rejudging}
 use Rattle.contest_types.specs.declared.rejudging.RejudgingState.TheVariants as state
-use Rattle.library_tests.specs.FirstChanges.{MayBeFirst}
+use Rattle.store_tests.specs.FirstChanges.{MayBeFirst}
 
 pub first_type : (t : JudgementType) → MayBeFirst (NewType t)
 first_type t f bare = rw bare.types refl

@@ -1,6 +1,6 @@
 //! The changes that may be the first of a contest.
 ghost use Rattle.std.specs.Prelude.{IfOk};
-ghost use Rattle.library_tests.specs.FirstChanges.{IsBare, MayBeFirst};
+ghost use Rattle.store_tests.specs.FirstChanges.{IsBare, MayBeFirst};
 
 use contest_fixtures::{MEDALS, after, demo_head, id, name};
 use contest_types::{
