@@ -55,6 +55,17 @@ WORDS = [
     ["thaw", "{}", "1", "2"],
 ]
 
+# Paths at which no file of a contest can be.
+NO_PATHS = [
+    ("a folder", "{folder}"),
+    ("a path through a file", "{good}/x"),
+    ("no such folder", "{folder}/none/x.db"),
+    ("a pipe", "{folder}/pipe"),
+    ("memory", ":memory:"),
+    ("a URI", "file:{good}"),
+    ("no name", ""),
+]
+
 
 def rows(name):
     """The rows of a table of cases, each a list of its columns."""
@@ -138,7 +149,7 @@ class Probe:
         was, shown = path.read_bytes(), dump(path)
         given = self.run("open", path)
         same = path.read_bytes() == was and dump(path) == shown
-        self.note(given == wanted and same, f"{what}: {given}, wanted {wanted}" + ("" if same else "; the file has changed"))
+        self.note(given == wanted and same, f"{what}: {given}, wanted {wanted}, {'as before' if same else 'changed'}")
 
     def thaws(self, what, path, wanted):
         """A thaw is made whole or refused, and nothing else changes."""
@@ -148,7 +159,8 @@ class Probe:
             same = dump(path) == thawed(shown, THAW) != shown
         else:
             same = path.read_bytes() == was and dump(path) == shown
-        self.note(given == wanted and same, f"thaw of {what}: {given}, wanted {wanted}" + ("" if same else "; the file shows otherwise"))
+        shows = "right" if same else "but sqlite3 shows otherwise"
+        self.note(given == wanted and same, f"thaw of {what}: {given}, wanted {wanted}, {shows}")
 
 
 def try_demo(probe):
@@ -216,15 +228,16 @@ def try_no_databases(probe):
             path.write_bytes(data)
         probe.answers(what, FAULT, "open", path)
         probe.answers(f"thaw of {what}", FAULT, "thaw", path, THAW)
-        probe.note(sqlite(path, "SELECT count(*) FROM sqlite_schema; PRAGMA integrity_check") == "0\nok\n", f"{what} left more than an empty database")
+        left = sqlite(path, "SELECT count(*) FROM sqlite_schema; PRAGMA integrity_check")
+        probe.note(left == "0\nok\n", f"{what} left more than an empty database: {left}")
 
 
 def try_paths(probe):
     """Paths that name no file of one's own, links, and a file that sqlite3 writes at that moment."""
-    pipe, other, link, path, journal = (probe.new_file() for _ in range(5))
-    os.mkfifo(pipe)
-    for what, none in (("a folder", probe.folder), ("a path through a file", probe.good / "x"), ("no such folder", probe.folder / "none/x.db"), ("a pipe", pipe), ("memory", ":memory:"), ("a URI", f"file:{probe.good}"), ("no name", "")):
-        probe.answers(what, FAULT, "open", none)
+    os.mkfifo(probe.folder / "pipe")
+    for what, none in NO_PATHS:
+        probe.answers(what, FAULT, "open", none.format(folder=probe.folder, good=probe.good))
+    other, link, path, journal = (probe.new_file() for _ in range(4))
     shutil.copy(probe.good, path)
     os.link(path, other)
     probe.answers("a second name", FAULT, "open", other)
@@ -257,17 +270,17 @@ def try_words(probe):
 
 
 def refuse(probe, library, call, later):
-    """A thaw with this call for memory refused: what was wrong of it, what it answered, and whether a call was refused."""
+    """A thaw with this call for memory refused: what is wrong of it, what it answered, whether a call was refused."""
     with tempfile.TemporaryDirectory(dir=probe.folder) as folder:
         path = pathlib.Path(folder, "case.db")
         shutil.copy(probe.good, path)
-        given, refused = refuse_memory.run(probe.program, library, ["thaw", str(path), str(THAW)], b"", call, later)
+        words = ["thaw", str(path), str(THAW)]
+        given, refused = refuse_memory.run(probe.program, library, words, b"", call, later)
         given = given[0], given[1].decode(), given[2].decode()
         shown = dump(path)
     wanted = {DONE: thawed(probe.shown, THAW), MEMORY: probe.shown}
-    wrong = None if wanted.get(given) == shown else f"call {call} refused{' and all after it' if later else ''}: {given}"
-    if wrong and given in wanted:
-        wrong += ", but sqlite3 shows " + ("the thaw" if shown == thawed(probe.shown, THAW) else "something else")
+    ways = f"call {call} refused{' and all after it' if later else ''}"
+    wrong = None if wanted.get(given) == shown else f"{ways}: {given}, and sqlite3 shows {shown[-300:]}"
     return wrong, given, refused > 0
 
 

@@ -63,6 +63,7 @@ impl<S: Alter> Store<S> {
     pub fn open(alloc: Global, conn: Connection<S>) -> Result<Store<S>, (Refusal, Connection<S>)>
         requires { IsNumbered (state S.Store conn) }
         ensures opened { IfOk result (λ store. HasCleanDisk (shown_in S.Store store) → Opened (state S.Store conn) (stored S.Store store)) }
+        ensures survives { IfOk result (λ store. Survives (state S.Store conn) (shown_in S.Store store) (λ _. ⊥)) }
         ensures new { IfOk result IsNew }
         ensures refused { IfErr result (λ e. Survives (state S.Store conn) (state S.Store e.1) (λ _. ⊥)) }
     {
