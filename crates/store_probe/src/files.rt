@@ -1,10 +1,11 @@
 //! A store over the files at a path.
 ghost use Rattle.std.specs.Prelude.{◌≡◌, ◌≢◌, IfOk};
-ghost use Rattle.sqlite.specs.Files.{file_state, over_files};
+ghost use Rattle.sqlite.specs.Files.{AreFoundIn, file_state, over_files};
 ghost use Rattle.sqlite.specs.State.{HasCleanDisk};
+ghost use Rattle.sqlite.specs.WalFiles.{image_at};
 ghost use Rattle.contest_sqlite.specs.Opening.{IsNew, IsNumbered};
 ghost use Rattle.contest_sqlite.specs.Value.{shown_in, stored};
-ghost use Rattle.store_probe.specs.Found.{ShowsSome};
+ghost use Rattle.store_probe.specs.Found.{OpensOver};
 
 use contest_sqlite::Store;
 use contest_types::Refusal;
@@ -21,7 +22,7 @@ pub(crate) fn open_store<S: Start>(
     path: &str,
     start: S,
 ) -> Result<Store<FileStore<FileFrom<S>>>, Refusal>
-    ensures shows { IfOk result (λ store. HasCleanDisk (shown_in over_files store) → ShowsSome (stored over_files store)) }
+    ensures found { IfOk result (λ store. HasCleanDisk (shown_in over_files store) → OpensOver (image_at S.Start) (stored over_files store)) }
     ensures new { IfOk result IsNew }
 {
     let conn = open_files(rt, path, start)?;
@@ -37,7 +38,8 @@ fn open_files<S: Start>(
     path: &str,
     start: S,
 ) -> Result<Connection<FileStore<FileFrom<S>>>, Refusal>
-    ensures { IfOk result (λ conn. IsNumbered (file_state conn)) }
+    ensures found { IfOk result (λ conn. HasCleanDisk (file_state conn) → AreFoundIn (image_at S.Start) (file_state conn).now.trees) }
+    ensures numbered { IfOk result (λ conn. IsNumbered (file_state conn)) }
 {
     match Connection::open_from(rt, path, false, start) {
         Ok(conn) => Ok(conn),

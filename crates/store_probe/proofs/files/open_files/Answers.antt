@@ -1,7 +1,11 @@
 use Rattle.sqlite.specs.Files.{file_state}
 use Rattle.sqlite.specs.WalFiles.{image_at}
-use Rattle.store_probe.proofs.FoundLemmas.{is_numbered}
+use Rattle.store_probe.proofs.FoundLemmas.{are_found, is_numbered}
 use Rattle.store_probe.proofs.files.open_files.Goals as goal
 
-pub returns-in-Ok : goal.returns-in-Ok
-returns-in-Ok g c = is_numbered (image_at g.S.Start) (file_state c.in-Ok.conn) c.in-Ok.ensures.opened c.in-Ok.ensures.found
+pub returns-in-Ok-clause-found : goal.returns-in-Ok-clause-found
+returns-in-Ok-clause-found g c clean =
+    are_found (image_at g.S.Start) (file_state c.in-Ok.conn) (c.in-Ok.ensures.opened clean).0 (c.in-Ok.ensures.found clean)
+
+pub returns-in-Ok-clause-numbered : goal.returns-in-Ok-clause-numbered
+returns-in-Ok-clause-numbered g c = is_numbered (image_at g.S.Start) (file_state c.in-Ok.conn) c.in-Ok.ensures.opened c.in-Ok.ensures.found
