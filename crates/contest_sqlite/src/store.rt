@@ -103,6 +103,7 @@ impl<S: Alter> Store<S> {
         ensures differs { IfErr result (λ e. HasCleanDisk (state S.Store e.1) → e.0 ≡ Refusal.KeyReused → StoodOther contest.head (state S.Store conn) (state S.Store e.1)) }
         ensures kinds { IfErr result (λ e. (e.0 ≡ Refusal.Malformed) ⊎ ((e.0 ≡ Refusal.KeyReused) ⊎ IsOfStore e.0)) }
         ensures malformed { IfErr result (λ e. e.0 ≡ Refusal.Malformed → (is_valid (new_contest contest) ≡ false) × (e.1 ≡ conn)) }
+        ensures survives { IfOk result (λ store. Survives (state S.Store conn) (shown_in S.Store store) (λ db. contest_in_trees db ≡ Some (new_contest contest))) }
         ensures refused { IfErr result (λ e. Survives (state S.Store conn) (state S.Store e.1) (λ db. contest_in_trees db ≡ Some (new_contest contest))) }
     {
         let fixed = match new_fixed(alloc, contest) {
