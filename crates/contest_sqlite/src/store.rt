@@ -65,6 +65,7 @@ impl<S: Alter> Store<S> {
         ensures opened { IfOk result (λ store. HasCleanDisk (shown_in S.Store store) → Opened (state S.Store conn) (stored S.Store store)) }
         ensures survives { IfOk result (λ store. Survives (state S.Store conn) (shown_in S.Store store) (λ _. ⊥)) }
         ensures new { IfOk result IsNew }
+        ensures kinds { IfErr result (λ e. IsOfStore e.0) }
         ensures refused { IfErr result (λ e. Survives (state S.Store conn) (state S.Store e.1) (λ _. ⊥)) }
     {
         let mut tables = Tables::new(conn);
