@@ -8,9 +8,9 @@ use Rattle.contest_types.specs.declared.refusal.Refusal.{Refusal}
 use Rattle.contest_score.specs.Contest.{seen_board}
 use Rattle.contest_score.specs.declared.submission.JudgedSubmission.{JudgedSubmission}
 use Rattle.contest_text.specs.BoardText.{board_text}
-use Rattle.contest_import.specs.ReplayLists.{ReplayLists}
-use Rattle.contest_import.specs.ReplayContest.{replay_contest, marks_for, up_to}
-use Rattle.contest_import.specs.ReplayFile.{contest_in_file}
+use Rattle.contest_replay.specs.ReplayLists.{ReplayLists}
+use Rattle.contest_replay.specs.ReplayContest.{replay_contest, marks_for, up_to}
+use Rattle.contest_replay.specs.ReplayFile.{contest_in_file}
 
 -- who looks: the jury, or anyone
 abbrev pub audience_for : (jury : Bool) → Audience

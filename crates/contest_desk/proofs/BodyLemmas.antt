@@ -1,34 +1,15 @@
 -- Readings that give no value.
-use Rattle.std.proofs.Common.{◌≡◌, ℕ, List, [], ◌∷◌, length, Bool, true, false, true≢false, Option, Some, None, Ok, Err, IsNone, option_and_then, option_map, map, codes, inl, inr, refl}
-use Rattle.std.specs.Str.{is_utf8, IsUtf8}
-use Rattle.std.proofs.lemmas.Str.{is_utf8-from_IsUtf8, IsUtf8-from_is_utf8}
+use Rattle.std.proofs.Common.{◌≡◌, ℕ, List, true≢false, Option, Some, None, Ok, Err, IsNone, option_and_then, option_map, codes, inl, inr, refl}
 use Rattle.serde_json.specs.Data.{Data}
-use Rattle.serde_json.specs.Read.{read}
-use Rattle.serde_json.specs.View.{view, items_of}
-use Rattle.serde_json.specs.declared.value.Value.{Value}
 use Rattle.base64.specs.GeneralPurpose.{decode_of, decoded_of, IsDecodeFailure}
 use Rattle.base64.specs.declared.decode.DecodeAllocError.{DecodeAllocError}
 use Rattle.base64.specs.declared.decode.DecodeAllocError.TheVariants.{DecodeError as Failed, OutOfMemory}
 use Rattle.base64.specs.declared.decode.DecodeError.{DecodeError}
 use Rattle.base64.specs.declared.engine.general_purpose.GeneralPurpose.{GeneralPurpose}
-use Rattle.contest_desk.specs.JsonBodies.{data_of, only_item, id_in, optional_id_in}
+use Rattle.contest_files.specs.JsonMembers.{id_in, optional_id_in}
 use Rattle.contest_desk.specs.SubmissionBodies.{entry_point_in, file_in, refusal_of_decoding, submission_of}
-use Rattle.contest_desk.specs.JsonBodies.{IsRefused}
+use Rattle.contest_files.specs.Refused.{IsRefused}
 use Rattle.contest_types.specs.declared.refusal.Refusal.{Refusal}
-
--- a text is read
-pub data_of_text : (bytes : List ℕ) → IsUtf8 bytes → data_of bytes ≡ read bytes
-unfolding data_of
-data_of_text bytes text = rw (is_utf8-from_IsUtf8 bytes text) refl
-
-data_of_none_at : (bytes : List ℕ) (b : Bool) → is_utf8 bytes ≡ b → (IsUtf8 bytes → read bytes ≡ None) → IsNone (data_of bytes)
-unfolding data_of
-data_of_none_at bytes true is none = rw (is, none (IsUtf8-from_is_utf8 bytes is)) refl
-data_of_none_at bytes false is none = rw is refl
-
--- bytes that are no text, or no JSON
-pub data_of_none : (bytes : List ℕ) → (IsUtf8 bytes → read bytes ≡ None) → IsNone (data_of bytes)
-data_of_none bytes none = data_of_none_at bytes (is_utf8 bytes) refl none
 
 pub decoded_of_ok : (e : GeneralPurpose) (s v : List ℕ) → decode_of e s ≡ Ok v → decoded_of e s ≡ Some v
 unfolding decoded_of
@@ -41,12 +22,6 @@ decoded_of_err e s f d is failure = let err : decode_of e s ≡ Err d = rw is at
 pub decoding_refused : (e : GeneralPurpose) (s : List ℕ) (f : DecodeAllocError) → IsDecodeFailure e s f → IsRefused (refusal_of_decoding f) (decoded_of e s)
 decoding_refused e s OutOfMemory failure = inl refl
 decoding_refused e s (Failed d) failure = inr (refl, decoded_of_err e s (Failed d) d refl failure)
-
--- no one item
-pub only_item-none : (vs : List Value) → (length vs ≡ 1 → ⊥) → only_item (items_of (map view vs)) ≡ None
-only_item-none [] other = refl
-only_item-none (v ∷ []) other = absurd (other refl)
-only_item-none (v ∷ w ∷ vs) other = refl
 
 -- what comes after a refused reading is refused too
 refused_then : {A B : Type 0} (r : Refusal) (f : A → Option B) (o : Option A) → IsRefused r o → IsRefused r (option_and_then f o)

@@ -1,8 +1,9 @@
 -- A reply of a fault comes where a fault is counted.
-use Rattle.std.proofs.Common.{◌≡◌, ◌∙◌, ℕ, Err, sym, ap, subst, inl, inr}
+use Rattle.std.proofs.Common.{◌≡◌, ◌∙◌, ℕ, Result, Err, sym, ap, subst, inl, inr}
 use Rattle.std.specs.Prelude.{◌⊎◌, ◌==◌}
 use Rattle.std.proofs.lemmas.Bool.{false≢true}
 use Rattle.contest_types.specs.Streams.{Failed, one_more}
+use Rattle.contest_types.specs.declared.refusal.Refusal.{Refusal}
 use Rattle.contest_types.specs.declared.refusal.Refusal.TheVariants.{StoreFault, Memory as OutOfMemory}
 use Rattle.contest_store.specs.Keeping.{CountsFaults, CountsRefusals}
 use Rattle.contest_store.specs.StoreErrors.{refusal_of}
@@ -21,6 +22,11 @@ ordinary_apart reply ordinary (inr e) = false≢true (sym ordinary ∙ ap (λ (r
 pub fault_counted : (T : Type 0) (e : StoreError) (old new : ℕ) (reply : Reply) → CountsFaults {T = T} (Err e) old new → reply ≡ refused (refusal_of e) → reply ≡ refused StoreFault → new ≡ one_more old
 fault_counted T Fault old new reply counts is told = counts
 fault_counted T Memory old new reply counts is told = absurd (fault_is_not_memory (sym is ∙ told))
+
+-- the same of what isn't a reply
+pub error_counted : (T : Type 0) (e : StoreError) (old new : ℕ) (r : Result ℕ Refusal) → CountsFaults {T = T} (Err e) old new → r ≡ Err (refusal_of e) → r ≡ Err StoreFault → new ≡ one_more old
+error_counted T Fault old new r counts is told = counts
+error_counted T Memory old new r counts is told = absurd (let no : ◌≡◌ {A = Result ℕ Refusal} (Err OutOfMemory) (Err StoreFault) = sym is ∙ told in cc no)
 
 -- want of memory is told where the store was refused some, or where the desk may have been
 pub memory_counted : (own T : Type 0) (e : StoreError) (old new : ℕ) (reply : Reply) → CountsRefusals {T = T} own (Err e) old new → reply ≡ refused (refusal_of e) → reply ≡ refused OutOfMemory → Failed old new ⊎ own

@@ -22,7 +22,11 @@ pub mod PostAdds
 pub mod LawLemmas
 pub mod NeverFails
 pub mod FaultLemmas
+pub mod ImportLemmas
+pub mod ImportedAccounts
+pub mod ItemLemmas
 pub mod RunLemmas
+pub mod SettingsAlike
 pub mod MovesAlike
 pub mod TwoRunLemmas
 pub mod RepeatLemmas

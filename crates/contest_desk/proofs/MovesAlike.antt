@@ -15,7 +15,7 @@ use Rattle.contest_types.specs.State.{FixedPart, ContestState, submissions_of, r
 use Rattle.contest_types.specs.Valid.{is_valid}
 use Rattle.contest_types.specs.ValidSubmissions.{is_valid_submission}
 use Rattle.contest_types.specs.declared.entry.Entry.{Entry}
-use Rattle.contest_types.specs.declared.entry.Entry.TheVariants.{NewRelease, NewSubmission}
+use Rattle.contest_types.specs.declared.entry.Entry.TheVariants.{NewRelease, NewSubmission, NewType, NewLanguage, NewProblem, NewGroup, NewTeam, NewAccount}
 use Rattle.contest_types.specs.declared.audience.Audience.{Audience}
 use Rattle.contest_types.specs.declared.submission.Release.{Release}
 use Rattle.contest_types.specs.declared.submission.Submission.{Submission}
@@ -24,6 +24,7 @@ use Rattle.contest_types.proofs.PlaceLemmas.{and_left, and_right}
 use Rattle.contest_types.proofs.SightLemmas.{map-filter_same}
 use Rattle.contest_desk.specs.Moves.{ReleasesLike, ShowTheSame, ShowsLike, AreSame, InFirst, InSecond, InBoth, first_entries, second_entries, MovesStayAlike}
 use Rattle.contest_desk.proofs.AddedAlike.{own_more, unjudged, other_stays}
+use Rattle.contest_desk.proofs.SettingsAlike.{type_alike, language_alike, problem_alike, group_alike, team_alike, account_alike}
 use Rattle.contest_desk.proofs.UnseenLemmas.{alike_onward, unseen_entry}
 
 pub turned : (a : Audience) (x y : ContestState) → Alike a x y → Alike a y x
@@ -171,10 +172,20 @@ like_release : (a : Audience) (x y : ContestState) (v : Release) (f : Entry) →
 like_release a x y v (NewRelease u) h same = subst (λ w. Alike a (add x (NewRelease v)) (add y (NewRelease w))) same (paired_release a x y v h)
 like_release a x y v _ h same = absurd same
 
+-- an equal row in both
+like_row : (a : Audience) (x y : ContestState) (e f : Entry) → Alike a (add x e) (add y e) → f ≡ e → Alike a (add x e) (add y f)
+like_row a x y e f h same = subst (λ g. Alike a (add x e) (add y g)) (sym same) h
+
 -- two entries that show the same
 same_alike : (a : Audience) (x y : ContestState) (e f : Entry) → is_valid x ≡ true → is_valid y ≡ true → Alike a x y → is_addable x e ≡ true → is_addable y f ≡ true → AreSame a x e f → Alike a (add x e) (add y f)
 same_alike a x y (NewSubmission s) f valid_x valid_y h can can_too same = shown_alike a x y s f valid_x valid_y h can can_too same
 same_alike a x y (NewRelease v) f valid_x valid_y h can can_too same = like_release a x y v f h same
+same_alike a x y (NewType t) f valid_x valid_y h can can_too same = like_row a x y (NewType t) f (type_alike a x y t h) same
+same_alike a x y (NewLanguage l) f valid_x valid_y h can can_too same = like_row a x y (NewLanguage l) f (language_alike a x y l h) same
+same_alike a x y (NewProblem p) f valid_x valid_y h can can_too same = like_row a x y (NewProblem p) f (problem_alike a x y p h) same
+same_alike a x y (NewGroup g) f valid_x valid_y h can can_too same = like_row a x y (NewGroup g) f (group_alike a x y g h) same
+same_alike a x y (NewTeam t) f valid_x valid_y h can can_too same = like_row a x y (NewTeam t) f (team_alike a x y t valid_x valid_y h) same
+same_alike a x y (NewAccount account) f valid_x valid_y h can can_too same = like_row a x y (NewAccount account) f (account_alike a x y account h) same
 same_alike a x y _ f valid_x valid_y h can can_too same = absurd same
 
 pub moves_stay_alike : MovesStayAlike

@@ -94,8 +94,8 @@ proposal_addable now account w x there = told_addable x (propose x.fixed x.submi
 
 released_continues : (x : ContestState) (v : NewVerdict) (o : Option Release)
     → Continues x (add_all x (NewProposal v.proposal ∷ elim o as (λ _. List Entry) [ None ↦ [] | (Some r) ↦ NewRelease r ∷ [] ]))
-released_continues x v None = record { fixed = refl; more = (itself x).more; own = (itself x).own }
-released_continues x v (Some r) = record { fixed = refl; more = (itself x).more; own = (itself x).own }
+released_continues x v None = record { settings = refl; marks = refl; more = (itself x).more; own = (itself x).own }
+released_continues x v (Some r) = record { settings = refl; marks = refl; more = (itself x).more; own = (itself x).own }
 
 told_continues : (x : ContestState) (r : Result NewVerdict Refusal) → Continues x (add_all x (verdict_outcome x.fixed r).entries)
 told_continues x (Err refusal) = itself x

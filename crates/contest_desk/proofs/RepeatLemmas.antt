@@ -1,6 +1,6 @@
 -- A post that is repeated.
 use Rattle.std.proofs.Common.{◌≡◌, ◌∙◌, ◌+◌, ℕ, suc, Bool, true, false, List, [], ◌∷◌, ◌++◌, length, map, Option, Some, None, Result, Ok, Err, refl, sym, ap, subst, arith, inl, inr}
-use Rattle.std.specs.Prelude.{◌==◌, slice_get, bytes_eq, if◌then◌else◌}
+use Rattle.std.specs.Prelude.{◌==◌, ◌<◌, slice_get, bytes_eq, if◌then◌else◌}
 use Rattle.std.specs.List.{position, position_from}
 use Rattle.std.specs.Option.{option_map_or}
 use Rattle.std.proofs.lemmas.Bool.{eq-eqb}
@@ -22,22 +22,27 @@ use Rattle.contest_rules.specs.declared.decision.Decision.TheVariants.{Add, Stan
 use Rattle.contest_rules.specs.declared.submitting.WantedSubmission.{WantedSubmission}
 use Rattle.contest_rules.proofs.TakenLemmas.{taken}
 use Rattle.contest_desk.specs.Callers.{caller_of}
+use Rattle.contest_desk.specs.Imports.{entries_of, imported}
+use Rattle.contest_desk.specs.Items.{item_step}
 use Rattle.contest_desk.specs.Outcomes.{Outcome, replying, refusing}
 use Rattle.contest_desk.specs.PostSubmission.{decision_outcome, repeat_outcome, submission_outcome}
 use Rattle.contest_desk.specs.Repeats.{Continues, NamesWhatIsThere, RepeatsOnce, RunsContinue}
 use Rattle.contest_desk.specs.Runs.{IsServed}
 use Rattle.contest_desk.specs.Step.{outcome_of, step, wish_or_reply}
 use Rattle.contest_desk.specs.Wishes.{IsSound, wish_outcome}
+use Rattle.contest_desk.specs.declared.item.Answer.{Answer}
+use Rattle.contest_desk.specs.declared.item.Item.{Item}
+use Rattle.contest_desk.specs.declared.item.Item.TheVariants as item
 use Rattle.contest_desk.specs.declared.reply.Reply.{Reply}
 use Rattle.contest_desk.specs.declared.request.Credential.{Credential}
 use Rattle.contest_desk.specs.declared.request.Request.{Request}
-use Rattle.contest_desk.specs.declared.run.Item.{Item}
 use Rattle.contest_desk.specs.declared.wish.Wish.{Wish}
 use Rattle.contest_desk.specs.declared.wish.Wish.TheVariants.{Read, Do}
 use Rattle.contest_desk.proofs.AddedAlike.{own_more}
 use Rattle.contest_desk.proofs.CommandLemmas.{post_continues}
-use Rattle.contest_desk.proofs.ContinueLemmas.{itself, onward}
-use Rattle.contest_desk.proofs.LawLemmas.{steps_keep_valid}
+use Rattle.contest_desk.proofs.ContinueLemmas.{accounts_continue, itself, onward, still_some}
+use Rattle.contest_desk.proofs.ImportedAccounts.{only_accounts}
+use Rattle.contest_desk.proofs.ItemLemmas.{items_keep_valid}
 use Rattle.contest_desk.proofs.SubmitLaws.{submission_addable}
 use Rattle.contest_desk.proofs.WishLemmas.{IfKnown, wished_known}
 
@@ -52,20 +57,26 @@ of_continues x now credential (Ok wish) valid known = come_continues x now wish 
 step_continues : (x : ContestState) (now : ℕ) (credential : Credential) (request : Request) → is_valid x ≡ true → Continues x (step x now credential request).1
 step_continues x now credential request valid = of_continues x now credential (wish_or_reply x.fixed credential request) valid (wished_known x credential request valid)
 
-served_continues : (x : ContestState) (i : Item) (r : Reply) (mid : ContestState) → is_valid x ≡ true → IsServed x i r mid → Continues x mid
-served_continues x i r mid valid (inl (said, is)) = subst (λ z. Continues x z) (sym is) (step_continues x i.now i.credential i.request valid)
-served_continues x i r mid valid (inr (fails, is)) = subst (λ z. Continues x z) (sym is) (itself x)
+-- an item that comes once a submission stands
+item_continues : (x : ContestState) (i : Item) → is_valid x ≡ true → 0 < length x.submissions → Continues x (item_step x i).1
+item_continues x (item.Request i) valid some = step_continues x i.now i.credential i.request valid
+item_continues x (item.Import i) valid some = accounts_continue x (entries_of (imported x i.now i.kind i.file)) (only_accounts x i.now i.kind i.file some)
 
-served_valid : (x : ContestState) (i : Item) (r : Reply) (mid : ContestState) → is_valid x ≡ true → IsServed x i r mid → is_valid mid ≡ true
-served_valid x i r mid valid (inl (said, is)) = ap is_valid is ∙ steps_keep_valid i.now i.credential i.request x valid
+served_continues : (x : ContestState) (i : Item) (r : Answer) (mid : ContestState) → is_valid x ≡ true → 0 < length x.submissions → IsServed x i r mid → Continues x mid
+served_continues x i r mid valid some (inl (said, is)) = subst (λ z. Continues x z) (sym is) (item_continues x i valid some)
+served_continues x i r mid valid some (inr (fails, is)) = subst (λ z. Continues x z) (sym is) (itself x)
+
+served_valid : (x : ContestState) (i : Item) (r : Answer) (mid : ContestState) → is_valid x ≡ true → IsServed x i r mid → is_valid mid ≡ true
+served_valid x i r mid valid (inl (said, is)) = ap is_valid is ∙ items_keep_valid x i valid
 served_valid x i r mid valid (inr (fails, is)) = ap is_valid is ∙ valid
 
 pub runs_continue : RunsContinue
-runs_continue x [] [] y valid is = subst (λ z. Continues x z) (sym is) (itself x)
-runs_continue x [] (r ∷ rs) y valid never = absurd never
-runs_continue x (i ∷ is) [] y valid never = absurd never
-runs_continue x (i ∷ is) (r ∷ rs) y valid (mid, served, rest) =
-    onward x mid y (served_continues x i r mid valid served) (runs_continue mid is rs y (served_valid x i r mid valid served) rest)
+runs_continue x [] [] y valid some is = subst (λ z. Continues x z) (sym is) (itself x)
+runs_continue x [] (r ∷ rs) y valid some never = absurd never
+runs_continue x (i ∷ is) [] y valid some never = absurd never
+runs_continue x (i ∷ is) (r ∷ rs) y valid some (mid, served, rest) =
+    let one = served_continues x i r mid valid some served in
+    onward x mid y one (runs_continue mid is rs y (served_valid x i r mid valid served) (still_some x mid one some) rest)
 
 -- the first that passes, after some that don't
 found_from : {X : Type 0} (p : X → Bool) (n : ℕ) (xs : List X) (x : X) (ys : List X) → position_from p n xs ≡ None → p x ≡ true → position_from p n (xs ++ x ∷ ys) ≡ Some (n + length xs)
@@ -168,15 +179,19 @@ again_is f now later team own more s key w problem language new is_key same_key 
     let by : Bool → Decision Submission = λ b. if b then Stands (length own) else Refused KeyReused in
     (λ same. ap told (d ∙ ap by same) ∙ standing_outcome f team own more s, λ other. ap told (d ∙ ap by other))
 
+one_stands : (ss : List Submission) (s : Submission) → 0 < length (ss ++ s ∷ [])
+one_stands [] s = omega arith
+one_stands (t ∷ ss) s = omega arith
+
 pub repeats_once : RepeatsOnce
-repeats_once x y now later team key first s items replies valid sound keyed adds run =
+repeats_once x y now later team key first s items answers valid sound keyed adds run =
     let f = x.fixed in
     let own = submissions_of team x.submissions in
     let was = decided f team own (submit f now team own first) s adds in
     let t = taken f now team own first s was.0 in
     let able : is_valid (add x (NewSubmission s)) ≡ true =
     subst (λ es. is_valid (add_all x es) ≡ true) adds (adding_all x (submission_outcome now team first x).entries valid (submission_addable now team first x valid sound)) in
-    let on = runs_continue (add x (NewSubmission s)) items replies y able run in
+    let on = runs_continue (add x (NewSubmission s)) items answers y able (one_stands x.submissions s) run in
     let mine : (s.team == team) ≡ true = eq-eqb s.team team (ap (λ (r : Submission). r.team) t.is) in
     let grown : submissions_of team y.submissions ≡ own ++ s ∷ on.more team =
     on.own team ∙ (ap (λ ss. ss ++ on.more team) (own_more team x.submissions s mine) ∙ append_assoc own (s ∷ []) (on.more team)) in
@@ -184,7 +199,7 @@ repeats_once x y now later team key first s items replies valid sound keyed adds
     let new : place_of_key (Some key) own ≡ None = sym (ap (λ k. place_of_key k own) keyed) ∙ t.new_key in
     let reply : replying (submission_outcome now team first x).reply ≡ repeated_reply f team s = ap replying was.1 in
     let in_y : (w : WantedSubmission) → submission_outcome later team w y ≡ decision_outcome f team (own ++ s ∷ on.more team) (submit f later team (own ++ s ∷ on.more team) w) =
-    λ w i. decision_outcome (on.fixed i) team (grown i) (submit (on.fixed i) later team (grown i) w) in
+    λ w i. (let g : FixedPart = record { settings = on.settings i; accounts = y.fixed.accounts; marks = on.marks i } in decision_outcome g team (grown i) (submit g later team (grown i) w)) in
     let names : NamesWhatIsThere f first t.problem t.language = record {
       has_problem = t.is_problem;
       has_language = t.is_language;

@@ -7,88 +7,93 @@ use Rattle.contest_types.specs.Alike.{Alike, MayBeHeld}
 use Rattle.contest_types.specs.State.{ContestState, add_all}
 use Rattle.contest_types.specs.Valid.{is_valid}
 use Rattle.contest_types.specs.declared.audience.Audience.{Audience}
+use Rattle.contest_desk.specs.Items.{has_failed, item_step}
 use Rattle.contest_desk.specs.Moves.{first_entries, second_entries}
-use Rattle.contest_desk.specs.Serving.{IsStoreReply}
-use Rattle.contest_desk.specs.Step.{step}
 use Rattle.contest_desk.specs.Runs.{IsServed, IsRun}
-use Rattle.contest_desk.specs.TwoRuns.{FirstAlone, SecondAlone, Mine, Theirs, first_items, first_replies, second_items, second_replies, after_reply, GoesUnnoticed, AreTheirs, RunsAlike}
+use Rattle.contest_desk.specs.Step.{step}
+use Rattle.contest_desk.specs.TwoRuns.{FirstAlone, SecondAlone, Mine, Theirs, first_items, first_answers, second_items, second_answers, after_answer, GoesUnnoticed, AreTheirs, RunsAlike}
+use Rattle.contest_desk.specs.declared.item.Answer.{Answer}
+use Rattle.contest_desk.specs.declared.item.Answer.TheVariants as answer
+use Rattle.contest_desk.specs.declared.item.Item.{Item}
+use Rattle.contest_desk.specs.declared.item.Item.TheVariants as item
+use Rattle.contest_desk.specs.declared.item.RequestItem.{RequestItem}
 use Rattle.contest_desk.specs.declared.reply.Reply.{Reply}
-use Rattle.contest_desk.specs.declared.run.Item.{Item}
-use Rattle.contest_desk.proofs.LawLemmas.{outcome_addable, steps_alike, steps_keep_valid}
+use Rattle.contest_desk.proofs.ItemLemmas.{failure_is, item_addable, item_adds, item_ordinary, item_unnoticed, items_keep_valid}
+use Rattle.contest_desk.proofs.LawLemmas.{steps_alike}
 use Rattle.contest_desk.proofs.MovesAlike.{moves_stay_alike, turned}
-use Rattle.contest_desk.proofs.NeverFails.{step_ordinary}
-use Rattle.contest_desk.proofs.QuietSteps.{unnoticed}
 use Rattle.contest_desk.proofs.UnseenLemmas.{alike_onward}
 
 itself : (a : Audience) (x : ContestState) → Alike a x x
 itself a x = record { fixed = refl; teams = λ team. refl; told = λ to. refl }
 
-after_failed : (x : ContestState) (i : Item) (r : Reply) → (r.status == 503) ≡ true → after_reply x i r ≡ x
+after_failed : (x : ContestState) (i : Item) (r : Answer) → has_failed r ≡ true → after_answer x i r ≡ x
 after_failed x i r e = rw e refl
 
-after_answered : (x : ContestState) (i : Item) (r : Reply) → (r.status == 503) ≡ false → after_reply x i r ≡ (step x i.now i.credential i.request).1
+after_answered : (x : ContestState) (i : Item) (r : Answer) → has_failed r ≡ false → after_answer x i r ≡ (item_step x i).1
 after_answered x i r e = rw e refl
 
-failure_is : (r : Reply) → IsStoreReply r → (r.status == 503) ≡ true
-failure_is r (inl e) = ap (λ (q : Reply). q.status == 503) e
-failure_is r (inr e) = ap (λ (q : Reply). q.status == 503) e
-
--- the contest that a request leaves
-mid_is : (x : ContestState) (i : Item) (r : Reply) (mid : ContestState) → IsServed x i r mid → mid ≡ after_reply x i r
-mid_is x i r mid (inl (said, is)) = is ∙ sym (after_answered x i r (ap (λ (q : Reply). q.status == 503) said ∙ step_ordinary x i.now i.credential i.request))
+-- the contest that an item leaves
+mid_is : (x : ContestState) (i : Item) (r : Answer) (mid : ContestState) → IsServed x i r mid → mid ≡ after_answer x i r
+mid_is x i r mid (inl (said, is)) = is ∙ sym (after_answered x i r (ap has_failed said ∙ item_ordinary x i))
 mid_is x i r mid (inr (fails, is)) = is ∙ sym (after_failed x i r (failure_is r fails))
 
--- what was answered is the step's reply
-reply_is : (x : ContestState) (i : Item) (r : Reply) (mid : ContestState) → IsServed x i r mid → (r.status == 503) ≡ false → r ≡ (step x i.now i.credential i.request).0
-reply_is x i r mid (inl (said, is)) answered = said
-reply_is x i r mid (inr (fails, is)) answered = absurd (false≢true (sym answered ∙ failure_is r fails))
+-- what was answered is the step's answer
+answer_is : (x : ContestState) (i : Item) (r : Answer) (mid : ContestState) → IsServed x i r mid → has_failed r ≡ false → r ≡ (item_step x i).0
+answer_is x i r mid (inl (said, is)) answered = said
+answer_is x i r mid (inr (fails, is)) answered = absurd (false≢true (sym answered ∙ failure_is r fails))
 
-after_valid : (x : ContestState) (i : Item) (r : Reply) → is_valid x ≡ true → is_valid (after_reply x i r) ≡ true
+same_reply : (p q : Reply) → ◌≡◌ {A = Answer} (answer.Reply p) (answer.Reply q) → p ≡ q
+same_reply p q e = cc e
+
+reply_is : (x : ContestState) (i : RequestItem) (r : Reply) (mid : ContestState) → IsServed x (item.Request i) (answer.Reply r) mid → (r.status == 503) ≡ false → r ≡ (step x i.now i.credential i.request).0
+reply_is x i r mid served answered = same_reply r (step x i.now i.credential i.request).0 (answer_is x (item.Request i) (answer.Reply r) mid served answered)
+
+after_valid : (x : ContestState) (i : Item) (r : Answer) → is_valid x ≡ true → is_valid (after_answer x i r) ≡ true
 after_valid x i r valid =
-    let go : (b : Bool) → (r.status == 503) ≡ b → is_valid (after_reply x i r) ≡ true = elim [
+    let go : (b : Bool) → has_failed r ≡ b → is_valid (after_answer x i r) ≡ true = elim [
       | true ↦ λ e. ap is_valid (after_failed x i r e) ∙ valid
-      | false ↦ λ e. ap is_valid (after_answered x i r e) ∙ steps_keep_valid i.now i.credential i.request x valid
+      | false ↦ λ e. ap is_valid (after_answered x i r e) ∙ items_keep_valid x i valid
     ] in
-    go (r.status == 503) refl
+    go (has_failed r) refl
 
-goes_unnoticed : (a : Audience) (x : ContestState) (i : Item) (r : Reply) → GoesUnnoticed a x i r → Alike a (after_reply x i r) x
+goes_unnoticed : (a : Audience) (x : ContestState) (i : Item) (r : Answer) → GoesUnnoticed a x i r → Alike a (after_answer x i r) x
 goes_unnoticed a x i r (inl e) = subst (λ z. Alike a z x) (sym (after_failed x i r e)) (itself a x)
 goes_unnoticed a x i r (inr h) =
-    let go : (b : Bool) → (r.status == 503) ≡ b → Alike a (after_reply x i r) x = elim [
+    let go : (b : Bool) → has_failed r ≡ b → Alike a (after_answer x i r) x = elim [
       | true ↦ λ e. subst (λ z. Alike a z x) (sym (after_failed x i r e)) (itself a x)
-      | false ↦ λ e. subst (λ z. Alike a z x) (sym (after_answered x i r e)) (unnoticed a x i.now i.credential i.request h)
+      | false ↦ λ e. subst (λ z. Alike a z x) (sym (after_answered x i r e)) (item_unnoticed a x i h)
     ] in
-    go (r.status == 503) refl
+    go (has_failed r) refl
 
-theirs_alike : (a : Audience) (x y : ContestState) (i j : Item) (r q : Reply) → is_valid x ≡ true → is_valid y ≡ true → Alike a x y → AreTheirs a x y i j r q → Alike a (after_reply x i r) (after_reply y j q)
+theirs_alike : (a : Audience) (x y : ContestState) (i j : Item) (r q : Answer) → is_valid x ≡ true → is_valid y ≡ true → Alike a x y → AreTheirs a x y i j r q → Alike a (after_answer x i r) (after_answer y j q)
 theirs_alike a x y i j r q valid_x valid_y h t =
-    let left : after_reply x i r ≡ add_all x (first_entries t.moves) = after_answered x i r t.answered ∙ ap (add_all x) t.adds in
-    let right : after_reply y j q ≡ add_all y (second_entries t.moves) = after_answered y j q t.answered_too ∙ ap (add_all y) t.adds_too in
-    let can : are_addable x (first_entries t.moves) ≡ true = sym (ap (are_addable x) t.adds) ∙ outcome_addable x i.now i.credential i.request valid_x in
-    let can_too : are_addable y (second_entries t.moves) ≡ true = sym (ap (are_addable y) t.adds_too) ∙ outcome_addable y j.now j.credential j.request valid_y in
+    let left : after_answer x i r ≡ add_all x (first_entries t.moves) = after_answered x i r t.answered ∙ (item_adds x i ∙ ap (add_all x) t.adds) in
+    let right : after_answer y j q ≡ add_all y (second_entries t.moves) = after_answered y j q t.answered_too ∙ (item_adds y j ∙ ap (add_all y) t.adds_too) in
+    let can : are_addable x (first_entries t.moves) ≡ true = sym (ap (are_addable x) t.adds) ∙ item_addable x i valid_x in
+    let can_too : are_addable y (second_entries t.moves) ≡ true = sym (ap (are_addable y) t.adds_too) ∙ item_addable y j valid_y in
     let both = moves_stay_alike a x y t.moves valid_x valid_y h can can_too t.alike in
-    subst (λ z. Alike a z (after_reply y j q)) (sym left) (subst (λ z. Alike a (add_all x (first_entries t.moves)) z) (sym right) both)
+    subst (λ z. Alike a z (after_answer y j q)) (sym left) (subst (λ z. Alike a (add_all x (first_entries t.moves)) z) (sym right) both)
 
 pub runs_alike : RunsAlike
 runs_alike a x y [] last final other valid_x valid_y h ends_x ends_y turns =
     (refl, subst (λ z. Alike a z final) (sym ends_x) (subst (λ z. Alike a x z) (sym ends_y) h))
 runs_alike a x y (FirstAlone i r ∷ ts) last final other valid_x valid_y h (mid, served, rest) run_y (unseen, more) =
-    runs_alike a (after_reply x i r) y ts last final other (after_valid x i r valid_x) valid_y (alike_onward a (after_reply x i r) x y (goes_unnoticed a x i r unseen) h)
-    (subst (λ z. IsRun z (first_items ts) (first_replies ts) last) (mid_is x i r mid served) rest) run_y more
+    runs_alike a (after_answer x i r) y ts last final other (after_valid x i r valid_x) valid_y (alike_onward a (after_answer x i r) x y (goes_unnoticed a x i r unseen) h)
+    (subst (λ z. IsRun z (first_items ts) (first_answers ts) last) (mid_is x i r mid served) rest) run_y more
 runs_alike a x y (SecondAlone j q ∷ ts) last final other valid_x valid_y h run_x (mid, served, rest) (unseen, more) =
-    runs_alike a x (after_reply y j q) ts last final other valid_x (after_valid y j q valid_y) (alike_onward a x y (after_reply y j q) h (turned a (after_reply y j q) y (goes_unnoticed a y j q unseen)))
-    run_x (subst (λ z. IsRun z (second_items ts) (second_replies ts) final) (mid_is y j q mid served) rest) more
+    runs_alike a x (after_answer y j q) ts last final other valid_x (after_valid y j q valid_y) (alike_onward a x y (after_answer y j q) h (turned a (after_answer y j q) y (goes_unnoticed a y j q unseen)))
+    run_x (subst (λ z. IsRun z (second_items ts) (second_answers ts) final) (mid_is y j q mid served) rest) more
 runs_alike a x y (Mine i r q ∷ ts) last final other valid_x valid_y h (mid_x, served_x, rest_x) (mid_y, served_y, rest_y) (mine, more) =
     let held : MayBeHeld a i.now x = record { no_jury = other; held = mine.held } in
     let alike = steps_alike a i.now i.credential i.request x y valid_x valid_y mine.sight held h in
     let same : r ≡ q = reply_is x i r mid_x served_x mine.answered ∙ (alike.0 ∙ sym (reply_is y i q mid_y served_y mine.answered_too)) in
-    let after : Alike a (after_reply x i r) (after_reply y i q) =
-    subst (λ z. Alike a z (after_reply y i q)) (sym (after_answered x i r mine.answered)) (subst (λ z. Alike a (step x i.now i.credential i.request).1 z) (sym (after_answered y i q mine.answered_too)) alike.1) in
-    let later = runs_alike a (after_reply x i r) (after_reply y i q) ts last final other (after_valid x i r valid_x) (after_valid y i q valid_y) after
-    (subst (λ z. IsRun z (first_items ts) (first_replies ts) last) (mid_is x i r mid_x served_x) rest_x)
-    (subst (λ z. IsRun z (second_items ts) (second_replies ts) final) (mid_is y i q mid_y served_y) rest_y) more in
+    let after : Alike a (after_answer x (item.Request i) (answer.Reply r)) (after_answer y (item.Request i) (answer.Reply q)) =
+    subst (λ z. Alike a z (after_answer y (item.Request i) (answer.Reply q))) (sym (after_answered x (item.Request i) (answer.Reply r) mine.answered)) (subst (λ z. Alike a (step x i.now i.credential i.request).1 z) (sym (after_answered y (item.Request i) (answer.Reply q) mine.answered_too)) alike.1) in
+    let later = runs_alike a (after_answer x (item.Request i) (answer.Reply r)) (after_answer y (item.Request i) (answer.Reply q)) ts last final other (after_valid x (item.Request i) (answer.Reply r) valid_x) (after_valid y (item.Request i) (answer.Reply q) valid_y) after
+    (subst (λ z. IsRun z (first_items ts) (first_answers ts) last) (mid_is x (item.Request i) (answer.Reply r) mid_x served_x) rest_x)
+    (subst (λ z. IsRun z (second_items ts) (second_answers ts) final) (mid_is y (item.Request i) (answer.Reply q) mid_y served_y) rest_y) more in
     (λ k. same k ∷ later.0 k, later.1)
 runs_alike a x y (Theirs i r j q ∷ ts) last final other valid_x valid_y h (mid_x, served_x, rest_x) (mid_y, served_y, rest_y) (theirs, more) =
-    runs_alike a (after_reply x i r) (after_reply y j q) ts last final other (after_valid x i r valid_x) (after_valid y j q valid_y) (theirs_alike a x y i j r q valid_x valid_y h theirs)
-    (subst (λ z. IsRun z (first_items ts) (first_replies ts) last) (mid_is x i r mid_x served_x) rest_x)
-    (subst (λ z. IsRun z (second_items ts) (second_replies ts) final) (mid_is y j q mid_y served_y) rest_y) more
+    runs_alike a (after_answer x i r) (after_answer y j q) ts last final other (after_valid x i r valid_x) (after_valid y j q valid_y) (theirs_alike a x y i j r q valid_x valid_y h theirs)
+    (subst (λ z. IsRun z (first_items ts) (first_answers ts) last) (mid_is x i r mid_x served_x) rest_x)
+    (subst (λ z. IsRun z (second_items ts) (second_answers ts) final) (mid_is y j q mid_y served_y) rest_y) more

@@ -5,7 +5,10 @@ use Rattle.contest_types.specs.State.{FixedPart, ContestState, add_all}
 use Rattle.contest_types.specs.Valid.{is_valid}
 use Rattle.contest_types.specs.declared.audience.Audience.{Audience}
 use Rattle.contest_types.specs.declared.audience.Audience.TheVariants.{Jury}
+use Rattle.contest_import.specs.declared.import_kind.ImportKind.{ImportKind}
 use Rattle.contest_desk.specs.Callers.{caller_of, audience_of}
+use Rattle.contest_desk.specs.Imports.{import_step}
+use Rattle.contest_desk.specs.Items.{HasStoreError}
 use Rattle.contest_desk.specs.Outcomes.{Outcome}
 use Rattle.contest_desk.specs.Commands.{IsSoundPost, post_outcome, poster}
 use Rattle.contest_desk.specs.Readings.{read}
@@ -58,3 +61,11 @@ StepsKeepValid = (now : ℕ) (credential : Credential) (request : Request) (x : 
 -- no step answers that the store failed or that memory was refused
 abbrev pub StepsNeverFail : Type 0
 StepsNeverFail = (now : ℕ) (credential : Credential) (request : Request) (x : ContestState) → IsStoreReply (step x now credential request).0 → ⊥
+
+-- nor does an import
+abbrev pub ImportsNeverFail : Type 0
+ImportsNeverFail = (x : ContestState) (now : ℕ) (kind : ImportKind) (file : List ℕ) → HasStoreError (import_step x now kind file).0 → ⊥
+
+-- an import leaves a valid contest valid
+abbrev pub ImportsKeepValid : Type 0
+ImportsKeepValid = (x : ContestState) (now : ℕ) (kind : ImportKind) (file : List ℕ) → is_valid x ≡ true → is_valid (import_step x now kind file).1 ≡ true

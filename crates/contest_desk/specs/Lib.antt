@@ -3,7 +3,6 @@ pub mod Routes
 pub mod Paths
 pub mod Offers
 pub mod Callers
-pub mod JsonBodies
 pub mod SubmissionBodies
 pub mod Outcomes
 pub mod PostProposal
@@ -17,6 +16,8 @@ pub mod Serving
 pub mod Unseen
 pub mod UnseenLaws
 pub mod Laws
+pub mod Imports
+pub mod Items
 pub mod Runs
 pub mod Moves
 pub mod TwoRuns

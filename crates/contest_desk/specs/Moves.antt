@@ -7,7 +7,7 @@ use Rattle.contest_types.specs.TeamPlaces.{is_public}
 use Rattle.contest_types.specs.State.{ContestState, add, add_all}
 use Rattle.contest_types.specs.Valid.{is_valid}
 use Rattle.contest_types.specs.declared.entry.Entry.{Entry}
-use Rattle.contest_types.specs.declared.entry.Entry.TheVariants.{NewRelease, NewSubmission}
+use Rattle.contest_types.specs.declared.entry.Entry.TheVariants.{NewRelease, NewSubmission, NewType, NewLanguage, NewProblem, NewGroup, NewTeam, NewAccount}
 use Rattle.contest_types.specs.declared.audience.Audience.{Audience}
 use Rattle.contest_types.specs.declared.submission.Release.{Release}
 use Rattle.contest_types.specs.declared.submission.Submission.{Submission}
@@ -33,10 +33,17 @@ abbrev pub ReleasesLike : Release → Entry → Type 0
 ReleasesLike v (NewRelease u) = v ≡ u
 ReleasesLike v _ = ⊥
 
--- two entries that show an audience the same. No command adds other entries that are seen yet
+-- two entries that show an audience the same: of the settings and the accounts, which the promise takes as equal,
+-- the same row. Nothing adds other entries that are seen yet
 abbrev pub AreSame : Audience → ContestState → Entry → Entry → Type 0
 AreSame a x (NewSubmission s) f = ShowsLike a x s f
 AreSame a x (NewRelease v) f = ReleasesLike v f
+AreSame a x (NewType t) f = f ≡ NewType t
+AreSame a x (NewLanguage l) f = f ≡ NewLanguage l
+AreSame a x (NewProblem p) f = f ≡ NewProblem p
+AreSame a x (NewGroup g) f = f ≡ NewGroup g
+AreSame a x (NewTeam t) f = f ≡ NewTeam t
+AreSame a x (NewAccount account) f = f ≡ NewAccount account
 AreSame a x _ f = ⊥
 
 -- an entry that is added to the first of two contests, to the second, or one to each

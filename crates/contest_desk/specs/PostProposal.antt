@@ -10,7 +10,7 @@ use Rattle.contest_view.specs.ProposalObjects.{proposal_data}
 use Rattle.contest_rules.specs.Proposing.{entries_of, propose}
 use Rattle.contest_rules.specs.declared.proposing.NewVerdict.{NewVerdict}
 use Rattle.contest_rules.specs.declared.proposing.WantedVerdict.{WantedVerdict}
-use Rattle.contest_desk.specs.JsonBodies.{data_of, id_in}
+use Rattle.contest_files.specs.JsonMembers.{data_of, id_in}
 use Rattle.contest_desk.specs.Outcomes.{Outcome, refusing}
 use Rattle.contest_desk.specs.Replies.{answer}
 use Rattle.contest_desk.specs.declared.command.Posted.{Posted}

@@ -1,5 +1,5 @@
 -- A post that is repeated (own; idempotency keys).
-use Rattle.std.specs.Prelude.{◌≡◌, ℕ, true, false, List, [], ◌∷◌, ◌++◌, Some, map}
+use Rattle.std.specs.Prelude.{◌≡◌, ℕ, true, false, List, [], ◌∷◌, ◌++◌, ◌<◌, length, Some, map}
 use Rattle.contest_types.specs.Places.{place_of}
 use Rattle.contest_types.specs.State.{FixedPart, ContestState, submissions_of, add}
 use Rattle.contest_types.specs.Valid.{is_valid}
@@ -13,18 +13,21 @@ use Rattle.contest_rules.specs.declared.submitting.WantedSubmission.{WantedSubmi
 use Rattle.contest_desk.specs.Outcomes.{replying, refusing}
 use Rattle.contest_desk.specs.PostSubmission.{IsSoundSubmission, submission_outcome}
 use Rattle.contest_desk.specs.Runs.{IsRun}
-use Rattle.contest_desk.specs.declared.reply.Reply.{Reply}
-use Rattle.contest_desk.specs.declared.run.Item.{Item}
+use Rattle.contest_desk.specs.declared.item.Answer.{Answer}
+use Rattle.contest_desk.specs.declared.item.Item.{Item}
 
--- the second has the settings, accounts and marks of the first, and each team's submissions with more behind them
+-- the second has the settings and marks of the first, and each team's submissions with more behind them
 pub record Continues (x y : ContestState) : Type 0 where
-  pub fixed : y.fixed ≡ x.fixed
+  pub settings : y.fixed.settings ≡ x.fixed.settings
+  pub marks : y.fixed.marks ≡ x.fixed.marks
   pub more : (team : ℕ) → List Submission
   pub own : (team : ℕ) → submissions_of team y.submissions ≡ submissions_of team x.submissions ++ more team
 
--- a run leads to what continues the contest before it
+-- once a submission stands, settings are taken no more, and a run leads to what continues the contest before it
 abbrev pub RunsContinue : Type 0
-RunsContinue = (x : ContestState) (items : List Item) (replies : List Reply) (y : ContestState) → is_valid x ≡ true → IsRun x items replies y → Continues x y
+RunsContinue =
+    (x : ContestState) (items : List Item) (answers : List Answer) (y : ContestState)
+    → is_valid x ≡ true → 0 < length x.submissions → IsRun x items answers y → Continues x y
 
 -- the problem and the language are there, and an entry point is given where one is required
 pub record NamesWhatIsThere (f : FixedPart) (w : WantedSubmission) (problem language : ℕ) : Type 0 where
@@ -37,9 +40,9 @@ pub record NamesWhatIsThere (f : FixedPart) (w : WantedSubmission) (problem lang
 -- is refused
 abbrev pub RepeatsOnce : Type 0
 RepeatsOnce =
-    (x y : ContestState) (now later team : ℕ) (key : List ℕ) (first : WantedSubmission) (s : Submission) (items : List Item) (replies : List Reply)
+    (x y : ContestState) (now later team : ℕ) (key : List ℕ) (first : WantedSubmission) (s : Submission) (items : List Item) (answers : List Answer)
     → is_valid x ≡ true → IsSoundSubmission x.fixed team first → first.key ≡ Some key
-    → (submission_outcome now team first x).entries ≡ NewSubmission s ∷ [] → IsRun (add x (NewSubmission s)) items replies y
+    → (submission_outcome now team first x).entries ≡ NewSubmission s ∷ [] → IsRun (add x (NewSubmission s)) items answers y
     → (submission_outcome later team first y ≡ replying (submission_outcome now team first x).reply)
     × ((again : WantedSubmission) (problem language : ℕ) → again.key ≡ Some key → NamesWhatIsThere x.fixed again problem language
     → (asks_the_same s problem language again ≡ true → submission_outcome later team again y ≡ replying (submission_outcome now team first x).reply)

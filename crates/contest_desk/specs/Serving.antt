@@ -1,4 +1,4 @@
--- What serving a request asks of a kept contest, and what it leaves of it, whoever keeps it (own).
+-- What serving a request or an import asks of a kept contest, and what it leaves of it, whoever keeps it (own).
 use Rattle.std.specs.Prelude.{◌≡◌, ◌⊎◌, ◌==◌, ℕ, true, false, List, [], ◌∷◌, Some, IsTrue, Result}
 use Rattle.contest_types.specs.State.{ContestState, add_all}
 use Rattle.contest_types.specs.Streams.{one_more}
@@ -20,10 +20,6 @@ pub record IsReady (store : Kept) : Type 0 where
   pub up : IsTrue store.is_open
   pub settled : store.contest ≡ store.committed
   pub valid : is_valid store.contest ≡ true
-
--- the contest after what a request comes to
-abbrev pub after : (ContestState → Outcome) → ContestState → ContestState
-after outcome x = add_all x (outcome x).entries
 
 -- one commit where something is added, and none where nothing is
 abbrev pub commits_for : List Entry → ℕ → ℕ

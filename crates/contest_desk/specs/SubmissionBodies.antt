@@ -14,7 +14,7 @@ use Rattle.contest_types.specs.declared.limits.TheConstants.{POSTED_FILE}
 use Rattle.contest_types.specs.declared.refusal.Refusal.{Refusal}
 use Rattle.contest_types.specs.declared.refusal.Refusal.TheVariants.{Malformed, BodyTooLarge, Memory}
 use Rattle.contest_rules.specs.declared.submitting.WantedSubmission.{WantedSubmission}
-use Rattle.contest_desk.specs.JsonBodies.{data_of, text_in, present_in, optional, id_in, optional_id_in, only_item}
+use Rattle.contest_files.specs.JsonMembers.{data_of, text_in, present_in, optional, id_in, optional_id_in, only_item}
 use Rattle.contest_desk.specs.declared.request.KeyField.{KeyField}
 use Rattle.contest_desk.specs.declared.request.KeyField.TheVariants.{Absent, Key, Bad}
 use Rattle.contest_desk.specs.declared.submission_body.SubmissionBody.{SubmissionBody}

@@ -24,7 +24,7 @@ use std::marker::Model;
 /// The desk of a contest, whoever keeps the contest. Contracts see what keeps it.
 #[derive(Drop)]
 pub struct Desk<S: ContestStore> {
-    store: S,
+    pub(crate) store: S,
     table: Router<Offer>,
 }
 

@@ -9,9 +9,9 @@ ghost use Rattle.contest_store.specs.InMemory.{contest_of};
 ghost use Rattle.contest_desk.specs.Laws.{HasSight};
 ghost use Rattle.contest_desk.specs.Serving.{IsStoreReply};
 ghost use Rattle.contest_desk.specs.Step.{step};
-ghost use Rattle.contest_desk.specs.TwoRuns.{Turn, AreAlikeTurns, first_items, first_replies, first_told, second_items, second_replies, second_told};
+ghost use Rattle.contest_desk.specs.TwoRuns.{Turn, AreAlikeTurns, first_items, first_answers, first_told, second_items, second_answers, second_told};
 
-use crate::{Credential, Desk, Item, Reply, Request};
+use crate::{Answer, Credential, Desk, Item, Reply, Request};
 use contest_store::MemoryStore;
 use contest_types::Moment;
 use std::alloc::{AllocError, Global};
@@ -34,28 +34,28 @@ pub fn handle_in_memory(
     desk.handle(alloc, now, credential, request)
 }
 
-/// Lets two desks run, each its own requests. Where their contests agree on what an audience may learn,
-/// and the requests go by such turns as `runs_alike` says, the audience is answered alike by both, and
-/// they agree on it afterwards.
+/// Lets two desks run, each its own requests and imports. Where their contests agree on what an audience
+/// may learn, and the items go by such turns as `runs_alike` says, the audience is answered alike by both,
+/// and they agree on it afterwards.
 ///
 /// # Errors
 ///
-/// Want of memory alone, before a desk's first request.
+/// Want of memory alone, before a desk's first item.
 pub fn run_two_in_memory(
     alloc: Global,
     first: &mut Desk<MemoryStore>,
     second: &mut Desk<MemoryStore>,
-    requests: Vec<Item>,
+    items: Vec<Item>,
     others: Vec<Item>,
-) -> Result<(Vec<Reply>, Vec<Reply>), AllocError>
-    ensures alike { IfOk result (λ replies. (a : TheAudience) (turns : List Turn) → a ≢ Jury → Alike a (contest_of first.old) (contest_of second.old)
-        → first_items turns ≡ requests.items → first_replies turns ≡ replies.0.items → second_items turns ≡ others.items → second_replies turns ≡ replies.1.items
+) -> Result<(Vec<Answer>, Vec<Answer>), AllocError>
+    ensures alike { IfOk result (λ answers. (a : TheAudience) (turns : List Turn) → a ≢ Jury → Alike a (contest_of first.old) (contest_of second.old)
+        → first_items turns ≡ items.items → first_answers turns ≡ answers.0.items → second_items turns ≡ others.items → second_answers turns ≡ answers.1.items
         → AreAlikeTurns a (contest_of first.old) (contest_of second.old) turns
         → (first_told turns ≡ second_told turns) × Alike a (contest_of first.new) (contest_of second.new)) }
 {
     first.stays_settled();
     second.stays_settled();
-    let replies = first.run(alloc, requests)?;
-    let other_replies = second.run(alloc, others)?;
-    Ok((replies, other_replies))
+    let answers = first.run(alloc, items)?;
+    let other_answers = second.run(alloc, others)?;
+    Ok((answers, other_answers))
 }

@@ -1,6 +1,6 @@
 //! Laws of the desk's steps: functions that do nothing, and whose contracts say what holds of every
 //! contest.
-ghost use Rattle.contest_desk.specs.Laws.{HeadIsGet, PostsAlike, ReadsAlike, StepsAlike, StepsKeepValid, StepsNeverFail};
+ghost use Rattle.contest_desk.specs.Laws.{HeadIsGet, ImportsKeepValid, ImportsNeverFail, PostsAlike, ReadsAlike, StepsAlike, StepsKeepValid, StepsNeverFail};
 
 /// Until the thaw, valid contests with equal settings, accounts and marks that agree on all that a
 /// caller may learn answer each of its requests byte for byte alike, and agree on it afterwards.
@@ -34,4 +34,14 @@ pub fn steps_keep_valid()
 /// own, and say that nothing was done.
 pub fn steps_never_fail()
     ensures { StepsNeverFail }
+{}
+
+/// An import leaves a valid contest valid.
+pub fn imports_keep_valid()
+    ensures { ImportsKeepValid }
+{}
+
+/// No import answers that the store failed or that memory was refused.
+pub fn imports_never_fail()
+    ensures { ImportsNeverFail }
 {}

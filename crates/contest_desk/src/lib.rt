@@ -1,4 +1,4 @@
-//! The contest desk: a request in, its reply out, and what it adds to the contest kept.
+//! The contest desk: a request or a file in, its answer out, and what it adds to the contest kept.
 #![tactic(auto)]
 
 mod answer;
@@ -7,8 +7,10 @@ mod asked;
 mod caller;
 mod command;
 mod desk;
+mod import;
+mod imported;
 mod in_memory;
-mod json_body;
+mod item;
 mod keep;
 pub mod laws;
 mod offer;
@@ -32,8 +34,8 @@ mod wish;
 pub use command::Command;
 pub use desk::Desk;
 pub use in_memory::{handle_in_memory, run_two_in_memory};
+pub use item::{Answer, ImportItem, Item, RequestItem};
 pub use offer::{AllowedMethods, Offer};
 pub use operation::{Endpoint, Operation, Reading};
 pub use reply::{ContentType, ExtraField, Reply, ReplyBody};
 pub use request::{Credential, KeyField, Method, Request};
-pub use run::Item;

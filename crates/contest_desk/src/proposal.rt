@@ -4,14 +4,14 @@ ghost use Rattle.std.specs.Option.{option_map};
 ghost use Rattle.serde_json.specs.View.{view};
 ghost use Rattle.contest_types.specs.State.{ContestState, FixedPart};
 ghost use Rattle.contest_store.specs.Lists.{loaded};
-ghost use Rattle.contest_desk.specs.JsonBodies.{IsRefused};
+ghost use Rattle.contest_files.specs.Refused.{IsRefused};
 ghost use Rattle.contest_desk.specs.PostProposal.{posted_proposal, proposal_outcome, verdict_in, verdict_of, verdict_outcome};
 ghost use Rattle.contest_desk.specs.Serving.{IsOrdinary};
 
 use crate::command::Posted;
-use crate::json_body::{id_in, value_of};
 use crate::outcome::Outcome;
 use crate::{Reply, Request};
+use contest_files::{id_in, value_of};
 use contest_rules::{NewVerdict, WantedVerdict, decide_proposal};
 use contest_store::Lists;
 use contest_types::{Entry, Id, Moment, Refusal, Rows, Settings};

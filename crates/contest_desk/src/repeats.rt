@@ -2,7 +2,8 @@
 //! contest and every run.
 ghost use Rattle.contest_desk.specs.Repeats.{RepeatsOnce, RunsContinue};
 
-/// A run changes no settings, accounts or marks, and puts each team's new submissions behind its old ones.
+/// Once a submission stands a run changes no settings and no marks, and puts each team's new submissions
+/// behind its old ones.
 pub fn runs_continue()
     ensures { RunsContinue }
 {}

@@ -4,13 +4,13 @@ ghost use Rattle.serde_json.specs.View.{view};
 ghost use Rattle.base64.specs.GeneralPurpose.{decoded_of};
 ghost use Rattle.base64.specs.Engines.{standard};
 ghost use Rattle.contest_types.specs.declared.limits.TheConstants.{POSTED_FILE as posted_file};
-ghost use Rattle.contest_desk.specs.JsonBodies.{IsRefused};
+ghost use Rattle.contest_files.specs.Refused.{IsRefused};
 ghost use Rattle.contest_desk.specs.SubmissionBodies.{entry_point_in, file_in, is_own, key_in, refusal_of_decoding, submission_in, submission_of, wanted_in, wanted_of, within_limit};
 
 use crate::KeyField;
-use crate::json_body::{id_in, only_item, optional_id_in, present_in, text_in, value_of};
 use base64::DecodeAllocError;
 use base64::engine::general_purpose::STANDARD;
+use contest_files::{id_in, only_item, optional_id_in, present_in, text_in, value_of};
 use contest_rules::WantedSubmission;
 use contest_types::limits::POSTED_FILE;
 use contest_types::{Id, Name, Refusal, Rows};

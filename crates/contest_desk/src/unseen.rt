@@ -1,6 +1,6 @@
 //! Laws of what goes unnoticed: functions that do nothing, and whose contracts say what holds of every
 //! contest.
-ghost use Rattle.contest_desk.specs.UnseenLaws.{UnseenEntry, UnseenEntries, RefusedStep, ReadStep, UnseenStep};
+ghost use Rattle.contest_desk.specs.UnseenLaws.{UnseenEntry, UnseenEntries, RefusedStep, ReadStep, UnseenStep, RefusedImport, UnseenImport};
 
 /// A change that an audience can't notice before the thaw leaves the contest alike for it: a verdict on
 /// another team's frozen submission, a hidden team's submission or a verdict on one, a clarification of
@@ -29,4 +29,14 @@ pub fn read_step()
 /// can't notice, the contest after it is alike for that audience to the contest before it.
 pub fn unseen_step()
     ensures { UnseenStep }
+{}
+
+/// A file that is refused leaves the contest exactly as it was.
+pub fn refused_import()
+    ensures { RefusedImport }
+{}
+
+/// And one that adds nothing, or only what an audience can't notice, leaves it alike for that audience.
+pub fn unseen_import()
+    ensures { UnseenImport }
 {}

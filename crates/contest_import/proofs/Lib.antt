@@ -1,9 +1,7 @@
-pub mod Rest
-pub mod Steps
-pub mod FieldLemmas
-pub mod ReplayStateLemmas
-pub mod ReplayFileLemmas
-pub mod ReplayContestLemmas
-pub mod ReplayValid
-pub mod ReplayUntil
-mod Examples
+pub mod RowLemmas
+pub mod SoundRows
+mod ContestExamples
+pub mod ObjectLemmas
+pub mod RecordLemmas
+pub mod WordLemmas
+pub mod FaultLemmas

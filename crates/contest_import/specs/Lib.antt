@@ -1,8 +1,9 @@
-pub mod CsvRecords
-pub mod FieldTexts
-pub mod ReplayRecord
-pub mod ReplayRows
-pub mod ReplayLists
-pub mod ReplayContest
-pub mod ReplayState
-pub mod ReplayFile
+pub mod RowAdditions
+pub mod RecordFaults
+pub mod Teams
+pub mod SettingsObjects
+pub mod CsvFiles
+pub mod Files
+pub mod ContestFile
+pub mod CsvKinds
+pub mod Words

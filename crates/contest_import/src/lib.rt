@@ -1,8 +1,28 @@
-//! Files of a contest director, read into typed rows: so far the contest of a replay, as CSV.
+//! What the files of a contest director add to a contest: settings, teams and accounts, and the contest
+//! itself as it is set up.
 #![tactic(auto)]
 
-mod csv_records;
-mod fields;
-mod replay;
+mod account_addition;
+mod account_record;
+mod account_row;
+mod additions;
+mod contest_file;
+mod contest_members;
+mod contest_validity;
+mod csv_files;
+mod csv_record;
+mod import_kind;
+pub mod laws;
+mod record_fault;
+mod settings_files;
+mod settings_objects;
+mod team_record;
+mod team_row;
+mod teams;
 
-pub use replay::{ReplayContest, read_replay_csv};
+pub use account_row::{AccountRow, NamedRole};
+pub use contest_file::read_contest_json;
+pub use csv_files::{read_accounts_csv, read_teams_csv};
+pub use import_kind::{ImportKind, SettingsKind, read_import};
+pub use settings_files::read_settings_json;
+pub use team_row::TeamRow;

@@ -17,6 +17,7 @@ use Rattle.contest_tables.specs.declared.counts.Counts.{Counts}
 use Rattle.contest_sqlite.specs.Contests.{contest_in_trees, contest_of, HoldsContests}
 use Rattle.contest_sqlite.specs.Creation.{Created, IsMade, IsOfStore, IsReadEqual, StoodEqual, StoodOther}
 use Rattle.contest_sqlite.specs.Keeping.{kept_of, StaysHeld, StaysKept}
+use Rattle.contest_sqlite.specs.Opening.{ShowsValid}
 use Rattle.contest_sqlite.proofs.ShownContests.{contest_is, keeps, shows}
 
 -- the contest was made, or stood with the head
@@ -65,6 +66,12 @@ module _ (x : ContestState) (head : ContestHead) (old new : State) (lists : Cont
           };
           equal = equal.equal ∙ is;
         }
+
+-- a store that was created shows a valid contest
+pub either_valid : (x : ContestState) (head : ContestHead) (old new : State) (lists : ContestState) (counts : Counts) (commits : ℕ) (is_loaded : Bool) → IsEither x head old new lists → ShowsValid (kept_of new counts commits is_loaded)
+either_valid x head old new lists counts commits is_loaded either =
+    let t = shows_theirs x head old new lists either in
+    record { contest = t.contest; shows = shows new t.contest t.contest t.holds counts commits is_loaded; valid = t.holds.sound.valid }
 
 -- what the store failed with isn't told as another contest
 not_reused : (e : StoreError) → refusal_of e ≡ KeyReused → ⊥

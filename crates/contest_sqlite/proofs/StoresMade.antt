@@ -5,7 +5,7 @@ use Rattle.contest_types.specs.State.{ContestState}
 use Rattle.contest_store.specs.Lists.{loaded}
 use Rattle.contest_tables.specs.declared.counts.Counts.{Counts}
 use Rattle.contest_sqlite.specs.Keeping.{StaysHeld, StaysKept, kept_of}
-use Rattle.contest_sqlite.specs.Opening.{IsRead, Opened}
+use Rattle.contest_sqlite.specs.Opening.{IsRead, Opened, ShowsValid}
 use Rattle.contest_sqlite.proofs.ShownContests.{contest_is, keeps, shows}
 
 -- what it keeps true of itself
@@ -14,6 +14,10 @@ is_whole old new lists read = (
   λ clean. (let r = read clean in keeps new r.contest r.contest r.holds),
   λ clean. (let r = read clean in (r.holds.holds.is_open, r.held ∙ ap loaded (sym (contest_is new r.contest r.contest r.holds)))),
 )
+
+-- it shows a valid contest
+pub read_valid : (old new : State) (counts : Counts) (commits : ℕ) (is_loaded : Bool) (lists : ContestState) → IsRead old new lists → ShowsValid (kept_of new counts commits is_loaded)
+read_valid old new counts commits is_loaded lists r = record { contest = r.contest; shows = shows new r.contest r.contest r.holds counts commits is_loaded; valid = r.holds.sound.valid }
 
 -- and what contracts see of it
 pub opened : (old new : State) (counts : Counts) (commits : ℕ) (is_loaded : Bool) (lists : ContestState) → IsRead old new lists → Survives old new (λ _. ⊥) → HasCleanDisk new → Opened old (kept_of new counts commits is_loaded)

@@ -2,6 +2,7 @@
 use Rattle.std.specs.Prelude.{◌≡◌, IsTrue, Some, true}
 use Rattle.sqlite.specs.State.{HasCleanDisk, State}
 use Rattle.contest_types.specs.State.{ContestState}
+use Rattle.contest_types.specs.Valid.{is_valid}
 use Rattle.contest_store.specs.Keeping.{Kept, LeavesNoMore, Shows}
 use Rattle.contest_store.specs.Lists.{loaded}
 use Rattle.contest_tables.specs.Connected.{IsOfDesk}
@@ -27,6 +28,12 @@ pub record Opened (s : State) (kept : Kept) : Type 0 where
   pub found : contest_in_trees s.now.trees ≡ Some contest
   pub shows : Shows kept contest contest
   pub crash : LeavesNoMore (may_leave_of s) kept.may_leave
+
+-- a store shows a valid contest, as it was committed
+pub record ShowsValid (kept : Kept) : Type 0 where
+  pub contest : ContestState
+  pub shows : Shows kept contest contest
+  pub valid : is_valid contest ≡ true
 
 -- no call failed yet, no commit was answered, and the lists are in memory
 abbrev pub IsNew : {S : Type 0} → StoreValue S → Type 0

@@ -50,7 +50,7 @@ impl<S: Alter> Store<S> {
     ghost use Rattle.contest_sqlite.specs.Contests.{committed_of, contest_in_trees, contest_of};
     ghost use Rattle.contest_sqlite.specs.Creation.{Created, IsOfStore, StoodEqual, StoodOther};
     ghost use Rattle.contest_sqlite.specs.Keeping.{IsTrusted};
-    ghost use Rattle.contest_sqlite.specs.Opening.{IsNew, IsNumbered, Opened};
+    ghost use Rattle.contest_sqlite.specs.Opening.{IsNew, IsNumbered, Opened, ShowsValid};
     ghost use Rattle.contest_sqlite.specs.Value.{shown_in, stored};
 
     /// The store over the tables of a contest, which are read at once, outside of a transaction.
@@ -64,6 +64,7 @@ impl<S: Alter> Store<S> {
         requires { IsNumbered (state S.Store conn) }
         ensures opened { IfOk result (λ store. HasCleanDisk (shown_in S.Store store) → Opened (state S.Store conn) (stored S.Store store)) }
         ensures survives { IfOk result (λ store. Survives (state S.Store conn) (shown_in S.Store store) (λ _. ⊥)) }
+        ensures shows { IfOk result (λ store. HasCleanDisk (shown_in S.Store store) → ShowsValid (stored S.Store store)) }
         ensures new { IfOk result IsNew }
         ensures kinds { IfErr result (λ e. IsOfStore e.0) }
         ensures refused { IfErr result (λ e. Survives (state S.Store conn) (state S.Store e.1) (λ _. ⊥)) }
@@ -99,6 +100,7 @@ impl<S: Alter> Store<S> {
         requires { IsNumbered (state S.Store conn) }
         ensures created { IfOk result (λ store. HasCleanDisk (shown_in S.Store store) → IsBare (state S.Store conn) → Created contest (state S.Store conn) (stored S.Store store)) }
         ensures stood { IfOk result (λ store. HasCleanDisk (shown_in S.Store store) → ¬ IsBare (state S.Store conn) → StoodEqual contest (state S.Store conn) (stored S.Store store)) }
+        ensures shows { IfOk result (λ store. HasCleanDisk (shown_in S.Store store) → ShowsValid (stored S.Store store)) }
         ensures new { IfOk result IsNew }
         ensures valid { OnOk result (is_valid (new_contest contest) ≡ true) }
         ensures differs { IfErr result (λ e. HasCleanDisk (state S.Store e.1) → e.0 ≡ Refusal.KeyReused → StoodOther contest.head (state S.Store conn) (state S.Store e.1)) }

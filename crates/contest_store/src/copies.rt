@@ -31,6 +31,10 @@ pub fn copies<T: CopyRow + Drop>(alloc: Global, rows: &[T]) -> Result<Vec<T>, Al
 }
 
 /// The same bytes again.
+///
+/// # Errors
+///
+/// Want of memory alone.
 pub fn copied_bytes(alloc: Global, bytes: &[u8]) -> Result<Rows<u8>, AllocError>
     ensures { IfOk result (λ rows. rows ≡ bytes.now) }
 {
@@ -54,6 +58,10 @@ pub fn without_file(alloc: Global, submission: &Submission) -> Result<Submission
 }
 
 /// The same settings, accounts and marks again.
+///
+/// # Errors
+///
+/// Want of memory alone.
 pub fn copied_fixed(alloc: Global, fixed: &Fixed) -> Result<Fixed, AllocError>
     ensures { IfOk result (λ copy. copy ≡ fixed.now) }
 {

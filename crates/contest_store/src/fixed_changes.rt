@@ -76,9 +76,12 @@ fn added(outcome: Result<bool, RowFault>) -> Result<(), AllocError>
     }
 }
 
-// Adds an account at the place that its id has. Where memory is refused the accounts are of no use any
-// more.
-fn add_account(
+/// Adds an account at the place that its id has.
+///
+/// # Errors
+///
+/// Want of memory alone. The accounts are of no use any more then.
+pub fn add_account(
     alloc: Global,
     accounts: &mut Rows<Account>,
     account: Account,

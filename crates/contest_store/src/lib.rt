@@ -10,7 +10,8 @@ mod store;
 mod store_error;
 mod valid_fixed;
 
-pub use copies::CopyRow;
+pub use copies::{CopyRow, copied_bytes, copied_fixed};
+pub use fixed_changes::add_account;
 pub use lists::Lists;
 pub use memory::MemoryStore;
 pub use store::ContestStore;

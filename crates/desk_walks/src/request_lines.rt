@@ -2,7 +2,7 @@
 //! the idempotency key, and below it `POST /contests/demo/submissions {..}`.
 
 use base64::engine::general_purpose::STANDARD;
-use contest_desk::{Credential, Item, KeyField, Method, Request};
+use contest_desk::{Credential, Item, KeyField, Method, Request, RequestItem};
 use contest_types::{Id, Moment, Refusal, Rows};
 use std::alloc::{AllocError, Global};
 use std::test::Fail;
@@ -32,11 +32,11 @@ fn item_at(alloc: Global, now: Moment, caller: &str, line: &str) -> Result<Item,
         None => (caller, None),
     };
     let request = request(alloc, key, line)?;
-    Ok(Item {
+    Ok(Item::Request(RequestItem {
         now,
         credential: credential(alloc, who)?,
         request,
-    })
+    }))
 }
 
 /// The credential of the public, of an account's token, or one that can't be read.

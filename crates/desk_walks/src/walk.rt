@@ -4,7 +4,7 @@
 use crate::demo_desk::demo_desk;
 use crate::reply_line::{is_reply, reply_line};
 use crate::request_lines::items_of;
-use contest_desk::{Desk, Reply};
+use contest_desk::{Answer, Desk, Reply};
 use contest_store::MemoryStore;
 use std::alloc::{AllocError, Global};
 use std::test::Fail;
@@ -94,7 +94,19 @@ fn given(alloc: Global, desk: &mut Desk<MemoryStore>, step: &str) -> Result<Stri
 
 fn replies(alloc: Global, desk: &mut Desk<MemoryStore>, step: &str) -> Result<Vec<Reply>, Fail> {
     let items = items_of(alloc, step)?;
-    Ok(desk.run(alloc, items)?)
+    let mut replies = Vec::new(alloc);
+    for answer in desk.run(alloc, items)? {
+        replies.push(reply_of(answer).ok_or("a request is answered as an import")?)?;
+    }
+    Ok(replies)
+}
+
+/// The reply that an answer is, if it is one: a walk imports nothing.
+fn reply_of(answer: Answer) -> Option<Reply> {
+    match answer {
+        Answer::Reply(reply) => Some(reply),
+        Answer::Imported(_) => None,
+    }
 }
 
 fn lines_of(alloc: Global, replies: &[Reply]) -> Result<String, AllocError> {

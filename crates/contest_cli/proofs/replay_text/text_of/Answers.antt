@@ -1,7 +1,7 @@
 use Rattle.std.proofs.Common.{◌≡◌, ap, sym, subst, ◌∙◌}
 use Rattle.std.specs.Prelude.{IfOk, string_bytes}
 use Rattle.contest_score.specs.Ranking.{Scoreboard, board_of, is_public}
-use Rattle.contest_import.proofs.ReplayContestLemmas.{replayed_board}
+use Rattle.contest_replay.proofs.ReplayContestLemmas.{replayed_board}
 use Rattle.contest_text.specs.BoardText.{board_text}
 use Rattle.contest_cli.proofs.replay_text.text_of.Goals as goal
 

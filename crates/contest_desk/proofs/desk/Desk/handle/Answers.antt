@@ -14,8 +14,8 @@ use Rattle.contest_desk.proofs.desk.Desk.handle.Goals as goal
 
 pub invariant_of-self : goal.invariant_of-self
 invariant_of-self g c = (
-  stays_settled (g.S.ContestStore.kept c.self.inside.store) (g.S.ContestStore.kept c.serve.new.store) (λ x. outcome x c.args.now c.args.credential c.args.request) _ c.serve.result
-      (steps_keep_valid c.args.now c.args.credential c.args.request) c.self.invariant.0 c.serve.ensures.leaves,
+  stays_settled (g.S.ContestStore.kept c.self.inside.store) (g.S.ContestStore.kept c.serve.new.store) (outcome (g.S.ContestStore.kept c.self.inside.store).contest c.args.now c.args.credential c.args.request).entries _ c.serve.result
+      (steps_keep_valid c.args.now c.args.credential c.args.request (g.S.ContestStore.kept c.self.inside.store).contest) c.self.invariant.0 c.serve.ensures.leaves,
   c.self.invariant.1,
 )
 

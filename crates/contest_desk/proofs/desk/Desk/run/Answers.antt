@@ -1,14 +1,14 @@
 use Rattle.std.proofs.Common.{◌≡◌, [], subst, sym, refl, ◌++◌, ◌∷◌, inl, inr, arith, rules}
 use Rattle.contest_store.proofs.LeaveLemmas.{failed_then, then_failed}
 use Rattle.contest_desk.proofs.RunLemmas.{Handles, begins, handled, ends, leaves_at_end, open_after, counts_more}
-use Rattle.contest_desk.specs.Runs.{CountsReplies}
+use Rattle.contest_desk.specs.Runs.{CountsAnswers}
 use Rattle.contest_desk.proofs.desk.Desk.run.Goals as goal
 
 pub loop-item-init : goal.loop-item-init
 loop-item-init g c = record {
   run = λ clean. begins (g.S.ContestStore.kept c.args.self.now) c.args.items.items _ _ (search rules) (search rules);
   opens = λ clean all opened. opened;
-  faults = subst (λ rs. CountsReplies rs (g.S.ContestStore.kept c.args.self.now).faults (g.S.ContestStore.kept c.args.self.now).faults) (let e : c.in_ok-replies.replies.items ≡ [] = search rules in sym e) refl;
+  faults = subst (λ rs. CountsAnswers rs (g.S.ContestStore.kept c.args.self.now).faults (g.S.ContestStore.kept c.args.self.now).faults) (let e : c.in_ok-answers.answers.items ≡ [] = search rules in sym e) refl;
   clean = λ clean. clean;
   up = λ clean opened. opened;
   shuts = λ clean opened. inl opened;
@@ -18,35 +18,35 @@ loop-item-init g c = record {
 
 pub loop-item-preserved : goal.loop-item-preserved
 loop-item-preserved g c =
-    let handles : (g.S.ContestStore.kept c.handle-reply.new.self).is_clean → Handles (g.S.ContestStore.kept c.loop-item.self) (g.S.ContestStore.kept c.handle-reply.new.self) c.in-Some.item c.handle-reply.result = λ clean. record {
-      opens = c.handle-reply.ensures.open clean;
-      replies = c.handle-reply.ensures.reply clean;
-      becomes = c.handle-reply.ensures.contest clean;
-      stays = c.handle-reply.ensures.unchanged clean;
-      up = c.handle-reply.ensures.up clean;
-      kept = c.handle-reply.ensures.kept clean;
-      crash = c.handle-reply.ensures.crash clean;
-      shut = c.handle-reply.ensures.shut clean;
+    let handles : (g.S.ContestStore.kept c.perform-answer.new.self).is_clean → Handles (g.S.ContestStore.kept c.loop-item.self) (g.S.ContestStore.kept c.perform-answer.new.self) c.in-Some.item c.perform-answer.result = λ clean. record {
+      opens = c.perform-answer.ensures.open clean;
+      answers = c.perform-answer.ensures.answer clean;
+      becomes = c.perform-answer.ensures.contest clean;
+      stays = c.perform-answer.ensures.unchanged clean;
+      up = c.perform-answer.ensures.up clean;
+      kept = c.perform-answer.ensures.kept clean;
+      crash = c.perform-answer.ensures.crash clean;
+      shut = c.perform-answer.ensures.shut clean;
     } in
-    let more : c.push.new.self.items ≡ c.loop-item.replies.items ++ c.handle-reply.result ∷ [] = search rules in
+    let more : c.push.new.self.items ≡ c.loop-item.answers.items ++ c.perform-answer.result ∷ [] = search rules in
     record {
-      run = λ clean. handled (g.S.ContestStore.kept c.args.self.now) (g.S.ContestStore.kept c.loop-item.self) (g.S.ContestStore.kept c.handle-reply.new.self) c.args.items.items c.loop-item.item-iterator.rest.items c.next.new.self.rest.items
-          c.loop-item.replies.items c.push.new.self.items c.in-Some.item c.handle-reply.result c.in-Some.ensures.steps.0 more (handles clean) (c.loop-item.invariant.run (c.handle-reply.ensures.clean clean));
-      opens = λ clean all opened. open_after (g.S.ContestStore.kept c.loop-item.self) (g.S.ContestStore.kept c.handle-reply.new.self) c.in-Some.item c.loop-item.replies.items c.push.new.self.items c.handle-reply.result more (handles clean) all;
-      faults = subst (λ rs. CountsReplies rs (g.S.ContestStore.kept c.args.self.now).faults (g.S.ContestStore.kept c.handle-reply.new.self).faults) (sym more)
-          (counts_more c.loop-item.replies.items c.handle-reply.result _ _ _ c.loop-item.invariant.faults (c.handle-reply.ensures.fault, c.handle-reply.ensures.no_fault));
-      clean = λ clean. c.loop-item.invariant.clean (c.handle-reply.ensures.clean clean);
-      up = λ clean opened. c.loop-item.invariant.up (c.handle-reply.ensures.clean clean) (c.handle-reply.ensures.up clean opened);
-      shuts = λ clean opened. elim (c.loop-item.invariant.shuts (c.handle-reply.ensures.clean clean) opened) [
-        | inl still ↦ elim (c.handle-reply.ensures.shuts clean still) [ inl now_open ↦ inl now_open | inr failed ↦ inr (then_failed _ _ _ c.loop-item.invariant.troubles failed) ]
-        | inr failed ↦ inr (failed_then _ _ _ failed c.handle-reply.ensures.troubles)
+      run = λ clean. handled (g.S.ContestStore.kept c.args.self.now) (g.S.ContestStore.kept c.loop-item.self) (g.S.ContestStore.kept c.perform-answer.new.self) c.args.items.items c.loop-item.item-iterator.rest.items c.next.new.self.rest.items
+          c.loop-item.answers.items c.push.new.self.items c.in-Some.item c.perform-answer.result c.in-Some.ensures.steps.0 more (handles clean) (c.loop-item.invariant.run (c.perform-answer.ensures.clean clean));
+      opens = λ clean all opened. open_after (g.S.ContestStore.kept c.loop-item.self) (g.S.ContestStore.kept c.perform-answer.new.self) c.in-Some.item c.loop-item.answers.items c.push.new.self.items c.perform-answer.result more (handles clean) all;
+      faults = subst (λ rs. CountsAnswers rs (g.S.ContestStore.kept c.args.self.now).faults (g.S.ContestStore.kept c.perform-answer.new.self).faults) (sym more)
+          (counts_more c.loop-item.answers.items c.perform-answer.result _ _ _ c.loop-item.invariant.faults c.perform-answer.ensures.faults);
+      clean = λ clean. c.loop-item.invariant.clean (c.perform-answer.ensures.clean clean);
+      up = λ clean opened. c.loop-item.invariant.up (c.perform-answer.ensures.clean clean) (c.perform-answer.ensures.up clean opened);
+      shuts = λ clean opened. elim (c.loop-item.invariant.shuts (c.perform-answer.ensures.clean clean) opened) [
+        | inl still ↦ elim (c.perform-answer.ensures.shuts clean still) [ inl now_open ↦ inl now_open | inr failed ↦ inr (then_failed _ _ _ c.loop-item.invariant.troubles failed) ]
+        | inr failed ↦ inr (failed_then _ _ _ failed c.perform-answer.ensures.troubles)
       ];
-      troubles = let a = c.loop-item.invariant.troubles in let b = c.handle-reply.ensures.troubles in omega (arith, a, b);
+      troubles = let a = c.loop-item.invariant.troubles in let b = c.perform-answer.ensures.troubles in omega (arith, a, b);
       room = search rules;
     }
 
 pub returns-clause-run : goal.returns-clause-run
-returns-clause-run g c = λ clean. ends (g.S.ContestStore.kept c.args.self.now) (g.S.ContestStore.kept c.loop-item.self) c.args.items.items c.loop-item.item-iterator.rest.items c.loop-item.replies.items (search rules) (c.loop-item.invariant.run clean)
+returns-clause-run g c = λ clean. ends (g.S.ContestStore.kept c.args.self.now) (g.S.ContestStore.kept c.loop-item.self) c.args.items.items c.loop-item.item-iterator.rest.items c.loop-item.answers.items (search rules) (c.loop-item.invariant.run clean)
 
 pub returns-clause-crash : goal.returns-clause-crash
-returns-clause-crash g c = λ clean. leaves_at_end (g.S.ContestStore.kept c.args.self.now) (g.S.ContestStore.kept c.loop-item.self) c.args.items.items c.loop-item.item-iterator.rest.items c.loop-item.replies.items (search rules) (c.loop-item.invariant.run clean)
+returns-clause-crash g c = λ clean. leaves_at_end (g.S.ContestStore.kept c.args.self.now) (g.S.ContestStore.kept c.loop-item.self) c.args.items.items c.loop-item.item-iterator.rest.items c.loop-item.answers.items (search rules) (c.loop-item.invariant.run clean)

@@ -6,7 +6,7 @@ use Rattle.contest_spelling.specs.Spelling.{without_rows}
 use Rattle.contest_tables.specs.Connected.{IsBare, counts_of, shown_by}
 use Rattle.contest_sqlite.specs.Creation.{Created, StoodEqual, StoodOther}
 use Rattle.contest_sqlite.specs.Keeping.{kept_of}
-use Rattle.contest_sqlite.proofs.CreatedStores.{created, created_whole, not_set_up, stood_equal, stood_other}
+use Rattle.contest_sqlite.proofs.CreatedStores.{created, created_whole, either_valid, not_set_up, stood_equal, stood_other}
 use Rattle.contest_sqlite.proofs.store.Store.create.Goals as goal
 
 pub invariant_of-result : goal.invariant_of-result
@@ -22,6 +22,11 @@ returns-in-Ok-make_or_read-clause-created g c clean bare =
     subst (λ conn. Created c.args.contest (state g.S.Store conn) (kept_of new (counts_of c.make_or_read.new.tables) 0 true)) same
     (created (without_rows c.in-Ok.fixed.value) c.in-Ok.fixed.value.settings.head old new c.in-Ok-make_or_read.lists c.args.contest (counts_of c.make_or_read.new.tables) 0 true clean
     c.in-Ok.ensures.value (c.in-Ok-make_or_read.ensures.outcome clean) c.make_or_read.ensures.survives (subst (λ conn. IsBare (state g.S.Store conn)) (sym same) bare))
+
+pub returns-in-Ok-make_or_read-clause-shows : goal.returns-in-Ok-make_or_read-clause-shows
+returns-in-Ok-make_or_read-clause-shows g c clean =
+    either_valid (without_rows c.in-Ok.fixed.value) c.in-Ok.fixed.value.settings.head (shown_by g.S.Store c.new-tables.result) (shown_by g.S.Store c.make_or_read.new.tables)
+    c.in-Ok-make_or_read.lists (counts_of c.make_or_read.new.tables) 0 true (c.in-Ok-make_or_read.ensures.outcome clean)
 
 pub returns-in-Ok-make_or_read-clause-stood : goal.returns-in-Ok-make_or_read-clause-stood
 returns-in-Ok-make_or_read-clause-stood g c clean other =

@@ -3,11 +3,15 @@ use Rattle.sqlite.specs.Held.{state}
 use Rattle.contest_tables.specs.Connected.{shown_by, counts_of}
 use Rattle.contest_sqlite.specs.Keeping.{kept_of}
 use Rattle.contest_sqlite.specs.Opening.{Opened}
-use Rattle.contest_sqlite.proofs.StoresMade.{is_whole, opened}
+use Rattle.contest_sqlite.proofs.StoresMade.{is_whole, opened, read_valid}
 use Rattle.contest_sqlite.proofs.store.Store.open.Goals as goal
 
 pub invariant_of-result : goal.invariant_of-result
 invariant_of-result g c = is_whole (shown_by g.S.Store c.new-tables.result) (shown_by g.S.Store c.read_desk.new.tables) c.in-Ok.lists c.in-Ok.ensures.read
+
+pub returns-in-Ok-clause-shows : goal.returns-in-Ok-clause-shows
+returns-in-Ok-clause-shows g c clean =
+    read_valid (shown_by g.S.Store c.new-tables.result) (shown_by g.S.Store c.read_desk.new.tables) (counts_of c.read_desk.new.tables) 0 true c.in-Ok.lists (c.in-Ok.ensures.read clean)
 
 pub returns-in-Ok-clause-opened : goal.returns-in-Ok-clause-opened
 returns-in-Ok-clause-opened g c clean =

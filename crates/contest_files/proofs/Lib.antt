@@ -1,0 +1,5 @@
+pub mod Rest
+pub mod Steps
+pub mod FieldLemmas
+pub mod JsonLemmas
+pub mod TokenLemmas

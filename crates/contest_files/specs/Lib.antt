@@ -1,0 +1,5 @@
+pub mod CsvRecords
+pub mod FieldTexts
+pub mod Refused
+pub mod JsonMembers
+pub mod Tokens

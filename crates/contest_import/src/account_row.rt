@@ -1,0 +1,24 @@
+//! An account as a file tells of it.
+use contest_types::{Digest, Id};
+
+/// A role as a file names it.
+#[derive(Drop)]
+pub enum NamedRole {
+    /// It speaks for the team with this id.
+    Team(Id),
+    /// It judges.
+    Judge,
+    /// It judges and keeps the clock.
+    Admin,
+}
+
+/// An account whose team, if it has one, is told by its id.
+#[derive(Drop)]
+pub struct AccountRow {
+    /// Its id.
+    pub id: Id,
+    /// Its role.
+    pub role: NamedRole,
+    /// The digest of its token.
+    pub digest: Digest,
+}

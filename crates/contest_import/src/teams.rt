@@ -1,0 +1,88 @@
+//! Teams that files tell of, as rows.
+ghost use Rattle.std.specs.Prelude.{◌≡◌, Ok, IfOk, IfErr};
+ghost use Rattle.contest_types.specs.Additions.{IsFaultOf};
+ghost use Rattle.contest_types.specs.Places.{are_different, is_among};
+ghost use Rattle.contest_import.specs.Teams.{group_places, team_of, team_or_malformed};
+
+use crate::TeamRow;
+use crate::record_fault::MALFORMED;
+use contest_types::{Cause, Entry, Id, RowFault, Rows, Settings, Team};
+use std::alloc::{AllocError, Global};
+
+/// The row of a team that a record tells of, if it tells of one.
+///
+/// # Errors
+///
+/// A record that tells of none, or names a group twice (`Malformed`), a group that isn't there
+/// (`UnknownReference`), or want of memory.
+pub(crate) fn team_or_malformed(
+    alloc: Global,
+    settings: &Settings,
+    told: Option<TeamRow>,
+) -> Result<Entry, RowFault>
+    ensures ok { IfOk result (λ row. team_or_malformed settings.now told ≡ Ok row) }
+    ensures err { IfErr result (λ e. IsFaultOf e (team_or_malformed settings.now told)) }
+{
+    match told {
+        Some(team) => {
+            if are_different(team.groups.as_slice()) {
+                team_of(alloc, settings, team)
+            } else {
+                Err(MALFORMED)
+            }
+        }
+        None => Err(MALFORMED),
+    }
+}
+
+fn team_of(alloc: Global, settings: &Settings, team: TeamRow) -> Result<Entry, RowFault>
+    ensures ok { IfOk result (λ row. team_of settings.now team ≡ Ok row) }
+    ensures err { IfErr result (λ e. IsFaultOf e (team_of settings.now team)) }
+{
+    let Some(groups) = group_places(alloc, settings, team.groups.as_slice())? else {
+        return Err(RowFault::Fault(Cause::UnknownReference));
+    };
+    Ok(Entry::NewTeam(Team {
+        id: team.id,
+        name: team.name,
+        groups,
+        hidden: team.hidden,
+    }))
+}
+
+// The places of the groups with these ids, if all are there.
+fn group_places(
+    alloc: Global,
+    settings: &Settings,
+    ids: &[Id],
+) -> Result<Option<Rows<usize>>, AllocError>
+    ensures { IfOk result (λ found. found ≡ group_places settings.now ids.now) }
+{
+    let mut places = Rows::new(alloc);
+    for id in ids {
+        match settings.group_place(id.as_bytes()) {
+            Some(place) => places.push(place)?,
+            None => return Ok(None),
+        }
+    }
+    Ok(Some(places))
+}
+
+fn are_different(ids: &[Id]) -> bool
+    ensures { result ≡ are_different ids.now }
+{
+    let mut rest = ids;
+    while let Some((id, others)) = rest.split_first() {
+        if is_among(others, id) {
+            return false;
+        }
+        rest = others;
+    }
+    true
+}
+
+fn is_among(ids: &[Id], id: &Id) -> bool
+    ensures { result ≡ is_among ids.now id.now }
+{
+    ids.iter().any(|other| *other == *id)
+}

@@ -1,0 +1,25 @@
+-- The fields of a record.
+use Rattle.std.proofs.Common.{ℕ, zero, suc, ◌≡◌, ◌<◌, List, [], ◌∷◌, Option, Some, None, length, refl, arith}
+use Rattle.csv.specs.Records.{field_at}
+use Rattle.contest_files.specs.FieldTexts.{Text}
+use Rattle.contest_replay.specs.ReplayRecord.{FiveFields, five_of}
+
+-- a record of five fields has a field at each place
+pub field_there : (fs : List Text) (i : ℕ) → i < length fs → field_at fs i ≡ None → ⊥
+unfolding field_at
+field_there [] i l e = omega (arith, l)
+field_there (f ∷ fs) zero l e = cc e
+field_there (f ∷ fs) (suc i) l e = field_there fs i (omega (arith, l)) e
+
+pub five_by : (fs : List Text) (a b c d e : Text) → length fs ≡ 5 → field_at fs 0 ≡ Some a → field_at fs 1 ≡ Some b → field_at fs 2 ≡ Some c → field_at fs 3 ≡ Some d → field_at fs 4 ≡ Some e
+    → Some (record { kind = a; id = b; f1 = c; f2 = d; f3 = e }) ≡ five_of fs
+unfolding field_at
+five_by (v ∷ w ∷ x ∷ y ∷ z ∷ []) a b c d e n f0 f1 f2 f3 f4 =
+    let five : Text → Text → Text → Text → Text → Option FiveFields = λ a b c d e. Some (record { kind = a; id = b; f1 = c; f2 = d; f3 = e }) in
+    let same : five a b c d e ≡ five v w x y z = cc (f0, f1, f2, f3, f4) in
+    same
+five_by _ a b c d e n f0 f1 f2 f3 f4 = absurd (omega arith)
+
+pub not_five : (fs : List Text) → (length fs ≡ 5 → ⊥) → None ≡ five_of fs
+not_five (v ∷ w ∷ x ∷ y ∷ z ∷ []) n = absurd (n refl)
+not_five _ n = refl
