@@ -41,13 +41,14 @@ impl<S: Alter> Model for Store<S> {
 }
 
 impl<S: Alter> Store<S> {
-    ghost use Rattle.std.specs.Prelude.{◌⊎◌, false, IfOk, IfErr, OnOk, Some, true};
+    ghost use Rattle.std.specs.Prelude.{◌⊎◌, false, IfOk, IfErr, IsTrue, OnOk, Some, true};
     ghost use Rattle.sqlite.specs.Held.{state};
     ghost use Rattle.sqlite.specs.State.{HasCleanDisk, Survives};
     ghost use Rattle.contest_types.specs.State.{new_contest};
     ghost use Rattle.contest_types.specs.Valid.{is_valid};
     ghost use Rattle.contest_tables.specs.Connected.{IsBare};
-    ghost use Rattle.contest_sqlite.specs.Contests.{committed_of, contest_in_trees, contest_of};
+    ghost use Rattle.contest_store.specs.Keeping.{LeavesOnly};
+    ghost use Rattle.contest_sqlite.specs.Contests.{committed_of, contest_in_trees, contest_of, may_leave_of};
     ghost use Rattle.contest_sqlite.specs.Creation.{Created, IsOfStore, StoodEqual, StoodOther};
     ghost use Rattle.contest_sqlite.specs.Keeping.{IsTrusted};
     ghost use Rattle.contest_sqlite.specs.Opening.{IsNew, IsNumbered, Opened, ShowsValid};
@@ -127,11 +128,14 @@ impl<S: Alter> Store<S> {
     }
 
     /// The connection alone, where no change stands that wasn't committed. A transaction stands in it
-    /// where the lists were read since the last commit.
+    /// where the lists were read since the last commit. While it is open a crash leaves the last commit,
+    /// and no other.
     pub fn into_connection(self) -> Connection<S>
-        requires { HasCleanDisk (shown_in S.Store self) → contest_of (shown_in S.Store self) ≡ committed_of (shown_in S.Store self) }
+        requires { HasCleanDisk (shown_in S.Store self) → IsTrue (shown_in S.Store self).is_open → contest_of (shown_in S.Store self) ≡ committed_of (shown_in S.Store self) }
         ensures connection { result ≡ self.conn }
         ensures numbered { IsNumbered (state S.Store result) }
+        ensures clean { HasCleanDisk (state S.Store result) → IsTrusted (state S.Store result) }
+        ensures settled { HasCleanDisk (state S.Store result) → IsTrue (state S.Store result).is_open → LeavesOnly (may_leave_of (state S.Store result)) (committed_of (state S.Store result)) }
     {
         self.keeper.tables.into_connection()
     }
