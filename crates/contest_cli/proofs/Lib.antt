@@ -1,3 +1,4 @@
 mod ReplayLemmas
+mod InitLemmas
 mod RefusalNames
 mod ExamplesCommands

@@ -4,3 +4,6 @@ pub mod Asked
 pub mod ReplayText
 pub mod Replay
 pub mod Commands
+pub mod Inputs
+pub mod Init
+pub mod Import

@@ -1,9 +1,13 @@
 //! The commands of the program `desk`, over any reader and writers.
 #![tactic(auto)]
 
+mod added_line;
 mod arguments;
 mod command_error;
 mod commands;
+mod import_command;
+mod init_command;
+mod open_desk;
 mod refusal_line;
 mod replay_command;
 mod replay_text;
@@ -11,4 +15,7 @@ mod show;
 
 pub use commands::{run, start};
 pub use contest_types::Counted;
+pub use import_command::run_import;
+pub use init_command::run_init;
+pub use open_desk::open_desk;
 pub use replay_command::replay;

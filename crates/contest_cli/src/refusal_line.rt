@@ -9,7 +9,7 @@ use contest_types::Refusal;
 use itoa::{Buffer, Integer};
 
 /// Room for the longest line.
-const LINE: usize = 160;
+pub(crate) const LINE: usize = 160;
 
 /// The line of a refusal: `refused: E<number> <name>`, for a record of a file with its number and the
 /// cause.
@@ -42,8 +42,8 @@ fn push_detail(line: &mut ArrayString<LINE>, refusal: Refusal)
     }
 }
 
-// A number in decimal digits.
-fn push_number<N: Integer>(line: &mut ArrayString<LINE>, number: N)
+/// A number in decimal digits.
+pub(crate) fn push_number<N: Integer>(line: &mut ArrayString<LINE>, number: N)
     requires { array_string_len line.old + 40 ≤ LINE }
     ensures bytes { line.new.bytes ≡ line.old.bytes ++ N.text number }
     ensures room { array_string_len line.new ≤ array_string_len line.old + 40 }

@@ -1,0 +1,74 @@
+//! The command `import`: a file read from a stream, and its rows kept on a connection.
+ghost use Rattle.std.specs.Prelude.{◌≡◌, IfOk, IfErr};
+ghost use Rattle.sqlite.specs.Held.{state};
+ghost use Rattle.sqlite.specs.State.{HasCleanDisk, State};
+ghost use Rattle.contest_types.specs.Streams.{stream};
+ghost use Rattle.contest_sqlite.specs.Opening.{IsNumbered};
+ghost use Rattle.contest_cli.specs.Import.{Imports, LeavesStep, Steps, StopsImport, added_line};
+
+use crate::added_line::added_line;
+use crate::command_error::CommandError;
+use crate::open_desk::open_desk;
+use crate::show::show;
+use contest_import::ImportKind;
+use contest_types::Moment;
+use contest_types::limits::IMPORTED_FILE;
+use contest_types::streams::{Counted, read_limited};
+use sqlite::{Alter, Connection};
+use std::alloc::Global;
+use std::io::{Read, Write};
+
+/// Runs `import`: reads a file of some kind and keeps all of its rows, at a moment, in one commit, or
+/// none. Answers the exit status, 0 where that was done and `out` is told how many rows were added, 1
+/// where `err` is told why not or that `out` failed; and the connection.
+pub fn run_import<S: Alter, R: Read, O: Write, E: Write>(
+    alloc: Global,
+    conn: Connection<S>,
+    now: Moment,
+    kind: ImportKind,
+    reader: &mut Counted<R>,
+    out: &mut Counted<O>,
+    err: &mut Counted<E>,
+) -> (u8, Connection<S>)
+    requires { IsNumbered (state S.Store conn) }
+    ensures { Imports now kind (stream R.remaining reader.old) (stream R.remaining reader.new)
+        (stream O.contents out.old) (stream O.contents out.new)
+        (stream E.contents err.old) (stream E.contents err.new)
+        (state S.Store conn) (state S.Store result.1) result.0 }
+{
+    match import(alloc, conn, now, kind, reader) {
+        (Ok(added), conn) => (show(added_line(added).as_str(), out, err), conn),
+        (Err(stop), conn) => (stop.refuse(err), conn),
+    }
+}
+
+// How many rows were added, or why none was; and the connection.
+fn import<S: Alter, R: Read>(
+    alloc: Global,
+    conn: Connection<S>,
+    now: Moment,
+    kind: ImportKind,
+    reader: &mut Counted<R>,
+) -> (Result<u64, CommandError>, Connection<S>) {
+    match read_limited(alloc, reader, IMPORTED_FILE) {
+        Ok(bytes) => import_bytes(alloc, conn, now, kind, &bytes),
+        Err(fault) => (Err(CommandError::from(fault)), conn),
+    }
+}
+
+fn import_bytes<S: Alter>(
+    alloc: Global,
+    conn: Connection<S>,
+    now: Moment,
+    kind: ImportKind,
+    bytes: &[u8],
+) -> (Result<u64, CommandError>, Connection<S>) {
+    match open_desk(alloc, conn) {
+        Ok(mut desk) => {
+            let added = desk.import(alloc, now, kind, bytes);
+            let conn = desk.into_store().into_connection();
+            (added.map_err(CommandError::Refused), conn)
+        }
+        Err((refusal, conn)) => (Err(CommandError::Refused(refusal)), conn),
+    }
+}
