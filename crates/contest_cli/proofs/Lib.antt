@@ -1,3 +1,6 @@
 mod ReplayLemmas
 mod RefusalNames
 mod ExamplesCommands
+mod InputLemmas
+mod OpeningLemmas
+mod ImportLemmas
