@@ -2,3 +2,6 @@ mod ReplayLemmas
 mod InitLemmas
 mod RefusalNames
 mod ExamplesCommands
+mod InputLemmas
+mod OpeningLemmas
+mod ImportLemmas
