@@ -26,28 +26,8 @@ use Rattle.contest_cli.specs.Inputs.{KeepsAll, WasRead}
 use Rattle.contest_cli.specs.Replay.{exit_status_of, line_of, stop_of}
 use Rattle.contest_cli.specs.declared.command_error.CommandError.{CommandError}
 use Rattle.contest_cli.specs.declared.command_error.CommandError.TheVariants.{File, Refused}
-use Rattle.contest_cli.proofs.ReplayLemmas.{is_longer, keeps_same}
-
--- a connection that isn't touched keeps all
-keeps_all : (s : State) → KeepsAll s s
-keeps_all s = record {
-  clean = omega arith;
-  shield = λ shield. shield;
-  counts = omega arith;
-  limit = refl;
-  closes = λ clean up. inl up;
-  crash = λ clean db left. inl left;
-}
-
--- bytes that were read to their end
-was_read : (old new : Stream) (limit : ℕ) (bytes file : List ℕ) → ReadsAll old.bytes new.bytes limit bytes → file ≡ bytes → WasRead old file
-was_read old new limit bytes file all same = subst (λ (b : List ℕ). WasRead old b) (sym same) all.whole
-
--- more bytes than a file may have
-too_large : (a b : Option (List ℕ)) → TakesFront a b (IMPORTED_FILE + 1) → IfSome a (λ left. IMPORTED_FILE < length left)
-too_large None b t = tt
-too_large (Some left) None t = absurd t.2
-too_large (Some left) (Some rest) t = is_longer left t.0 rest IMPORTED_FILE t.2 t.1
+use Rattle.contest_cli.proofs.InputLemmas.{keeps_all, too_large, was_read}
+use Rattle.contest_cli.proofs.ReplayLemmas.{keeps_same}
 
 -- why a file can't be read
 pub unread_stops : (old new : Stream) (f : InputFault) → (f ≡ fault.TooLarge → TakesFront old.bytes new.bytes (IMPORTED_FILE + 1))
@@ -61,7 +41,7 @@ pub unsaid_stops : (old new : Stream) (limit : ℕ) (bytes file : List ℕ) (r :
     → (r ≡ Memory) ⊎ ((r ≡ Malformed) × ((c : Contest) → IsContestFile file c → ⊥)) → StopsFile old new (Refused r)
 unsaid_stops old new limit bytes file r all same (inl is) = subst (λ (given : Refusal). RefusesFile old given) (sym is) tt
 unsaid_stops old new limit bytes file r all same (inr none) =
-    subst (λ (given : Refusal). RefusesFile old given) (sym none.0) (file, was_read old new limit bytes file all same, none.1)
+    subst (λ (given : Refusal). RefusesFile old given) (sym none.0) (file, was_read old all same, none.1)
 
 module _ (c : Contest) (old new : State) where
   refused_by : (e : StoreError) → RefusesContest c old new (refusal_of e)

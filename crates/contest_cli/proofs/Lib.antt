@@ -1,7 +1,7 @@
 mod ReplayLemmas
-mod InitLemmas
 mod RefusalNames
 mod ExamplesCommands
 mod InputLemmas
+mod InitLemmas
 mod OpeningLemmas
 mod ImportLemmas
