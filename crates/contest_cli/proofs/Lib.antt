@@ -1,3 +1,4 @@
 mod ReplayLemmas
 mod RefusalNames
 mod ExamplesCommands
+mod WordLemmas
