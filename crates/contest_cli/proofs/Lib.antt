@@ -1,4 +1,5 @@
 mod ReplayLemmas
+mod WordLemmas
 mod RefusalNames
 mod ExamplesCommands
 mod InputLemmas

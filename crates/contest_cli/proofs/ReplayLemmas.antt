@@ -14,7 +14,7 @@ use Rattle.contest_cli.specs.ReplayText.{board_of}
 use Rattle.contest_types.specs.declared.streams.input.InputFault.{InputFault}
 use Rattle.contest_types.specs.declared.streams.input.InputFault.TheVariants as fault
 use Rattle.contest_cli.specs.declared.command_error.CommandError.{CommandError}
-use Rattle.contest_cli.specs.declared.command_error.CommandError.TheVariants.{Usage, Refused, File}
+use Rattle.contest_cli.specs.declared.command_error.CommandError.TheVariants.{Usage, Refused, File, Clock}
 
 not_over : (m n : ℕ) → n ≤ m → nat_lt m n ≡ false
 not_over m n h = grind (arith, nat_tests)
@@ -94,6 +94,7 @@ stopped words in_old in_new out err_old err_new File status stops is told = reco
   refused = λ e. (File, refl, told, inl (stops, keeps_same out.bytes));
   faulty = λ e. absurd (omega (arith, is, e));
 }
+stopped words in_old in_new out err_old err_new Clock status stops is told = absurd stops
 
 -- where there is one, and it is shown
 pub shown : (words : List Text) (in_old in_new out_old out_new err_old err_new : Stream) (text written : List ℕ) (status : ℕ)

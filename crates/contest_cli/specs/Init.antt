@@ -15,7 +15,7 @@ use Rattle.contest_sqlite.specs.Creation.{StoodOther}
 use Rattle.contest_cli.specs.Inputs.{IsTooLarge, KeepsAll, WasRead}
 use Rattle.contest_cli.specs.Replay.{line_of}
 use Rattle.contest_cli.specs.declared.command_error.CommandError.{CommandError}
-use Rattle.contest_cli.specs.declared.command_error.CommandError.TheVariants.{File, Refused, Usage}
+use Rattle.contest_cli.specs.declared.command_error.CommandError.TheVariants.{Clock, File, Refused, Usage}
 
 -- a file of this contest was read
 abbrev pub ReadsContest : Stream → Contest → Type 0
@@ -77,6 +77,7 @@ abbrev pub StopsInit : (in_old in_new : Stream) → State → State → CommandE
 StopsInit in_old in_new old new (Usage text) = ⊥
 StopsInit in_old in_new old new (Refused r) = RefusesInit in_old old new r
 StopsInit in_old in_new old new File = Fails in_old in_new × KeepsAll old new
+StopsInit in_old in_new old new Clock = ⊥
 
 -- a crash leaves what it could leave before, or the file's contest, whole
 abbrev pub LeavesContest : Stream → State → State → Type 0

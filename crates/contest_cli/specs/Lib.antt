@@ -1,6 +1,8 @@
 pub mod Arguments
 pub mod RefusalLine
 pub mod Asked
+pub mod InitWords
+pub mod ImportWords
 pub mod ReplayText
 pub mod Replay
 pub mod Commands

@@ -1,6 +1,7 @@
 -- What `replay` answers.
-use Rattle.std.specs.Prelude.{◌≡◌, ◌≤◌, ◌⊎◌, ℕ, ℤ, List, Bool, Option, IfSome, Result, Ok, Err, length, codes, nat_lt, if◌then◌else◌, string_bytes}
+use Rattle.std.specs.Prelude.{◌≡◌, ◌≢◌, ◌≤◌, ◌⊎◌, ℕ, ℤ, List, [], Bool, Option, IfSome, Result, Ok, Err, length, codes, nat_lt, if◌then◌else◌, string_bytes}
 use Rattle.std.specs.Io.KnownBytes.{Appends, Keeps}
+use Rattle.clap.specs.Kinds.{Kinds}
 use Rattle.clap.specs.Walk.{Text}
 use Rattle.contest_types.specs.declared.refusal.Refusal.{Refusal}
 use Rattle.contest_types.specs.declared.refusal.Refusal.TheVariants.{BodyTooLarge, Memory}
@@ -12,7 +13,7 @@ use Rattle.contest_types.specs.declared.limits.TheConstants.{IMPORTED_FILE}
 use Rattle.contest_types.specs.declared.streams.input.InputFault.{InputFault}
 use Rattle.contest_types.specs.declared.streams.input.InputFault.TheVariants as fault
 use Rattle.contest_cli.specs.declared.command_error.CommandError.{CommandError}
-use Rattle.contest_cli.specs.declared.command_error.CommandError.TheVariants.{Usage, Refused, File}
+use Rattle.contest_cli.specs.declared.command_error.CommandError.TheVariants.{Usage, Refused, File, Clock}
 
 -- the board's text of a whole input, or the first fault
 abbrev pub replay_of : Bool → Bool → Option ℤ → List ℕ → Result (List ℕ) Refusal
@@ -34,18 +35,21 @@ abbrev pub StopsBy : List Text → Stream → Stream → CommandError → Type 0
 StopsBy words old new (Usage text) = HasFault words
 StopsBy words old new (Refused r) = (r ≡ Memory) ⊎ Gives words old.bytes (Err r)
 StopsBy words old new File = Faultless words × Fails old new
+StopsBy words old new Clock = ⊥
 
 -- the line that tells of it
 abbrev pub line_of : CommandError → List ℕ
 line_of (Usage text) = string_bytes text
 line_of (Refused r) = refusal_line r
 line_of File = codes "refused: File\n"
+line_of Clock = codes "refused: Clock\n"
 
 -- the program's exit status
 abbrev pub exit_status_of : CommandError → ℕ
 exit_status_of (Usage text) = 2
 exit_status_of (Refused r) = 1
 exit_status_of File = 1
+exit_status_of Clock = 1
 
 -- memory was refused
 abbrev pub IsMemory : CommandError → Type 0
@@ -56,10 +60,15 @@ abbrev pub IsWords : CommandError → Type 0
 IsWords (Usage text) = Unit {0}
 IsWords (Refused r) = ⊥
 IsWords File = ⊥
+IsWords Clock = ⊥
 
 -- the words are refused, or memory was while that was told
 abbrev pub IsWordsOrMemory : CommandError → Type 0
 IsWordsOrMemory stop = IsMemory stop ⊎ IsWords stop
+
+-- the words are refused, for they have such a fault, or memory was
+abbrev pub RefusesWords : Kinds → CommandError → Type 0
+RefusesWords faults stop = IsMemory stop ⊎ (IsWords stop × (faults ≢ []))
 
 -- there is a text, and a front of it is out, for `out` failed
 abbrev pub CutsOff : List Text → Option (List ℕ) → Stream → Stream → Type 0

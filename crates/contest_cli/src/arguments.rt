@@ -1,27 +1,42 @@
-//! The words of the command line.
-ghost use Rattle.std.specs.Prelude.{◌≡◌, ◌↔◌, IsTrue, false, IfOk, Some, codes, map, option_map};
+//! What clap finds in the words of a command.
+ghost use Rattle.std.specs.Prelude.{◌≡◌, ◌≢◌, ◌↔◌, IsTrue, true, false, IfOk, IfErr, Some, codes, is_some, map, option_map, []};
+ghost use Rattle.clap.specs.Faults.{is_simple_and_free};
 ghost use Rattle.clap.specs.Kinds.{FailsBy};
 ghost use Rattle.clap.specs.Matches.{found_of};
 ghost use Rattle.clap.specs.Simple.{app_of, new_app};
-ghost use Rattle.clap.specs.Walk.{rows_of, rule_of};
-ghost use Rattle.contest_cli.specs.Arguments.{replay_app, flag, option, rows_in, faults_in, HasFlag, value_of};
+ghost use Rattle.clap.specs.Walk.{Text, first_of, rows_of, rule_of};
+ghost use Rattle.contest_cli.specs.Arguments.{faults_in, flag, rows_in, wants_word, word};
+ghost use Rattle.contest_cli.specs.Replay.{RefusesWords};
 
-use clap::{Arg, ArgAction, ArgMatches, Command, Error};
+use crate::command_error::CommandError;
+use clap::{Arg, ArgAction, ArgMatches, Command};
 use std::alloc::{AllocError, Global};
 
-/// What the words of `replay` ask for.
-#[derive(Clone, Copy)]
-pub(crate) struct Options<'a> {
-    /// The jury's board, in place of the public's.
-    pub(crate) jury: bool,
-    /// The board as it is after the thaw.
-    pub(crate) thawed: bool,
-    /// The contest time of the board, as it was written.
-    pub(crate) at: Option<&'a str>,
+/// A command's name, as it is called, and its first line of help. The error is want of memory.
+pub(crate) fn headed<'a>(
+    alloc: Global,
+    name: &'a str,
+    called: &str,
+    about: &'a str,
+) -> Result<Command<'a>, AllocError>
+    ensures { IfOk result (λ c. app_of c ≡ new_app name.entry.now) }
+{
+    Command::new(alloc, name).about(about).bin_name(called)
 }
 
-// An option without a value: `--name`.
-fn flag<'a>(alloc: Global, name: &'a str, help: &'a str) -> Arg<'a>
+/// A word that has to be there.
+pub(crate) fn word<'a>(alloc: Global, name: &'a str, help: &'a str) -> Arg<'a>
+    ensures rule { rule_of result ≡ word name.entry.now }
+    ensures local { result.global ≡ false }
+{
+    Arg::new(alloc, name)
+        .required(true)
+        .action(ArgAction::Set)
+        .help(help)
+}
+
+/// An option without a value: `--name`.
+pub(crate) fn flag<'a>(alloc: Global, name: &'a str, help: &'a str) -> Arg<'a>
     ensures rule { rule_of result ≡ flag name.entry.now }
     ensures local { result.global ≡ false }
 {
@@ -31,75 +46,48 @@ fn flag<'a>(alloc: Global, name: &'a str, help: &'a str) -> Arg<'a>
         .help(help)
 }
 
-// The option `--at RELTIME`.
-fn moment_option<'a>(alloc: Global) -> Arg<'a>
-    ensures rule { rule_of result ≡ option (codes "at") }
-    ensures local { result.global ≡ false }
+/// What clap finds in the words of a command; the first word is the command's own. The error is what
+/// clap says of words that have a fault, or want of memory. A call for help counts as a fault.
+pub(crate) fn matches_in<'a>(
+    alloc: Global,
+    command: Command<'a>,
+    words: &'a [&'a str],
+) -> Result<ArgMatches<'a>, CommandError>
+    requires { is_simple_and_free (app_of command) ≡ true }
+    ensures faultless { IfOk result (λ _. faults_in (app_of command.entry) (map (λ s. s.now) words.entry.now) ≡ []) }
+    ensures rows { IfOk result (λ m. rows_of (found_of m) ≡ rows_in (app_of command.entry) (map (λ s. s.now) words.entry.now)) }
+    ensures wanted { IfOk result (λ m. (name : Text) → wants_word name (app_of command.entry) ≡ true → is_some (first_of name (rows_of (found_of m))) ≡ true) }
+    ensures refused { IfErr result (RefusesWords (faults_in (app_of command.entry) (map (λ s. s.now) words.entry.now))) }
 {
-    Arg::new(alloc, "at").long("at").value_name("RELTIME").help(
-        "Shows the board at this contest time, h:mm:ss or h:mm:ss.uuu [default: the end]",
-    )
-}
-
-// The command's name and its first lines of help.
-fn headed<'a>(alloc: Global) -> Result<Command<'a>, AllocError>
-    ensures { IfOk result (λ c. app_of c ≡ new_app (codes "replay")) }
-{
-    Command::new(alloc, "replay")
-        .about("Reads a contest as CSV on standard input and prints its board")
-        .bin_name("desk replay")
-}
-
-/// The command `replay`, as clap knows it. The error is want of memory.
-pub(crate) fn clap_command<'a>(alloc: Global) -> Result<Command<'a>, AllocError>
-    ensures { IfOk result (λ c. app_of c ≡ replay_app) }
-{
-    let jury = flag(
-        alloc,
-        "jury",
-        "Shows the jury's board in place of the public's",
-    );
-    let thawed = flag(alloc, "thawed", "Shows the board as it is after the thaw");
-    headed(alloc)?
-        .arg(jury)?
-        .arg(thawed)?
-        .arg(moment_option(alloc))
-}
-
-// What clap finds in the words.
-fn matches_in<'a>(alloc: Global, words: &'a [&'a str]) -> Result<ArgMatches<'a>, Error>
-    ensures rows { IfOk result (λ m. rows_of (found_of m) ≡ rows_in (map (λ s. s.now) words.entry.now)) }
-    ensures kinds { FailsBy (faults_in (map (λ s. s.now) words.entry.now)) result }
-{
-    match clap_command(alloc) {
-        Ok(command) => command.try_get_matches_from(words),
-        Err(error) => Err(Error::from(error)),
+    match command.try_get_matches_from(words) {
+        Ok(matches) => Ok(matches),
+        Err(error) => Err(CommandError::from_clap(alloc, &error)),
     }
 }
 
-/// The options that the words of `replay` give; the first word is the command's own. The error is
-/// what clap says of words that have a fault, or want of memory. A call for help counts as a fault.
-pub(crate) fn read_arguments<'a>(alloc: Global, words: &'a [&'a str]) -> Result<Options<'a>, Error>
-    ensures jury { IfOk result (λ o. IsTrue o.jury ↔ HasFlag (codes "jury") (map (λ s. s.now) words.entry.now)) }
-    ensures thawed { IfOk result (λ o. IsTrue o.thawed ↔ HasFlag (codes "thawed") (map (λ s. s.now) words.entry.now)) }
-    ensures at { IfOk result (λ o. option_map (λ s. s.now) o.at ≡ value_of (codes "at") (map (λ s. s.now) words.entry.now)) }
-    ensures kinds { FailsBy (faults_in (map (λ s. s.now) words.entry.now)) result }
+/// The value of the option or word of this name, where it is there.
+pub(crate) fn value_in<'a>(matches: &ArgMatches<'a>, name: &str) -> Option<&'a str>
+    ensures { option_map (λ s. s.now) result ≡ first_of name.now (rows_of (found_of matches.now)) }
 {
-    match matches_in(alloc, words) {
-        Ok(matches) => Ok(Options {
-            jury: is_set(matches.get_str("jury")),
-            thawed: is_set(matches.get_str("thawed")),
-            at: matches.get_str("at"),
-        }),
-        Err(error) => Err(error),
+    matches.get_str(name)
+}
+
+/// The word of this name, which is known to be there.
+pub(crate) fn word_in<'a>(matches: &ArgMatches<'a>, name: &str) -> &'a str
+    requires { is_some (first_of name.now (rows_of (found_of matches.now))) ≡ true }
+    ensures { first_of name.now (rows_of (found_of matches.now)) ≡ Some result.now }
+{
+    match value_in(matches, name) {
+        Some(text) => text,
+        None => unreachable!(),
     }
 }
 
-// Whether the text of a flag says that the flag stands among the words.
-fn is_set(text: Option<&str>) -> bool
-    ensures { IsTrue result ↔ (option_map (λ s. s.now) text.entry ≡ Some (codes "true")) }
+/// Whether the option of this name, which has no value, is there.
+pub(crate) fn has_flag(matches: &ArgMatches<'_>, name: &str) -> bool
+    ensures { IsTrue result ↔ (first_of name.now (rows_of (found_of matches.now)) ≡ Some (codes "true")) }
 {
-    match text {
+    match value_in(matches, name) {
         Some(text) => text == "true",
         None => false,
     }

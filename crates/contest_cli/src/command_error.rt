@@ -19,8 +19,10 @@ pub(crate) enum CommandError {
     Usage(String),
     /// What the command reads is refused, or memory is.
     Refused(Refusal),
-    /// A standard stream failed.
+    /// A stream failed, or a file can't be opened.
     File,
+    /// The clock can't be read, or shows a time that is no moment of a contest.
+    Clock,
 }
 
 impl CommandError {
@@ -46,7 +48,7 @@ impl CommandError {
         let _ = self.tell(err);
         match self {
             CommandError::Usage(_) => 2,
-            CommandError::Refused(_) | CommandError::File => 1,
+            CommandError::Refused(_) | CommandError::File | CommandError::Clock => 1,
         }
     }
 
@@ -60,6 +62,7 @@ impl CommandError {
             CommandError::Usage(text) => write_all(err, text.as_bytes()),
             CommandError::Refused(refusal) => write_all(err, refusal_line(*refusal).as_bytes()),
             CommandError::File => write_all(err, b"refused: File\n"),
+            CommandError::Clock => write_all(err, b"refused: Clock\n"),
         }
     }
 }

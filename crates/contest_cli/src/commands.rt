@@ -5,9 +5,9 @@ ghost use Rattle.contest_types.specs.Streams.{Tells, stream};
 ghost use Rattle.contest_cli.specs.Commands.{AsksHelp, NamesNone, ShowsSome, TellsNone, TellsUnknown, TellsWords, first_word, invocation_of, is_help, replay_invocation, unknown_command};
 ghost use Rattle.contest_cli.specs.Replay.{Replays};
 
-use crate::arguments::clap_command;
 use crate::command_error::CommandError;
 use crate::replay_command::replay;
+use crate::replay_words::replay_app;
 use crate::show::show;
 use contest_types::Refusal;
 use contest_types::streams::{Counted, write_all};
@@ -230,7 +230,7 @@ fn show_replay_help<O: Write, E: Write>(
 
 // The help of `replay`.
 fn replay_help(alloc: Global) -> Result<String, AllocError> {
-    let mut command = clap_command(alloc)?;
+    let mut command = replay_app(alloc)?;
     command.render_help()
 }
 

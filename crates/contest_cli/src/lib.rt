@@ -6,11 +6,14 @@ mod arguments;
 mod command_error;
 mod commands;
 mod import_command;
+mod import_words;
 mod init_command;
+mod init_words;
 mod opening;
 mod refusal_line;
 mod replay_command;
 mod replay_text;
+mod replay_words;
 mod show;
 
 pub use commands::{run, start};

@@ -4,9 +4,9 @@ ghost use Rattle.contest_types.specs.Streams.{stream};
 ghost use Rattle.contest_cli.specs.Asked.{IsContestTime, ShowsTime, ShowsNone};
 ghost use Rattle.contest_cli.specs.Replay.{Gives, StopsBy, Replays, IsMemory, IsWords};
 
-use crate::arguments::{Options, read_arguments};
 use crate::command_error::CommandError;
 use crate::replay_text::replay_text;
+use crate::replay_words::{Options, read_replay_words};
 use crate::show::show;
 use contest_types::RelTime;
 use contest_types::limits::IMPORTED_FILE;
@@ -45,10 +45,7 @@ fn board_text<R: Read>(
     ensures ok { IfOk result (λ text. Gives (map (λ s. s.now) words.now) (R.remaining reader.old.inner) (Ok (string_bytes text))) }
     ensures err { IfErr result (StopsBy (map (λ s. s.now) words.now) (stream R.remaining reader.old) (stream R.remaining reader.new)) }
 {
-    let options = match read_arguments(alloc, words) {
-        Ok(options) => options,
-        Err(error) => return Err(CommandError::from_clap(alloc, &error)),
-    };
+    let options = read_replay_words(alloc, words)?;
     let at = time_of(alloc, &options)?;
     match read_limited(alloc, reader, IMPORTED_FILE) {
         Ok(bytes) => match replay_text(alloc, &options, at, &bytes) {

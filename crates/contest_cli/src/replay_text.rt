@@ -3,7 +3,7 @@ ghost use Rattle.std.specs.Prelude.{◌≡◌, ◌⊎◌, ◌<◌, ◌^◌, Ok, 
 ghost use Rattle.contest_score.specs.MaskedCells.{IsAdmitted};
 ghost use Rattle.contest_cli.specs.ReplayText.{board_of, audience_for, moment_for, board_text_of};
 
-use crate::arguments::Options;
+use crate::replay_words::Options;
 use contest_replay::read_replay_csv;
 use contest_score::{JudgedSubmission, board, plain_cells};
 use contest_text::board_text;

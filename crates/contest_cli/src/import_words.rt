@@ -1,0 +1,96 @@
+//! The words of `import`.
+ghost use Rattle.std.specs.Prelude.{◌≡◌, ◌⊎◌, IfOk, IfErr, map};
+ghost use Rattle.clap.specs.Simple.{app_of};
+ghost use Rattle.contest_cli.specs.ImportWords.{HasImportFault, NamesImport, import_app, kind_named};
+ghost use Rattle.contest_cli.specs.Replay.{IsMemory, IsWords, IsWordsOrMemory};
+
+use crate::arguments::{headed, matches_in, word, word_in};
+use crate::command_error::CommandError;
+use clap::Command;
+use contest_import::{ImportKind, SettingsKind};
+use std::alloc::{AllocError, Global};
+
+/// What the words of `import` name.
+#[derive(Clone, Copy)]
+pub(crate) struct ImportWords<'a> {
+    /// The file that keeps the contest.
+    pub(crate) file: &'a str,
+    /// What is imported.
+    pub(crate) kind: ImportKind,
+    /// The file that is imported.
+    pub(crate) path: &'a str,
+}
+
+/// The command `import`, as clap knows it. The error is want of memory.
+pub(crate) fn import_app<'a>(alloc: Global) -> Result<Command<'a>, AllocError>
+    ensures { IfOk result (λ c. app_of c ≡ import_app) }
+{
+    let file = word(alloc, "FILE", "Keeps the contest, as 'desk init' made it");
+    let kind = word(
+        alloc,
+        "KIND",
+        "Says what PATH holds: judgement-types, languages, problems, groups or teams as JSON, \
+         teams-csv or accounts-csv",
+    );
+    let path = word(alloc, "PATH", "Holds the rows to add");
+    headed(
+        alloc,
+        "import",
+        "desk import",
+        "Adds all rows of a file to a contest, or none, and prints how many they are",
+    )?
+    .arg(file)?
+    .arg(kind)?
+    .arg(path)
+}
+
+/// What the words of `import` name; the first word is the command's own. The error is what is said of
+/// words that have a fault, or want of memory. A call for help counts as a fault.
+pub(crate) fn read_import_words<'a>(
+    alloc: Global,
+    words: &'a [&'a str],
+) -> Result<ImportWords<'a>, CommandError>
+    ensures ok { IfOk result (λ w. NamesImport (map (λ s. s.now) words.entry.now) w.file.now w.kind w.path.now) }
+    ensures refused { IfErr result (λ stop. IsMemory stop ⊎ (IsWords stop × HasImportFault (map (λ s. s.now) words.entry.now))) }
+{
+    let command = import_app(alloc)?;
+    let matches = matches_in(alloc, command, words)?;
+    let name = word_in(&matches, "KIND");
+    match kind_named(name) {
+        Some(kind) => Ok(ImportWords {
+            file: word_in(&matches, "FILE"),
+            kind,
+            path: word_in(&matches, "PATH"),
+        }),
+        None => Err(no_kind(alloc, name)),
+    }
+}
+
+// The kind of file that a word names.
+fn kind_named(name: &str) -> Option<ImportKind>
+    ensures { result ≡ kind_named name.now }
+{
+    match name {
+        "judgement-types" => Some(ImportKind::Settings(SettingsKind::JudgementTypes)),
+        "languages" => Some(ImportKind::Settings(SettingsKind::Languages)),
+        "problems" => Some(ImportKind::Settings(SettingsKind::Problems)),
+        "groups" => Some(ImportKind::Settings(SettingsKind::Groups)),
+        "teams" => Some(ImportKind::Settings(SettingsKind::Teams)),
+        "teams-csv" => Some(ImportKind::TeamsCsv),
+        "accounts-csv" => Some(ImportKind::AccountsCsv),
+        _ => None,
+    }
+}
+
+// What is said of a word that names no kind.
+fn no_kind(alloc: Global, name: &str) -> CommandError
+    ensures { IsWordsOrMemory result }
+{
+    match format!(in alloc;
+        "error: '{name}' of 'KIND' is no kind: judgement-types, languages, problems, groups, teams, \
+         teams-csv or accounts-csv\n"
+    ) {
+        Ok(message) => CommandError::Usage(message),
+        Err(AllocError) => CommandError::from(AllocError),
+    }
+}

@@ -1,0 +1,57 @@
+//! The words of `init`.
+ghost use Rattle.std.specs.Prelude.{◌≡◌, IfOk, IfErr, map};
+ghost use Rattle.clap.specs.Simple.{app_of};
+ghost use Rattle.contest_cli.specs.Arguments.{faults_in};
+ghost use Rattle.contest_cli.specs.InitWords.{NamesInit, init_app};
+ghost use Rattle.contest_cli.specs.Replay.{RefusesWords};
+
+use crate::arguments::{headed, matches_in, word, word_in};
+use crate::command_error::CommandError;
+use clap::Command;
+use std::alloc::{AllocError, Global};
+
+/// What the words of `init` name.
+#[derive(Clone, Copy)]
+pub(crate) struct InitWords<'a> {
+    /// The file that keeps the contest.
+    pub(crate) file: &'a str,
+    /// The contest, as JSON.
+    pub(crate) contest: &'a str,
+}
+
+/// The command `init`, as clap knows it. The error is want of memory.
+pub(crate) fn init_app<'a>(alloc: Global) -> Result<Command<'a>, AllocError>
+    ensures { IfOk result (λ c. app_of c ≡ init_app) }
+{
+    let file = word(
+        alloc,
+        "FILE",
+        "Keeps the contest, as an SQLite file; it is made where there is none",
+    );
+    let contest = word(alloc, "CONTEST", "Holds the contest object, as JSON");
+    headed(
+        alloc,
+        "init",
+        "desk init",
+        "Sets up a contest in a file, from its contest object as JSON",
+    )?
+    .arg(file)?
+    .arg(contest)
+}
+
+/// What the words of `init` name; the first word is the command's own. The error is what clap says of
+/// words that have a fault, or want of memory. A call for help counts as a fault.
+pub(crate) fn read_init_words<'a>(
+    alloc: Global,
+    words: &'a [&'a str],
+) -> Result<InitWords<'a>, CommandError>
+    ensures ok { IfOk result (λ w. NamesInit (map (λ s. s.now) words.entry.now) w.file.now w.contest.now) }
+    ensures refused { IfErr result (RefusesWords (faults_in init_app (map (λ s. s.now) words.entry.now))) }
+{
+    let command = init_app(alloc)?;
+    let matches = matches_in(alloc, command, words)?;
+    Ok(InitWords {
+        file: word_in(&matches, "FILE"),
+        contest: word_in(&matches, "CONTEST"),
+    })
+}
