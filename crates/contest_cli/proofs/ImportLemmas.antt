@@ -23,7 +23,7 @@ use Rattle.contest_cli.specs.Import.{Imports, LeavesStep, RefusesImport, Steps, 
 use Rattle.contest_cli.specs.Inputs.{KeepsAll, WasRead}
 use Rattle.contest_cli.specs.Replay.{exit_status_of, line_of, stop_of}
 use Rattle.contest_cli.specs.declared.command_error.CommandError.{CommandError}
-use Rattle.contest_cli.specs.declared.command_error.CommandError.TheVariants.{File, Refused, Usage}
+use Rattle.contest_cli.specs.declared.command_error.CommandError.TheVariants.{Clock, File, Refused, Usage}
 use Rattle.contest_cli.proofs.InputLemmas.{keeps_all, too_large}
 use Rattle.contest_cli.proofs.ReplayLemmas.{keeps_same}
 
@@ -97,6 +97,7 @@ module _ (now : ℕ) (kind : ImportKind) (in_old in_new : Stream) (old new : Sta
   pub stopped : (out : Stream) (stop : CommandError) → StopsImport now kind in_old in_new old new stop → status ≡ exit_status_of stop → Tells err_old err_new (line_of stop)
       → Imports now kind in_old in_new out out err_old err_new old new status
   stopped out (Usage text) stops is told = absurd stops
+  stopped out Clock stops is told = absurd stops
   stopped out (Refused r) stops is told = record {
     statuses = omega (arith, is);
     done = λ e. absurd (omega (arith, is, e));
