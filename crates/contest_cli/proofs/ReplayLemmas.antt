@@ -22,7 +22,7 @@ not_over m n h = grind (arith, nat_tests)
 over : (m n : ℕ) → m < n → nat_lt m n ≡ true
 over m n h = grind (arith, nat_tests)
 
-is_longer : (left taken rest : List ℕ) (m : ℕ) → left ≡ taken ++ rest → length taken ≡ m + 1 → m < length left
+pub is_longer : (left taken rest : List ℕ) (m : ℕ) → left ≡ taken ++ rest → length taken ≡ m + 1 → m < length left
 is_longer left taken rest m e n = omega (arith, ap length e, length-append taken rest)
 
 -- the whole input is a file within the limit
@@ -68,7 +68,7 @@ fault_stops words jury thawed at old new fault.TooLarge asks large failed =
     inr (jury, thawed, at, asks, large_file jury thawed at old.bytes new.bytes (large refl))
 fault_stops words jury thawed at old new fault.Memory asks large failed = inl refl
 
-keeps_same : (a : Option (List ℕ)) → Keeps a a
+pub keeps_same : (a : Option (List ℕ)) → Keeps a a
 keeps_same None = tt
 keeps_same (Some bytes) = refl
 

@@ -25,12 +25,43 @@ ReadsContest input c = (bytes : List ℕ) × WasRead input bytes × IsContestFil
 abbrev pub ReadsNone : Stream → Type 0
 ReadsNone input = (bytes : List ℕ) × WasRead input bytes × ((c : Contest) → IsContestFile bytes c → ⊥)
 
+-- why a file says no contest, or can't be read
+abbrev pub RefusesFile : Stream → Refusal → Type 0
+RefusesFile input BodyTooLarge = IsTooLarge input
+RefusesFile input Malformed = ReadsNone input
+RefusesFile input Memory = Unit {0}
+RefusesFile input _ = ⊥
+
+abbrev pub StopsFile : (in_old in_new : Stream) → CommandError → Type 0
+StopsFile in_old in_new (Refused r) = RefusesFile in_old r
+StopsFile in_old in_new File = Fails in_old in_new
+StopsFile in_old in_new _ = ⊥
+
 -- where no table stood, a crash leaves the contest and no other; where tables stood, they showed a valid contest with
 -- its head, and a crash leaves that and no other
 pub record Sets (c : Contest) (old new : State) : Type 0 where
   pub made : IsBare old → LeavesOnly (may_leave_of new) (new_contest c)
   pub stood : ¬ IsBare old → (x : ContestState) × (contest_in_trees old.now.trees ≡ Some x) × (x.fixed.settings.head ≡ c.head)
       × LeavesOnly (may_leave_of new) x
+
+-- a file's contest stands
+abbrev pub SetsFile : Stream → State → State → Type 0
+SetsFile input old new = (c : Contest) × ReadsContest input c × (HasCleanDisk new → Sets c old new)
+
+-- why a contest isn't set up
+abbrev pub RefusesContest : Contest → State → State → Refusal → Type 0
+RefusesContest c old new KeyReused = HasCleanDisk new → StoodOther c.head old new
+RefusesContest c old new StoreFault = Unit {0}
+RefusesContest c old new Memory = Unit {0}
+RefusesContest c old new _ = ⊥
+
+abbrev pub StopsContest : Contest → State → State → CommandError → Type 0
+StopsContest c old new (Refused r) = RefusesContest c old new r
+StopsContest c old new _ = ⊥
+
+-- a crash leaves what it could leave before, or this contest, whole
+abbrev pub LeavesNew : Contest → State → State → Type 0
+LeavesNew c old new = Survives old new (λ db. contest_in_trees db ≡ Some (new_contest c))
 
 -- why it refuses; no other refusal comes
 abbrev pub RefusesInit : Stream → State → State → Refusal → Type 0

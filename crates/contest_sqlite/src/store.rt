@@ -131,7 +131,7 @@ impl<S: Alter> Store<S> {
     /// where the lists were read since the last commit. While it is open a crash leaves the last commit,
     /// and no other.
     pub fn into_connection(self) -> Connection<S>
-        requires { HasCleanDisk (shown_in S.Store self) → IsTrue (shown_in S.Store self).is_open → contest_of (shown_in S.Store self) ≡ committed_of (shown_in S.Store self) }
+        requires { IsTrusted (shown_in S.Store self) → IsTrue (shown_in S.Store self).is_open → contest_of (shown_in S.Store self) ≡ committed_of (shown_in S.Store self) }
         ensures connection { result ≡ self.conn }
         ensures numbered { IsNumbered (state S.Store result) }
         ensures clean { HasCleanDisk (state S.Store result) → IsTrusted (state S.Store result) }

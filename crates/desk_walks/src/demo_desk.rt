@@ -1,4 +1,4 @@
-//! The demo contest with its accounts, at a desk that keeps it in memory.
+//! The demo contest with its accounts, or the contest alone, at a desk that keeps it in memory.
 
 ghost use Rattle.std.specs.Prelude.{IfOk};
 ghost use Rattle.contest_desk.specs.Serving.{IsSettled};
@@ -7,9 +7,10 @@ ghost use Rattle.contest_store.specs.InMemory.{kept_of};
 use contest_desk::Desk;
 use contest_fixtures::{SettingRow, demo, id};
 use contest_store::{MemoryStore, is_valid_fixed};
-use contest_types::{Account, Digest, Role, Rows};
+use contest_types::{Account, Digest, Fixed, Role, Rows};
 use sha2::{Digest as _, Sha256};
 use std::alloc::Global;
+use std::rc::Rc;
 use std::test::Fail;
 
 /// The accounts, by id. The token of each is `token-` and its id.
@@ -56,11 +57,20 @@ fn accounts(alloc: Global) -> Result<Rows<Account>, Fail> {
     Ok(accounts)
 }
 
+/// The contest with all that is set up, or alone.
+fn fixed(alloc: Global, is_bare: bool) -> Result<Rc<Fixed>, Fail> {
+    if is_bare {
+        demo(alloc, &[], Rows::new(alloc))
+    } else {
+        demo(alloc, &ROWS, accounts(alloc)?)
+    }
+}
+
 /// A store in which nothing was submitted yet. It fails once, at the call after so many, if it is to.
-fn store(alloc: Global, failing: Option<u32>) -> Result<MemoryStore, Fail>
+fn store(alloc: Global, is_bare: bool, failing: Option<u32>) -> Result<MemoryStore, Fail>
     ensures { IfOk result (λ store. IsSettled (kept_of store)) }
 {
-    let fixed = demo(alloc, &ROWS, accounts(alloc)?)?;
+    let fixed = fixed(alloc, is_bare)?;
     if !is_valid_fixed(&fixed) {
         return Err(Fail::from("the demo contest isn't valid"));
     }
@@ -72,8 +82,12 @@ fn store(alloc: Global, failing: Option<u32>) -> Result<MemoryStore, Fail>
 }
 
 /// A desk over that store.
-pub fn demo_desk(alloc: Global, failing: Option<u32>) -> Result<Desk<MemoryStore>, Fail> {
-    match Desk::new(alloc, store(alloc, failing)?) {
+pub fn desk_over(
+    alloc: Global,
+    is_bare: bool,
+    failing: Option<u32>,
+) -> Result<Desk<MemoryStore>, Fail> {
+    match Desk::new(alloc, store(alloc, is_bare, failing)?) {
         Ok(desk) => Ok(desk),
         Err(_) => Err(Fail::from("no desk")),
     }

@@ -1,8 +1,9 @@
-//! Walks of requests at the desk of the demo contest: reads them from standard input, each with the reply
-//! that it must get, and tells of each walk how long it was, and what was answered otherwise.
+//! Walks of requests and imports at a desk: reads them from standard input, each with the answer that it
+//! must get, and tells of each walk how long it was, and what was answered otherwise.
 #![tactic(auto)]
 
 mod demo_desk;
+mod import_lines;
 mod reply_line;
 mod request_lines;
 mod walk;

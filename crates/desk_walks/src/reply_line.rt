@@ -1,16 +1,28 @@
-//! Replies as walks show them: `405 Allow: GET, HEAD {"code":405,"message":"Method"}`.
+//! Answers as walks show them: `405 Allow: GET, HEAD {"code":405,"message":"Method"}`, and of imports `added 1`
+//! or `refused: E1 Malformed`.
 
-use contest_desk::{ContentType, ExtraField, Reply};
+use crate::import_lines::answer_line;
+use contest_desk::{Answer, ContentType, ExtraField, Reply};
 use contest_fixtures::text_of;
 use std::alloc::{AllocError, Global};
 
-/// Whether a line of a walk is a reply.
-pub fn is_reply(line: &str) -> bool {
+/// Whether a line of a walk is an answer.
+pub fn is_answer(line: &str) -> bool {
     line.starts_with(|first: char| first.is_ascii_digit())
+        || line.starts_with("added ")
+        || line.starts_with("refused: ")
+}
+
+/// The line of an answer.
+pub fn line_of(alloc: Global, answer: &Answer) -> Result<String, AllocError> {
+    match answer {
+        Answer::Reply(reply) => reply_line(alloc, reply),
+        Answer::Imported(imported) => answer_line(alloc, imported),
+    }
 }
 
 /// The line of a reply. Where the content is JSON that isn't told.
-pub fn reply_line(alloc: Global, reply: &Reply) -> Result<String, AllocError> {
+fn reply_line(alloc: Global, reply: &Reply) -> Result<String, AllocError> {
     let status = reply.status;
     let content = content_text(reply.content);
     let (field, value) = field_texts(reply.extra);

@@ -1,13 +1,14 @@
 //! Requests as walks show them: `at 2024-03-02T09:05:00Z token-a1 key k1`, the moment with who asks and
 //! the idempotency key, and below it `POST /contests/demo/submissions {..}`.
 
+use crate::import_lines::import_at;
 use base64::engine::general_purpose::STANDARD;
 use contest_desk::{Credential, Item, KeyField, Method, Request, RequestItem};
 use contest_types::{Id, Moment, Refusal, Rows};
 use std::alloc::{AllocError, Global};
 use std::test::Fail;
 
-/// The requests of a step, in order.
+/// The requests and imports of a step, in order.
 pub fn items_of(alloc: Global, step: &str) -> Result<Vec<Item>, Fail> {
     let mut items = Vec::new(alloc);
     for asked in step.split("\nat ").skip(1) {
@@ -16,12 +17,16 @@ pub fn items_of(alloc: Global, step: &str) -> Result<Vec<Item>, Fail> {
     Ok(items)
 }
 
-/// A request: its moment, who asks, and the line below it. What comes after that is no part of it.
+/// A request or an import: its moment, who asks, and the line below it. What comes after that is no part
+/// of it.
 fn item_of(alloc: Global, asked: &str) -> Result<Item, Fail> {
     let (head, rest) = asked.split_once('\n').ok_or("a moment without a request")?;
     let (now, caller) = head.split_once(' ').ok_or("a moment without a caller")?;
     let now = Moment::parse(now)?.ok_or("no moment")?;
     let (line, _) = rest.split_once('\n').unwrap_or((rest, ""));
+    if caller == "import" {
+        return import_at(alloc, now, line);
+    }
     Ok(item_at(alloc, now, caller, line)?)
 }
 

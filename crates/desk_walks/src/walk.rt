@@ -1,22 +1,31 @@
-//! A walk: its name, and then steps at one desk, with an empty line before each. A step is requests that
-//! are handled in one run, and then their replies.
+//! A walk: its name, and then steps at one desk, with an empty line before each. A step is requests and
+//! imports that come in one run, and then their answers.
 
-use crate::demo_desk::demo_desk;
-use crate::reply_line::{is_reply, reply_line};
+use crate::demo_desk::desk_over;
+use crate::reply_line::{is_answer, line_of};
 use crate::request_lines::items_of;
-use contest_desk::{Answer, Desk, Reply};
+use contest_desk::Desk;
 use contest_store::MemoryStore;
 use std::alloc::{AllocError, Global};
 use std::test::Fail;
 
 /// What came of a walk: each step that was answered otherwise than it says, and a line for the whole.
 pub fn report_of(alloc: Global, walk: &str) -> Result<String, Fail> {
-    let mut desk = demo_desk(alloc, number_after(walk, "calls until the store fails: "))?;
+    let failing = number_after(walk, "calls until the store fails: ");
+    let mut desk = desk_over(alloc, is_bare(walk), failing)?;
     let mut report = String::new(alloc);
     let (steps, met) = go(alloc, &mut report, &mut desk, walk)?;
     let faults = desk.into_store().faults();
     add_whole(alloc, &mut report, walk, (steps, met, faults))?;
     Ok(report)
+}
+
+/// Whether a walk begins at a desk at which nothing is set up but the contest.
+fn is_bare(walk: &str) -> bool {
+    match walk.split_once("\n\n") {
+        Some((head, _)) => head.ends_with("nothing is set up"),
+        None => false,
+    }
 }
 
 /// The line for the whole: how many steps, how many were answered as they say, and the store's faults.
@@ -71,11 +80,11 @@ fn add_step(
     Ok(is_met)
 }
 
-/// The replies that a step must get.
+/// The answers that a step must get.
 fn wanted(alloc: Global, step: &str) -> Result<String, AllocError> {
     let mut text = String::new(alloc);
     for line in step.lines() {
-        if is_reply(line) {
+        if is_answer(line) {
             text.push_str(line)?;
             text.push('\n')?;
         }
@@ -83,36 +92,19 @@ fn wanted(alloc: Global, step: &str) -> Result<String, AllocError> {
     Ok(text)
 }
 
-/// The replies that it gets, the last time where it is gone several times.
+/// The answers that it gets, the last time where it is gone several times.
 fn given(alloc: Global, desk: &mut Desk<MemoryStore>, step: &str) -> Result<String, Fail> {
     for _ in 1..number_after(step, "times: ").unwrap_or(1) {
-        let _ = replies(alloc, desk, step)?;
+        let _ = answers(alloc, desk, step)?;
     }
-    let replies = replies(alloc, desk, step)?;
-    Ok(lines_of(alloc, &replies)?)
+    answers(alloc, desk, step)
 }
 
-fn replies(alloc: Global, desk: &mut Desk<MemoryStore>, step: &str) -> Result<Vec<Reply>, Fail> {
+fn answers(alloc: Global, desk: &mut Desk<MemoryStore>, step: &str) -> Result<String, Fail> {
     let items = items_of(alloc, step)?;
-    let mut replies = Vec::new(alloc);
-    for answer in desk.run(alloc, items)? {
-        replies.push(reply_of(answer).ok_or("a request is answered as an import")?)?;
-    }
-    Ok(replies)
-}
-
-/// The reply that an answer is, if it is one: a walk imports nothing.
-fn reply_of(answer: Answer) -> Option<Reply> {
-    match answer {
-        Answer::Reply(reply) => Some(reply),
-        Answer::Imported(_) => None,
-    }
-}
-
-fn lines_of(alloc: Global, replies: &[Reply]) -> Result<String, AllocError> {
     let mut text = String::new(alloc);
-    for reply in replies {
-        text.push_str(reply_line(alloc, reply)?.as_str())?;
+    for answer in &desk.run(alloc, items)? {
+        text.push_str(line_of(alloc, answer)?.as_str())?;
     }
     Ok(text)
 }

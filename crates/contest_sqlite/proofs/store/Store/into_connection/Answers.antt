@@ -22,4 +22,4 @@ pub returns-clause-settled : goal.returns-clause-settled
 returns-clause-settled g c =
     let conn = connection_of c.self.inside.keeper.tables in
     subst (λ conn. HasCleanDisk (state g.S.Store conn) → IsTrue (state g.S.Store conn).is_open → LeavesOnly (may_leave_of (state g.S.Store conn)) (committed_of (state g.S.Store conn))) (sym c.into_connection.ensures)
-    (λ clean. settled_at (g.S.Store.recovers conn.store) (g.S.Store.view conn.store).is_open (g.S.Store.view conn.store).committed _ _ (g.S.Store.settled conn.store) (g.S.Store.stays conn.store) (trusted (shown_by g.S.Store c.self.inside.keeper.tables) c.self.invariant.0 clean))
+    (λ clean. settled_at (g.S.Store.recovers conn.store) (g.S.Store.view conn.store).is_open (g.S.Store.view conn.store).committed _ _ (g.met.S.Store.settled conn.store) (g.met.S.Store.stays conn.store) (trusted (shown_by g.S.Store c.self.inside.keeper.tables) c.self.invariant.0 clean))

@@ -1,0 +1,342 @@
+#!/usr/bin/env python3
+"""Makes contests with `desk init` and `desk import`, as a director does, and holds what they answer and leave.
+
+    desk_files.py [--program PATH] [--probe PATH] [--kills N]
+
+tables/desk_commands.txt has calls with their answers. Then come files that can't be read or written, a full disk, a
+moment at which the clock is no moment, the session of README.md, a contest whose rows are counted one by one, and
+imports that are killed. What is in a file afterwards is asked of sqlite3, and of store_probe, which opens a file as the
+desk does. A call that is refused leaves what the file shows as it was.
+
+Takes sqlite3, faketime and setpriv, and runs as root, which may mount a small disk and be another user. Ends with the line
+`N passed, M failed`; the exit status is 0 where M is 0.
+"""
+
+import argparse
+import concurrent.futures
+import os
+import pathlib
+import random
+import re
+import shutil
+import subprocess
+import sys
+import tempfile
+import time
+
+sys.dont_write_bytecode = True
+
+import store_files
+
+TESTS = pathlib.Path(__file__).resolve().parent
+ROOT = TESTS.parent
+CONTEST = '{"id":"demo","name":"Demo Cup","duration":"5:00:00","scoreboard_freeze_duration":"1:00:00"}\n'
+PAST = CONTEST.replace('"duration"', '"start_time":"2024-03-02T09:00:00.000+00:00","duration"')
+TEAMS = "id,name,group_ids,hidden\n" + "".join(f"n{n},Team {n},,\n" for n in range(1, 501))
+LIMIT = 16_777_216
+DONE = (0, "", "")
+FAULT = (1, "", "refused: E24 StoreFault\n")
+FILE = (1, "", "refused: File\n")
+# Another user, who may neither read nor write what root alone may.
+NOBODY = ["setpriv", "--reuid=65534", "--regid=65534", "--clear-groups"]
+
+
+def cases():
+    """The cases of desk_commands.txt: the title, and its files and calls in order."""
+    text = (TESTS / "tables/desk_commands.txt").read_text(encoding="utf-8")
+    for case in text.split("\n== ")[1:]:
+        title, _, rest = case.partition("\n")
+        yield title, re.findall(r"(?m)^([>$]) (.*)\n((?:(?![>$] ).*\n)*)", rest.rstrip("\n") + "\n")
+
+
+class Desk:
+    """The program, the folder in which each case has one of its own, and what was counted."""
+
+    def __init__(self, program, probe, folder):
+        self.program, self.probe, self.folder = program, probe, pathlib.Path(folder)
+        self.made = self.passed = self.failed = 0
+
+    def new_folder(self):
+        self.made += 1
+        folder = self.folder / f"case{self.made}"
+        folder.mkdir()
+        (folder / "contest.json").write_text(CONTEST, encoding="utf-8")
+        (folder / "past.json").write_text(PAST, encoding="utf-8")
+        (folder / "teams.csv").write_text(TEAMS, encoding="utf-8")
+        return folder
+
+    def run(self, folder, *words, before=(), **options):
+        done = subprocess.run([*before, self.program, *words], stderr=subprocess.PIPE, cwd=folder, timeout=120,
+                              **{"stdout": subprocess.PIPE, **options})
+        return done.returncode, (done.stdout or b"").decode(), done.stderr.decode()
+
+    def note(self, is_right, what):
+        self.passed, self.failed = self.passed + is_right, self.failed + (not is_right)
+        if not is_right:
+            print(f"FAILED: {what}", flush=True)
+
+    def answers(self, what, wanted, folder, *words, **options):
+        """The call has this answer; where it is refused, each database in the folder shows what it did."""
+        was = shown(folder)
+        given = self.run(folder, *words, **options)
+        same = given[0] == 0 or shown(folder) == was
+        self.note(given == wanted and same, f"{what}: {given}, wanted {wanted}, {'' if same else 'and a file has changed'}")
+
+    def opens(self, what, folder, counts):
+        """The contest in cup.db has so many rows of each kind."""
+        done = subprocess.run([self.probe, "open", folder / "cup.db"], capture_output=True, timeout=120)
+        given = done.stdout.decode()
+        self.note(given == f"open: {counts}\n", f"{what}: {given!r}, wanted {counts}")
+
+
+def shown(folder):
+    """What sqlite3 shows of each database in a folder; of one without tables, as of none, nothing."""
+    databases = [path for path in sorted(folder.glob("*.db")) if path.is_file()]
+    dumps = {path.name: store_files.dump(path) for path in databases}
+    return {name: text for name, text in dumps.items() if "CREATE" in text}
+
+
+def wanted_of(answer):
+    """The status, and what is on standard output and standard error, of an answer of desk_commands.txt."""
+    if not answer:
+        return DONE
+    return (0, answer, "") if answer.startswith("added") else (1, "", answer)
+
+
+def try_commands(desk):
+    for title, steps in cases():
+        folder = desk.new_folder()
+        for sign, head, rest in steps:
+            rest = rest.rstrip("\n") + "\n" if rest.strip() else ""
+            what = f"{title}: {head}"
+            if sign == ">":
+                (folder / head).write_text(rest, encoding="utf-8")
+            elif rest.startswith("error:"):
+                given = desk.run(folder, *head.split())
+                right = given[:2] == (2, "") and given[2].startswith(rest) and not list(folder.glob("*.db"))
+                desk.note(right, f"{what}: {given}, wanted {rest}")
+            else:
+                desk.answers(what, wanted_of(rest), folder, *head.split())
+
+
+def try_limits(desk):
+    """Files of as many bytes as there may be, and of one more; a table that is full."""
+    folder = desk.new_folder()
+    for size, init, added in ((LIMIT, DONE, (0, "added 0\n", "")), (LIMIT + 1, (1, "", "refused: E6 BodyTooLarge\n"),) * 2):
+        (folder / "large.json").write_text(CONTEST.ljust(size), encoding="utf-8")
+        (folder / "empty.json").write_text("[]".ljust(size), encoding="utf-8")
+        desk.answers(f"a contest of {size} bytes", init, folder, "init", "cup.db", "large.json")
+        desk.answers(f"{size} bytes of no team", added, folder, "import", "cup.db", "teams", "empty.json")
+    (folder / "many.csv").write_text(TEAMS + "n501,Team 501,,\n", encoding="utf-8")
+    desk.answers("501 teams", (1, "", "refused: E22 ImportRow 501 TableFull\n"), folder, "import", "cup.db", "teams-csv", "many.csv")
+    for added in (500, 0):
+        desk.answers("500 teams", (0, f"added {added}\n", ""), folder, "import", "cup.db", "teams-csv", "teams.csv")
+    desk.opens("500 teams", folder, "0 0 0 0 500 0 0 0 0 0 0")
+
+
+def try_bytes(desk):
+    """Bytes that are no text, and a byte order mark."""
+    folder = desk.new_folder()
+    desk.run(folder, "init", "cup.db", "contest.json")
+    head = b"id,name,group_ids,hidden\n"
+    malformed = (1, "", "refused: E22 ImportRow 2 Malformed\n")
+    for what, data, wanted in (
+        ("a byte 0xFF", head + b"t1,Alpha,,\nt2,B\xffta,,\n", malformed),
+        ("a NUL byte", head + b"t1,Alpha,,\nt2,B\0ta,,\n", malformed),
+        ("a mark at the start", b"\xef\xbb\xbf" + head + b"t1,Alpha,,\n", (0, "added 1\n", "")),
+        ("two marks at the start", b"\xef\xbb\xbf" * 2 + head + b"t1,Alpha,,\n", (1, "", "refused: E1 Malformed\n")),
+    ):
+        (folder / "teams.csv").write_bytes(data)
+        desk.answers(what, wanted, folder, "import", "cup.db", "teams-csv", "teams.csv")
+    (folder / "groups.json").write_bytes(b'[{"id":"g","name":"\xff"}]')
+    desk.answers("a byte 0xFF in JSON", (1, "", "refused: E1 Malformed\n"), folder, "import", "cup.db", "groups", "groups.json")
+
+
+def try_paths(desk):
+    """Files that are missing, no files, or another's."""
+    folder = desk.new_folder()
+    desk.run(folder, "init", "cup.db", "contest.json")
+    for what, none in store_files.NO_PATHS:
+        if "pipe" not in none:
+            path = none.format(folder=folder, good=folder / "cup.db")
+            desk.answers(what, FAULT, folder, "init", path, "contest.json")
+            desk.answers(what, FAULT, folder, "import", path, "teams-csv", "teams.csv")
+    for path in ("none.csv", ".", "cup.db/teams.csv", ""):
+        desk.answers(f"{path!r} to import", FILE, folder, "import", "cup.db", "teams-csv", path)
+        desk.answers(f"{path!r} as a contest", FILE, folder, "init", "new.db", path)
+    folder.chmod(0o755)
+    (folder / "own.csv").write_text(TEAMS, encoding="utf-8")
+    (folder / "own.csv").chmod(0o600)
+    for path in (folder.parent, folder, folder / "cup.db"):
+        path.chmod(0o777 if path != folder / "cup.db" else 0o666)
+    desk.answers("another's file", FILE, folder, "import", "cup.db", "teams-csv", "own.csv", before=NOBODY)
+    (folder / "cup.db").chmod(0o444)
+    desk.answers("a file that is read alone", FAULT, folder, "import", "cup.db", "teams-csv", "teams.csv", before=NOBODY)
+    (folder / "cup.db").chmod(0o600)
+    desk.answers("another's contest", FAULT, folder, "import", "cup.db", "teams-csv", "teams.csv", before=NOBODY)
+    folder.chmod(0o755)
+    desk.answers("another's folder", FAULT, folder, "init", "new.db", "contest.json", before=NOBODY)
+    desk.opens("after all of these", folder, "0 0 0 0 0 0 0 0 0 0 0")
+
+
+def try_streams(desk):
+    """Where standard output fails the rows are kept; where standard error does, the status still tells."""
+    folder = desk.new_folder()
+    desk.run(folder, "init", "cup.db", "contest.json")
+    with open("/dev/full", "wb") as full:
+        given = desk.run(folder, "import", "cup.db", "teams-csv", "teams.csv", stdout=full)
+    desk.note(given == FILE, f"a full standard output: {given}")
+    desk.opens("a full standard output", folder, "0 0 0 0 500 0 0 0 0 0 0")
+
+
+def try_full_disk(desk):
+    """On a disk that is full nothing is made, and a contest stays as it was."""
+    disk = desk.new_folder() / "disk"
+    disk.mkdir()
+    folder = disk.parent
+    subprocess.run(["mount", "-t", "tmpfs", "-o", "size=256k", "none", disk], check=True)
+    try:
+        (disk / "filler").write_bytes(bytes(252 * 1024))
+        desk.answers("no room for a contest", FAULT, folder, "init", "disk/cup.db", "contest.json")
+        (disk / "filler").unlink()
+        desk.answers("room for a contest", DONE, folder, "init", "disk/cup.db", "contest.json")
+        room = os.statvfs(disk).f_bavail * os.statvfs(disk).f_frsize
+        (disk / "filler").write_bytes(bytes(max(0, room - 8192)))
+        was = shown(disk)
+        desk.answers("no room for teams", FAULT, folder, "import", "disk/cup.db", "teams-csv", "teams.csv")
+        desk.note(shown(disk) == was, "a full disk: the file shows something else")
+        (disk / "filler").unlink()
+        desk.answers("room again", (0, "added 500\n", ""), folder, "import", "disk/cup.db", "teams-csv", "teams.csv")
+    finally:
+        subprocess.run(["umount", disk], check=True)
+
+
+def try_clock(desk):
+    """Settings are taken until the start by the machine's clock; a clock that shows no moment is told."""
+    folder = desk.new_folder()
+    desk.run(folder, "init", "cup.db", "past.json")
+    (folder / "one.csv").write_text("id,name,group_ids,hidden\nt1,Alpha,,\n", encoding="utf-8")
+    (folder / "two.csv").write_text("id,name,group_ids,hidden\nt2,Beta,,\n", encoding="utf-8")
+    at = lambda moment: ["env", "TZ=UTC", "faketime", "-f", moment]
+    clock = (1, "", "refused: Clock\n")
+    closed = (1, "", "refused: E23 SettingsClosed\n")
+    for moment, name, wanted in (
+        ("1969-12-31 23:59:59", "one.csv", clock),
+        ("2024-03-02 08:59:59", "one.csv", (0, "added 1\n", "")),
+        ("2024-03-02 09:00:00", "one.csv", (0, "added 0\n", "")),
+        ("2024-03-02 09:00:00", "two.csv", closed),
+    ):
+        desk.answers(f"at {moment}", wanted, folder, "import", "cup.db", "teams-csv", name, before=at(moment))
+    desk.answers("a clock of no moment, before FILE", clock, folder, "import", ".", "teams-csv", "one.csv", before=at("1969-12-31 23:59:59"))
+
+
+def try_rows(desk):
+    """Imported rows stand in their tables as in tables/store_demo.sql, token digests and all."""
+    folder = desk.new_folder()
+    (folder / "contest.json").write_text(PAST, encoding="utf-8")
+    demo, early = folder / "demo.db", ["env", "TZ=UTC", "faketime", "-f", "2024-03-02 08:00:00"]
+    store_files.sqlite(demo, store_files.TABLES + store_files.ROWS)
+    desk.answers("the demo contest", DONE, folder, "init", "cup.db", "contest.json")
+    for kind, name in DEMO:
+        (folder / "file").write_text(DEMO[kind, name], encoding="utf-8")
+        desk.run(folder, "import", "cup.db", kind, "file", before=early)
+    rows = "SELECT * FROM desk; SELECT * FROM contest; SELECT * FROM items; SELECT *, hex(token) FROM accounts"
+    made, wanted = (store_files.sqlite(path, rows) for path in (folder / "cup.db", demo))
+    desk.note(made == wanted, f"the demo contest's rows: {made}, wanted {wanted}")
+    desk.opens("the demo contest", folder, "3 2 3 2 4 7 0 0 0 0 0")
+
+
+# The files of the contest in tables/store_demo.sql.
+DEMO = {
+    ("judgement-types", "types"): '[{"id":"AC","name":"correct","solved":true},{"id":"WA","name":"wrong answer","solved":false,"penalty":true},{"id":"CE","name":"compile error","solved":false}]',
+    ("languages", "languages"): '[{"id":"cpp","name":"C++"},{"id":"java","name":"Java","entry_point_required":true}]',
+    ("groups", "groups"): '[{"id":"north","name":"North"},{"id":"south","name":"South"},{"id":"guests","name":"G\\u00e4ste"}]',
+    ("problems", "problems"): '[{"id":"a","label":"A","name":"Apples","ordinal":0},{"id":"b","label":"B","name":"Bridges","ordinal":1}]',
+    ("teams-csv", "teams"): "id,name,group_ids,hidden\nt1,Alpha,north guests,\nt2,Beta,south,\nt3,Gamma,,false\nt9,Staff,,true\n",
+    ("accounts-csv", "accounts"): "id,role,team_id,token\n"
+    "j2,judge,,token-j2\nj1,judge,,token-j1\na9,team,t9,token-a9\na1,team,t1,token-a1\na2,team,t2,token-a2\n"
+    "a3,team,t3,token-a3\nadm,admin,,token-adm\n",
+}
+
+
+def try_readme(desk):
+    """The session of README.md, line by line."""
+    text = (ROOT / "README.md").read_text(encoding="utf-8")
+    session = re.search(r"```\n(\$ start=.*?)```", text, re.S)
+    if session is None:
+        desk.note(False, "README.md has no session that begins with `start=`")
+        return
+    folder = desk.new_folder()
+    (folder / "examples").symlink_to(ROOT / "examples")
+    calls = re.findall(r"(?m)^\$ (.*)\n((?:(?!\$ ).*\n)*)", session[1])
+    script = "\n".join(f"{call}\necho '-- done'" for call, _ in calls).replace("./desk", self_path(desk))
+    done = subprocess.run(["bash", "-c", f"exec 2>&1\n{script}"], capture_output=True, cwd=folder, timeout=300)
+    given = done.stdout.decode().split("-- done\n")
+    for (call, wanted), printed in zip(calls, given):
+        desk.note(printed == wanted, f"README.md: {call}: {printed!r}, wanted {wanted!r}")
+    desk.note(len(given) == len(calls) + 1, "README.md: not all calls were made")
+
+
+def self_path(desk):
+    return f"'{desk.program}'"
+
+
+def kill(desk, base, delay):
+    """An import of 500 teams that is killed after so many seconds: what is wrong then, and whether all stand."""
+    with tempfile.TemporaryDirectory(dir=desk.folder) as name:
+        folder = pathlib.Path(name)
+        for file in base.iterdir():
+            shutil.copy(file, folder)
+        with subprocess.Popen([desk.program, "import", "cup.db", "teams-csv", "teams.csv"], cwd=folder,
+                              stdout=subprocess.PIPE, stderr=subprocess.PIPE) as running:
+            time.sleep(delay)
+            running.kill()
+            told = running.communicate()[0].decode()
+        opened = subprocess.run([desk.probe, "open", folder / "cup.db"], capture_output=True, timeout=120).stdout.decode()
+    none, every = "open: 0 0 0 0 0 0 0 0 0 0 0\n", "open: 0 0 0 0 500 0 0 0 0 0 0\n"
+    right = opened == every or (opened == none and told == "")
+    return None if right else f"killed after {delay:.4f} s: {told!r}, then {opened!r}", opened == every
+
+
+def try_kills(desk, kills):
+    """Imports that are killed leave all their rows or none, and all where that was told."""
+    base = desk.new_folder()
+    desk.run(base, "init", "cup.db", "contest.json")
+    full, chance = desk.new_folder(), random.Random(18)
+    shutil.copy(base / "cup.db", full)
+    start = time.monotonic()
+    desk.run(full, "import", "cup.db", "teams-csv", "teams.csv")
+    whole = time.monotonic() - start
+    delays = [chance.uniform(0, 1.5 * whole) for _ in range(kills)]
+    with concurrent.futures.ThreadPoolExecutor(os.cpu_count() or 1) as pool:
+        ends = list(pool.map(lambda delay: kill(desk, base, delay), delays))
+    for wrong, _ in ends:
+        desk.note(wrong is None, wrong)
+    stood = sum(all_stand for _, all_stand in ends)
+    print(f"kills within {1.5 * whole:.3f} s: {stood} of {kills} left all rows", flush=True)
+    desk.note(0 < stood < kills, "kills came all too early or all too late to say anything")
+
+
+def main():
+    parser = argparse.ArgumentParser(description=__doc__, formatter_class=argparse.RawDescriptionHelpFormatter)
+    parser.add_argument("--program", default=str(ROOT / "crates/desk/out/desk"))
+    parser.add_argument("--probe", default=str(ROOT / "crates/store_probe/out/store_probe"))
+    parser.add_argument("--kills", type=int, default=200, metavar="N")
+    options = parser.parse_args()
+    for program in (options.program, options.probe):
+        if not pathlib.Path(program).is_file():
+            parser.error(f"there is no program {program}: build it, or name one by --program or --probe")
+    with tempfile.TemporaryDirectory() as folder:
+        os.chmod(folder, 0o755)
+        desk = Desk(str(pathlib.Path(options.program).resolve()), str(pathlib.Path(options.probe).resolve()), folder)
+        parts = (try_commands, try_limits, try_bytes, try_paths, try_streams, try_full_disk, try_clock, try_rows, try_readme)
+        for part in (*parts, lambda desk: try_kills(desk, options.kills)):
+            before = desk.passed
+            part(desk)
+            print(f"{part.__name__[4:].replace('_', ' ')}: {desk.passed - before} held", flush=True)
+        print(f"{desk.passed} passed, {desk.failed} failed")
+    return 1 if desk.failed else 0
+
+
+if __name__ == "__main__":
+    sys.exit(main())

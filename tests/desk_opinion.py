@@ -1,0 +1,340 @@
+"""A second opinion on what the desk answers: the plainest model of a contest that takes requests and imports.
+
+docs/FORMATS.md says what is asked and answered. It is written to be read beside that page and to share nothing with the
+program: whole lists, filtered and counted for each answer, and nothing kept up to date along the way. Fields of CSV files
+are read as second_opinion.py reads those of a replay file.
+"""
+
+import base64
+import binascii
+import copy
+import datetime
+import hashlib
+import json
+import re
+
+import second_opinion
+from second_opinion import Fault
+
+LIMITS = {"types": 40, "languages": 40, "problems": 40, "groups": 50, "teams": 500, "accounts": 2000}
+FILE_LIMIT = 262_144
+TEAM_LIMIT = 500
+PROPOSAL_LIMIT = 1_000
+NUMBERS = {"Malformed": 1, "BodyTooLarge": 6, "SettingsClosed": 23}
+STATUSES = {
+    "Malformed": 400, "UnknownToken": 401, "RoleForbids": 403, "NotFound": 404, "Method": 405, "BodyTooLarge": 413,
+    "NotOpen": 409, "UnknownReference": 400, "EntryPointMissing": 400, "TeamLimit": 409, "KeyReused": 409, "AlreadyReleased": 409,
+}  # fmt: skip
+COLLECTIONS = {"judgement-types": "types", "languages": "languages", "problems": "problems", "groups": "groups", "teams": "teams"}
+HEADERS = {"teams-csv": b"id,name,group_ids,hidden", "accounts-csv": b"id,role,team_id,token"}
+
+
+class Refused(Exception):
+    """A request or a file is refused, by this name."""
+
+
+# --- Values ----------------------------------------------------------------------------------------
+
+
+def is_id(value):
+    return isinstance(value, str) and re.fullmatch(r"[A-Za-z0-9_.][A-Za-z0-9_.-]{0,35}", value) is not None
+
+
+def is_name(value):
+    return isinstance(value, str) and bool(re.fullmatch(r"[^\x00-\x1f\x7f-\x9f]+", value)) and len(value.encode()) <= 200
+
+
+def is_truth(value):
+    return isinstance(value, bool)
+
+
+def is_ordinal(value):
+    return isinstance(value, int) and not isinstance(value, bool) and 0 <= value <= 65_535
+
+
+def member(row, name, is_right, usual=None):
+    """A member of an object; one that is absent or null is as usual, and at fault where nothing is usual."""
+    value = row.get(name) if isinstance(row, dict) else None
+    if value is None and usual is not None:
+        return usual
+    if not is_right(value):
+        raise Fault("Malformed")
+    return value
+
+
+def relative(milliseconds):
+    seconds, thousandths = divmod(milliseconds, 1000)
+    return f"{seconds // 3600}:{seconds // 60 % 60:02}:{seconds % 60:02}.{thousandths:03}"
+
+
+def compact(value):
+    return json.dumps(value, separators=(",", ":"), sort_keys=True, ensure_ascii=False)
+
+
+# --- Files -----------------------------------------------------------------------------------------
+
+
+def groups_of(ids, contest):
+    """The groups of a team, each once, and all of them there."""
+    if len(set(ids)) != len(ids):
+        raise Fault("Malformed")
+    if any(all(group["id"] != one for group in contest["groups"]) for one in ids):
+        raise Fault("UnknownReference")
+    return ids
+
+
+def row_of(kind, row, contest):
+    """The list that an object of a file goes to, and the row."""
+    row_id, label = member(row, "id", is_id), {}
+    if kind == "problems":
+        label = {"label": member(row, "label", is_name)}
+    made = {"id": row_id, **label, "name": member(row, "name", is_name)}
+    if kind == "judgement-types":
+        made["solved"] = member(row, "solved", is_truth)
+        made["penalty"] = member(row, "penalty", is_truth, False)
+    elif kind == "languages":
+        made["entry_point_required"] = member(row, "entry_point_required", is_truth, False)
+    elif kind == "problems":
+        made["ordinal"] = member(row, "ordinal", is_ordinal)
+    elif kind == "teams":
+        ids = member(row, "group_ids", lambda ids: isinstance(ids, list) and all(map(is_id, ids)), [])
+        made["hidden"] = member(row, "hidden", is_truth, False)
+        made["group_ids"] = groups_of(ids, contest)
+    return COLLECTIONS[kind], made
+
+
+def csv_row(kind, fields, contest):
+    """The same of a record of a CSV file."""
+    if len(fields) != 4:
+        raise Fault("Malformed")
+    if kind == "teams-csv":
+        row_id, name = second_opinion.identifier(fields[0]), second_opinion.name(fields[1])
+        ids = [second_opinion.identifier(word) for word in fields[2].split(b" ")] if fields[2] else []
+        hidden = second_opinion.truth_or_empty(fields[3])
+        return "teams", {"id": row_id, "name": name, "group_ids": groups_of(ids, contest), "hidden": hidden}
+    row_id, role = second_opinion.identifier(fields[0]), fields[1].decode("utf-8", "replace")
+    team = second_opinion.identifier(fields[2]) if role == "team" else None
+    is_token = re.fullmatch(rb"[A-Za-z0-9._~+/-]+=*", fields[3]) and 8 <= len(fields[3]) <= 128
+    if row_id == "import" or role not in ("team", "judge", "admin") or (team is None and fields[2]) or not is_token:
+        raise Fault("Malformed")
+    if team is not None and all(one["id"] != team for one in contest["teams"]):
+        raise Fault("UnknownReference")
+    return "accounts", {"id": row_id, "role": role, "team": team, "digest": hashlib.sha256(fields[3]).hexdigest()}
+
+
+def is_new(rows, which, row):
+    """Whether a row is added to those that stand."""
+    for other in rows:
+        if other["id"] == row["id"]:
+            if other != row:
+                raise Fault("KeyReused")
+            return False
+    if any(other[held] == row[held] for held in ("label", "digest") if held in row for other in rows):
+        raise Fault("KeyReused")
+    if len(rows) >= LIMITS[which]:
+        raise Fault("TableFull")
+    return True
+
+
+def records_in(kind, data):
+    """What a file lists, each with the function that makes a row of it."""
+    if kind in HEADERS:
+        records = second_opinion.records_of(data)
+        if not records or b",".join(records[0]) != HEADERS[kind] or len(records[0]) != 4:
+            raise Refused("Malformed")
+        return records[1:], csv_row
+    try:
+        rows = json.loads(data.decode("utf-8"))
+    except (UnicodeDecodeError, json.JSONDecodeError):
+        raise Refused("Malformed")
+    if not isinstance(rows, list):
+        raise Refused("Malformed")
+    return rows, row_of
+
+
+def imported(contest, now, kind, data):
+    """What is answered to an import, and the contest after it."""
+    after, added = copy.deepcopy(contest), 0
+    try:
+        records, made = records_in(kind, data)
+        for number, record in enumerate(records, 1):
+            try:
+                which, row = made(kind, record, after)
+                if is_new(after[which], which, row):
+                    after[which].append(row)
+                    added += 1
+            except Fault as fault:
+                return f"refused: E22 ImportRow {number} {fault}", contest
+        is_closed = contest["start"] <= now or contest["submissions"]
+        if kind != "accounts-csv" and added and is_closed:
+            raise Refused("SettingsClosed")
+    except Refused as refused:
+        return f"refused: E{NUMBERS[str(refused)]} {refused}", contest
+    return f"added {added}", after
+
+
+# --- Requests --------------------------------------------------------------------------------------
+
+
+def new_contest(contest_id, start, duration):
+    lists = ("types", "languages", "problems", "groups", "teams", "accounts", "submissions", "proposals", "releases")
+    return {"id": contest_id, "start": start, "end": start + duration, **{name: [] for name in lists}}
+
+
+def submission_object(contest, submission, caller):
+    """A submission as the caller is served it."""
+    place = [team["id"] for team in contest["teams"]].index(submission["team"]) + 1
+    shown = {
+        "contest_time": relative(submission["time"] - contest["start"]),
+        "id": f"s{place}-{submission['number']}",
+        "language_id": submission["language"],
+        "problem_id": submission["problem"],
+        "team_id": submission["team"],
+        "time": moment(submission["time"]),
+    }
+    if caller is not None and (caller["role"] != "team" or caller["team"] == submission["team"]):
+        href = f"contests/{contest['id']}/submissions/{shown['id']}/files"
+        shown["files"] = [{"href": href, "mime": "application/zip"}]
+        if submission["entry"] is not None:
+            shown["entry_point"] = submission["entry"]
+    return shown
+
+
+def moment(milliseconds):
+    day = datetime.datetime(1970, 1, 1) + datetime.timedelta(milliseconds=milliseconds)
+    return day.strftime("%Y-%m-%dT%H:%M:%S.") + f"{milliseconds % 1000:03}+00:00"
+
+
+def seen_submissions(contest, caller):
+    """The submissions that a caller sees, by time, team id and number."""
+
+    def is_seen(submission):
+        hidden = next(team["hidden"] for team in contest["teams"] if team["id"] == submission["team"])
+        return not hidden or (caller is not None and (caller["role"] != "team" or caller["team"] == submission["team"]))
+
+    seen = [submission for submission in contest["submissions"] if is_seen(submission)]
+    return sorted(seen, key=lambda one: (one["time"], one["team"].encode(), one["number"]))
+
+
+def collection(contest, name, caller):
+    if name == "submissions":
+        return [submission_object(contest, one, caller) for one in seen_submissions(contest, caller)]
+    rows = contest[COLLECTIONS[name]]
+    return sorted(rows, key=lambda row: (row["ordinal"], row["id"].encode())) if name == "problems" else rows
+
+
+def posted(body, team):
+    """What a team posts: problem, language, entry point and file."""
+    try:
+        row = json.loads(body)
+        problem, language = member(row, "problem_id", is_id), member(row, "language_id", is_id)
+        entry = member(row, "entry_point", lambda text: text == "" or is_name(text), "")
+        files = member(row, "files", lambda files: isinstance(files, list) and len(files) == 1)
+        data = member(files[0], "data", lambda text: isinstance(text, str))
+        file = base64.b64decode(data.encode(), validate=True)
+        if base64.b64encode(file).decode() != data or member(row, "team_id", is_id, team) != team:
+            raise Fault("Malformed")
+    except (Fault, json.JSONDecodeError, UnicodeEncodeError, binascii.Error):
+        raise Refused("Malformed")
+    if len(file) > FILE_LIMIT:
+        raise Refused("BodyTooLarge")
+    return problem, language, entry or None, file
+
+
+def submit(contest, now, caller, key, body):
+    """The submission that a post stands for, new or old."""
+    if caller is None or caller["role"] != "team":
+        raise Refused("RoleForbids")
+    if key is not None and not is_id(key):
+        raise Refused("Malformed")
+    problem, language, entry, file = posted(body, caller["team"])
+    languages = {row["id"]: row["entry_point_required"] for row in contest["languages"]}
+    if all(row["id"] != problem for row in contest["problems"]) or language not in languages:
+        raise Refused("UnknownReference")
+    if languages[language] and entry is None:
+        raise Refused("EntryPointMissing")
+    own = [one for one in contest["submissions"] if one["team"] == caller["team"]]
+    new = {"team": caller["team"], "number": len(own) + 1, "time": max([now] + [one["time"] for one in own]),
+           "problem": problem, "language": language, "entry": entry, "file": file, "key": key}  # fmt: skip
+    for one in own:
+        if key is not None and one["key"] == key:
+            if any(one[part] != new[part] for part in ("problem", "language", "entry", "file")):
+                raise Refused("KeyReused")
+            return one
+    if not contest["start"] <= now < contest["end"]:
+        raise Refused("NotOpen")
+    if len(own) >= TEAM_LIMIT:
+        raise Refused("TeamLimit")
+    contest["submissions"].append(new)
+    return new
+
+
+def propose(contest, now, caller, body):
+    """The proposal that a judge's post is; nobody verifies it, so its verdict is released."""
+    if caller is None or caller["role"] == "team":
+        raise Refused("RoleForbids")
+    try:
+        row = json.loads(body)
+        which, verdict = member(row, "submission_id", is_id), member(row, "judgement_type_id", is_id)
+    except (Fault, json.JSONDecodeError):
+        raise Refused("Malformed")
+    if all(submission_object(contest, one, caller)["id"] != which for one in contest["submissions"]):
+        raise Refused("UnknownReference")
+    if all(row["id"] != verdict for row in contest["types"]):
+        raise Refused("UnknownReference")
+    if which in contest["releases"]:
+        raise Refused("AlreadyReleased")
+    contest["releases"].append(which)
+    return {"account_id": caller["id"], "judgement_type_id": verdict, "released": True, "submission_id": which, "time": moment(now)}
+
+
+def offered(contest, path):
+    """What a path offers: the methods, the collection and the id in it."""
+    pieces = path.split("/")
+    if path == "/jury/proposals":
+        return ["POST"], "proposals", None
+    names = ["submissions", *COLLECTIONS]
+    if len(pieces) not in (4, 5) or pieces[:3] != ["", "contests", contest["id"]] or pieces[3] not in names or not all(pieces[1:]):
+        raise Refused("NotFound")
+    methods = ["GET", "HEAD"] + (["POST"] if pieces[3:] == ["submissions"] else [])
+    return methods, pieces[3], pieces[4] if len(pieces) == 5 else None
+
+
+def caller_of(contest, who):
+    """The account that asks; None for the public."""
+    if who == "public":
+        return None
+    digest = hashlib.sha256(who.encode()).hexdigest()
+    for account in contest["accounts"]:
+        if account["digest"] == digest:
+            return account
+    raise Refused("UnknownToken")
+
+
+def value_of(contest, now, who, key, method, path, body):
+    methods, name, which = offered(contest, path)
+    if method not in methods:
+        raise Refused("Method", " Allow: " + ", ".join(methods))
+    caller = caller_of(contest, who)
+    if method == "POST" and name == "proposals":
+        return propose(contest, now, caller, body)
+    if method == "POST":
+        return submission_object(contest, submit(contest, now, caller, key, body), caller)
+    rows = collection(contest, name, caller)
+    if which is None:
+        return rows
+    for row in rows:
+        if row["id"] == which:
+            return row
+    raise Refused("NotFound")
+
+
+def handled(contest, now, who, key, method, path, body):
+    """What is answered to a request, and the contest after it."""
+    after = copy.deepcopy(contest)
+    try:
+        return f"200 {compact(value_of(after, now, who, key, method, path, body))}", after
+    except Refused as refused:
+        name, field = refused.args[0], refused.args[1] if len(refused.args) > 1 else ""
+        field = " WWW-Authenticate: Bearer" if name == "UnknownToken" else field
+        return f"{STATUSES[name]}{field} " + compact({"code": STATUSES[name], "message": name}), contest

@@ -1,0 +1,178 @@
+#!/usr/bin/env python3
+"""Has the desk answer requests and imports made from a seed, and holds each answer beside a second opinion.
+
+    random_walks.py [--program PATH] [--walks N] [--steps N] [--seed N]
+
+The program is desk_walks, which reads walks with the answers that they must get (crates/desk_walks/stdin begins with how
+they are written). The answers are those of desk_opinion.py. Each walk begins at a desk at which nothing is set up.
+
+Ends with the line `N passed, M failed`; the exit status is 0 where M is 0.
+"""
+
+import argparse
+import base64
+import collections
+import pathlib
+import random
+import re
+import subprocess
+import sys
+
+sys.dont_write_bytecode = True
+
+import desk_opinion
+
+ROOT = pathlib.Path(__file__).resolve().parent.parent
+START = 1_709_370_000_000
+DURATION = 18_000_000
+SETTINGS = ["judgement-types", "languages", "groups", "problems", "teams"]
+NAMES = ["Alpha", "Beta", "Gamma, the third", 'The "Deltas"', "Łódź", "東京", ""]
+IDS = {"judgement-types": ["AC", "WA", "CE"], "languages": ["cpp", "java"], "groups": ["north", "south"],
+       "problems": ["a", "b", "c"], "teams": ["t1", "t2", "t3", "t9"]}  # fmt: skip
+ACCOUNTS = ["a1", "a2", "a3", "a9", "j1", "adm"]
+KEYS = [None, None, "k1", "k2", "k3", "?"]
+FILES = [b"abc", b"", b"abd", bytes(7)]
+
+
+class Chance:
+    """What is asked next, by a seed."""
+
+    def __init__(self, seed):
+        self.random = random.Random(seed)
+
+    def one(self, choices):
+        return self.random.choice(choices)
+
+    def often(self, value, others, part=0.9):
+        """This value, and sometimes one of the others."""
+        return value if self.random.random() < part else self.one(others)
+
+    def settings_row(self, kind):
+        row = {"id": self.often(self.one(IDS[kind]), ["x", "-x", "", None, 7], 0.95)}
+        row["name"] = self.often(f"Name {row['id']}", NAMES, 0.9)
+        if kind == "judgement-types":
+            row["solved"] = self.often(row["id"] == "AC", [True, "true", None], 0.97)
+            row["penalty"] = self.often(row["id"] == "WA", [True, None], 0.9)
+        elif kind == "languages":
+            row["entry_point_required"] = self.often(row["id"] == "java", [None, 1, True], 0.95)
+        elif kind == "problems":
+            row["label"] = self.often(str(row["id"]).upper(), ["A", "B", "", None], 0.9)
+            row["ordinal"] = self.often(len(str(row["id"])), [0, 65535, 65536, 1.5, None, "1"], 0.9)
+        elif kind == "teams":
+            row["hidden"] = self.often(row["id"] == "t9", [True, False, None, "false"], 0.95)
+            row["group_ids"] = self.often([], [["north"], ["north", "south"], ["south", "south"], ["east"], None, ["-"]], 0.7)
+        return {name: value for name, value in row.items() if self.random.random() < 0.98}
+
+    def quoted(self, field):
+        """A field of a CSV file, with quotation marks where it needs them, and sometimes where it doesn't."""
+        return '"' + field.replace('"', '""') + '"' if re.search('[",]', field) or self.random.random() < 0.05 else field
+
+    def teams_record(self):
+        row = self.settings_row("teams")
+        groups = row.get("group_ids") or []
+        fields = [str(row.get("id", "")), row.get("name", ""), self.often(" ", ["  ", ","], 0.98).join(groups)]
+        return fields + [self.often({True: "true", False: ""}.get(row.get("hidden"), "false"), ["TRUE", "no", "false"], 0.97)]
+
+    def accounts_record(self):
+        account = self.often(self.one(ACCOUNTS), ["j2", "-", "import"], 0.97)
+        role = {"a": "team", "j": "judge", "i": "judge"}.get(account[:1], "judge") if account != "adm" else "admin"
+        team = "t" + account[1:] if role == "team" else ""
+        token = self.often(f"token-{account}", ["token-j1", "short", "token j1", "token-x==", "=token-x"], 0.95)
+        return [account, self.often(role, ["Team", "judge", ""], 0.97), self.often(team, ["t1", "t7", ""], 0.96), token]
+
+    def file(self, kind):
+        """A file of some kind, mostly one that is taken."""
+        if kind in SETTINGS:
+            text = desk_opinion.compact([self.settings_row(kind) for _ in range(self.random.randint(0, 3))])
+            return self.often(text, ["{}", "", text[:-1], "[7]"], 0.96) + "\n"
+        made = self.teams_record if kind == "teams-csv" else self.accounts_record
+        rows = [made() for _ in range(self.random.randint(0, 4))]
+        lines = [",".join(map(self.quoted, row[: self.often(4, [3], 0.98)])) for row in rows]
+        header = self.often(desk_opinion.HEADERS[kind].decode(), ["id,name", ""], 0.97)
+        return "\n".join([header, *lines]) + "\n"
+
+    def post(self):
+        problem, language = self.often(self.one("abc"), ["x", "-x", None], 0.9), self.often("cpp", ["java", "java", "c", None], 0.7)
+        body = {"problem_id": problem, "language_id": language}
+        body["files"] = [{"data": self.often(base64.b64encode(self.one(FILES)).decode(), ["YWJ", "YWJj=", 3, "é"], 0.95)}]
+        body["entry_point"] = self.often(None, ["", "Main", "x" * 201], 0.4 if language == "java" else 0.95)
+        body["team_id"] = self.often(None, ["t1", "t2", 1], 0.9)
+        body = {name: value for name, value in body.items() if value is not None or self.random.random() < 0.5}
+        return self.often(desk_opinion.compact(body), ["", "{", "[]", '{"files":[]}'], 0.97)
+
+    def proposal(self):
+        which = f"s{self.random.randint(1, 3)}-{self.random.randint(1, 4)}"
+        body = {"submission_id": self.often(which, ["s1", "s1-01", 3], 0.95), "judgement_type_id": self.often("AC", ["WA", "CE", "TLE", None], 0.5)}
+        return self.often(desk_opinion.compact(body), ["", "7"], 0.97)
+
+    def request(self):
+        """A method, a path and a body."""
+        if self.random.random() < 0.5:
+            return "POST", self.often("/contests/demo/submissions", ["/contests/cup/submissions"], 0.98), self.post()
+        if self.random.random() < 0.4:
+            return "POST", "/jury/proposals", self.proposal()
+        name = self.often("submissions", SETTINGS, 0.7)
+        ids = IDS.get(name, ["s1-1", "s1-2", "s2-1", "s3-1", "s1-01"])
+        path = f"/contests/demo/{name}" + self.often("", [f"/{self.one(ids)}", "/x", "/"], 0.6)
+        return self.often("GET", ["HEAD", "POST", "PATCH", "PUT"], 0.85), path, ""
+
+
+def item(chance, contest, now):
+    """An item of a walk at a moment: its lines, its answer, and the contest after it."""
+    head = f"at {desk_opinion.moment(now).replace('+00:00', 'Z')}"
+    if chance.random.random() < (0.8 if now < START else 0.1):
+        kind = chance.one(SETTINGS + ["teams-csv", "accounts-csv", "accounts-csv"])
+        file = chance.file(kind)
+        answer, after = desk_opinion.imported(contest, now, kind, file.encode())
+        return f"{head} import\n{kind} {file[:-1].replace(chr(10), ' | ')}\n", answer, after
+    who = chance.often(f"token-{chance.one(ACCOUNTS)}", ["public", "bad token", "token-none"], 0.85)
+    method, path, body = chance.request()
+    key = chance.one(KEYS) if method == "POST" and path.endswith("submissions") else None
+    answer, after = desk_opinion.handled(contest, now, who, key, method, path, body)
+    return f"{head} {who}{f' key {key}' if key else ''}\n{method} {path} {body}\n", answer, after
+
+
+def walk(number, seed, steps):
+    """A walk with the answers that it must get, and how often each kind of answer came."""
+    chance, kinds = Chance(seed), collections.Counter()
+    contest = desk_opinion.new_contest("demo", START, DURATION)
+    text, now = f"\n== Walk {number}\nnothing is set up\n", START - 4_000_000
+    for step in range(steps):
+        lines, answers = "", ""
+        for _ in range(chance.random.randint(1, 3)):
+            now = max(START - 4_000_000, now + chance.random.randint(-100_000, 30_000_000 // steps))
+            asked, answer, contest = item(chance, contest, now)
+            lines, answers = lines + asked, answers + answer + "\n"
+            kinds[re.sub(r"E22 ImportRow \d+|added [1-9]\d*|\{.*|\[.*", lambda found: found[0].rstrip("0123456789")[:12], answer)[:40]] += 1
+        text += f"\n-- {step + 1}\n{lines}{answers}"
+    return text, kinds
+
+
+def main():
+    parser = argparse.ArgumentParser(description=__doc__, formatter_class=argparse.RawDescriptionHelpFormatter)
+    parser.add_argument("--program", default=str(ROOT / "crates/desk_walks/out/desk_walks"))
+    parser.add_argument("--walks", type=int, default=20, metavar="N")
+    parser.add_argument("--steps", type=int, default=200, metavar="N")
+    parser.add_argument("--seed", type=int, default=18, metavar="N")
+    options = parser.parse_args()
+    if not pathlib.Path(options.program).is_file():
+        parser.error(f"there is no program {options.program}: build it, or name one by --program")
+    text, kinds = "Walks made from a seed.\n", collections.Counter()
+    for number in range(options.walks):
+        made, counted = walk(number, f"{options.seed}/{number}", options.steps)
+        text, kinds = text + made, kinds + counted
+    done = subprocess.run([options.program], input=text.encode(), capture_output=True, timeout=600)
+    print(done.stderr.decode(), end="")
+    met = re.findall(r"(?m)^Walk \d+: (\d+) of (\d+), faults of the store: 0$", done.stdout.decode())
+    passed = sum(int(one) for one, _ in met)
+    failed = options.walks * options.steps - passed
+    if failed or done.returncode:
+        print(done.stdout.decode()[:6000])
+        failed = max(failed, 1)
+    print(f"{sum(kinds.values())} answers of {len(kinds)} kinds", flush=True)
+    print(f"{passed} passed, {failed} failed")
+    return 1 if failed else 0
+
+
+if __name__ == "__main__":
+    sys.exit(main())
