@@ -6,3 +6,5 @@ mod WordLemmas
 mod InputLemmas
 mod OpeningLemmas
 mod ImportLemmas
+mod HostLemmas
+mod CommandLemmas
