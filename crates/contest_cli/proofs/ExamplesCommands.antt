@@ -2,7 +2,8 @@
 use Rattle.std.proofs.Common.{◌≡◌, List, [], ◌∷◌, refl}
 use Rattle.std.specs.Prelude.{codes}
 use Rattle.contest_cli.specs.Commands.{first_word, invocation_of, unknown_command}
-use Rattle.contest_cli.specs.declared.commands.Invocation.TheVariants.{Nothing, Help, ToReplay, HelpOfReplay, Unknown}
+use Rattle.contest_cli.specs.declared.invocation.CommandName.TheVariants.{Replay, Init, Import}
+use Rattle.contest_cli.specs.declared.invocation.Invocation.TheVariants.{Nothing, Help, To, HelpOf, Unknown}
 
 no_words : invocation_of [] ≡ Nothing
 no_words = refl
@@ -14,16 +15,23 @@ help = refl
 short_help : invocation_of (codes "-h" ∷ codes "replay" ∷ []) ≡ Help
 short_help = refl
 
-replay : invocation_of (codes "replay" ∷ codes "--at" ∷ codes "1:30:00" ∷ []) ≡ ToReplay
+replay : invocation_of (codes "replay" ∷ codes "--at" ∷ codes "1:30:00" ∷ []) ≡ To Replay
 replay = refl
 
+init : invocation_of (codes "init" ∷ codes "cup.db" ∷ codes "cup.json" ∷ []) ≡ To Init
+init = refl
+
+-- of the words after a command's name only a call for help is looked at here
+import_of_nothing : invocation_of (codes "import" ∷ []) ≡ To Import
+import_of_nothing = refl
+
 -- an option for help is heard wherever it stands
-help_of_replay : invocation_of (codes "replay" ∷ codes "--jury" ∷ codes "--help" ∷ []) ≡ HelpOfReplay
+help_of_replay : invocation_of (codes "replay" ∷ codes "--jury" ∷ codes "--help" ∷ []) ≡ HelpOf Replay
 help_of_replay = refl
 
 -- a word is taken as it is
 other_case : invocation_of (codes "Replay" ∷ []) ≡ Unknown
 other_case = refl
 
-told : unknown_command (first_word (codes "serve" ∷ codes "x" ∷ [])) ≡ codes "error: unknown command 'serve'; the commands are replay and help\n"
+told : unknown_command (first_word (codes "serve" ∷ codes "x" ∷ [])) ≡ codes "error: unknown command 'serve'; the commands are replay, init, import and help\n"
 told = refl

@@ -6,3 +6,5 @@ mod InputLemmas
 mod InitLemmas
 mod OpeningLemmas
 mod ImportLemmas
+mod HostLemmas
+mod CommandLemmas

@@ -1,5 +1,5 @@
 -- Which command the words name, and what is told where they name none or ask for help.
-use Rattle.std.specs.Prelude.{◌≡◌, ◌≤◌, ◌⊎◌, ℕ, List, [], ◌∷◌, ◌++◌, Bool, codes, ◌||◌, if◌then◌else◌}
+use Rattle.std.specs.Prelude.{◌≡◌, ◌≤◌, ◌⊎◌, ℕ, List, [], ◌∷◌, ◌++◌, Bool, Option, Some, None, codes, ◌||◌, if◌then◌else◌}
 use Rattle.std.specs.Io.KnownBytes.{Appends, Keeps}
 use Rattle.std.specs.List.{list_any}
 use Rattle.std.specs.Str.{bytes_eq}
@@ -7,32 +7,45 @@ use Rattle.clap.specs.Walk.{Text}
 use Rattle.contest_types.specs.Streams.{Stream, Fails, Tells, AppendsFront}
 use Rattle.contest_types.specs.declared.refusal.Refusal.TheVariants.{Memory}
 use Rattle.contest_cli.specs.RefusalLine.{refusal_line}
-use Rattle.contest_cli.specs.declared.commands.Invocation.{Invocation}
-use Rattle.contest_cli.specs.declared.commands.Invocation.TheVariants.{Nothing, Help, ToReplay, HelpOfReplay, Unknown}
+use Rattle.contest_cli.specs.declared.invocation.CommandName.{CommandName}
+use Rattle.contest_cli.specs.declared.invocation.CommandName.TheVariants.{Replay, Init, Import}
+use Rattle.contest_cli.specs.declared.invocation.Invocation.{Invocation}
+use Rattle.contest_cli.specs.declared.invocation.Invocation.TheVariants.{Nothing, Help, To, HelpOf, Unknown}
 
 abbrev pub is_help : Text → Bool
 is_help word = bytes_eq word (codes "--help") || bytes_eq word (codes "-h")
 
--- what `replay` is asked for by its options
-abbrev pub replay_invocation : List Text → Invocation
-replay_invocation options = if list_any is_help options then HelpOfReplay else ToReplay
+-- the command that a word names
+abbrev pub command_named : Text → Option CommandName
+command_named word =
+    if bytes_eq word (codes "replay") then Some Replay
+    else (if bytes_eq word (codes "init") then Some Init
+    else (if bytes_eq word (codes "import") then Some Import else None))
+
+-- what a command is asked for by its options
+abbrev pub asked_of : CommandName → List Text → Invocation
+asked_of command options = if list_any is_help options then HelpOf command else To command
+
+abbrev pub asked_of_named : Option CommandName → List Text → Invocation
+asked_of_named None options = Unknown
+asked_of_named (Some command) options = asked_of command options
 
 -- what the words ask for, by the first of them
 abbrev pub invocation_of : List Text → Invocation
 invocation_of [] = Nothing
-invocation_of (name ∷ options) = if bytes_eq name (codes "help") || is_help name then Help else (if bytes_eq name (codes "replay") then replay_invocation options else Unknown)
+invocation_of (name ∷ options) = if bytes_eq name (codes "help") || is_help name then Help else asked_of_named (command_named name) options
 
 -- the words name no command
 abbrev pub NamesNone : List Text → Type 0
 NamesNone words = (invocation_of words ≡ Nothing) ⊎ (invocation_of words ≡ Unknown)
 
--- the words ask for help: the program's, or that of `replay`
+-- the words ask for help: the program's, or that of a command
 abbrev pub AsksHelp : List Text → Type 0
-AsksHelp words = (invocation_of words ≡ Help) ⊎ (invocation_of words ≡ HelpOfReplay)
+AsksHelp words = (invocation_of words ≡ Help) ⊎ ((command : CommandName) × (invocation_of words ≡ HelpOf command))
 
 -- what is said of a command that there isn't
 abbrev pub unknown_command : Text → List ℕ
-unknown_command name = codes "error: unknown command '" ++ name ++ codes "'; the commands are replay and help\n"
+unknown_command name = codes "error: unknown command '" ++ name ++ codes "'; the commands are replay, init, import and help\n"
 
 -- words that are refused: this is told (2), or memory for it was refused (1)
 abbrev pub TellsWords : List ℕ → Stream → Stream → (status : ℕ) → Type 0

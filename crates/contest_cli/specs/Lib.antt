@@ -9,3 +9,5 @@ pub mod Commands
 pub mod Inputs
 pub mod Init
 pub mod Import
+pub mod FileCommands
+pub mod Runs

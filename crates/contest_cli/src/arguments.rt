@@ -21,7 +21,8 @@ pub(crate) fn headed<'a>(
 ) -> Result<Command<'a>, AllocError>
     ensures { IfOk result (λ c. app_of c ≡ new_app name.entry.now) }
 {
-    Command::new(alloc, name).about(about).bin_name(called)
+    let command = Command::new(alloc, name).about(about).bin_name(called)?;
+    Ok(command)
 }
 
 /// A word that has to be there.

@@ -14,7 +14,7 @@ use std::io::Write;
 
 /// Why a command gives no output.
 #[derive(Drop)]
-pub(crate) enum CommandError {
+pub enum CommandError {
     /// The words are refused, with this text.
     Usage(String),
     /// What the command reads is refused, or memory is.

@@ -1,54 +1,29 @@
-//! The program's commands: which one the words name, and the help that tells of them.
+//! The program's commands, run by the words of its command line.
 ghost use Rattle.std.specs.Prelude.{◌≡◌, ◌≤◌, codes, map, string_bytes, IfErr, IfOk};
-ghost use Rattle.std.specs.List.{list_any};
+ghost use Rattle.sqlite.specs.Files.{over_files};
 ghost use Rattle.contest_types.specs.Streams.{Tells, stream};
-ghost use Rattle.contest_cli.specs.Commands.{AsksHelp, NamesNone, ShowsSome, TellsNone, TellsUnknown, TellsWords, first_word, invocation_of, is_help, replay_invocation, unknown_command};
-ghost use Rattle.contest_cli.specs.Replay.{Replays};
+ghost use Rattle.contest_cli.specs.Commands.{AsksHelp, NamesNone, ShowsSome, TellsNone, TellsUnknown, TellsWords, first_word, invocation_of, unknown_command};
+ghost use Rattle.contest_cli.specs.Runs.{Runs};
+ghost use Rattle.contest_cli.specs.declared.invocation.CommandName.{CommandName};
 
 use crate::command_error::CommandError;
+use crate::file_commands::{import_by_words, init_by_words};
+use crate::help::{HELP, show_help};
+use crate::host::Host;
+use crate::invocation::{CommandName, Invocation, invocation_of};
+use crate::machine::Machine;
 use crate::replay_command::replay;
-use crate::replay_words::replay_app;
 use crate::show::show;
 use contest_types::Refusal;
 use contest_types::streams::{Counted, write_all};
+use sqlite::{Start, Unknown};
 use std::alloc::{AllocError, Global};
 use std::env::Args;
 use std::io::{self, ErrorKind, Read, Write};
 
-/// What `desk help` shows.
-const HELP: &str = "\
-Jury and scoreboard desk of a programming contest
-
-Usage: desk <COMMAND>
-
-Commands:
-  replay  Reads a contest as CSV on standard input and prints its board
-  help    Prints this text
-
-Example: desk replay --at 1:30:00 < contest.csv
-
-'desk <COMMAND> --help' tells more of a command. docs/FORMATS.md says how to
-write a contest as CSV.
-";
-
-/// What the words ask for.
-#[derive(Clone, Copy)]
-pub enum Invocation {
-    /// Nothing: there are no words.
-    Nothing,
-    /// The program's help.
-    Help,
-    /// `replay`.
-    ToReplay,
-    /// The help of `replay`.
-    HelpOfReplay,
-    /// A command that there isn't.
-    Unknown,
-}
-
 /// Runs the program by its arguments, of which the first is its own name. Answers the exit status.
 pub fn start<R: Read + Drop, O: Write + Drop, E: Write + Drop>(
-    alloc: Global,
+    rt: &HostRuntime,
     args: io::Result<Args>,
     reader: R,
     out: O,
@@ -61,32 +36,53 @@ pub fn start<R: Read + Drop, O: Write + Drop, E: Write + Drop>(
     let mut out = Counted::new(out);
     let mut err = Counted::new(err);
     match args {
-        Ok(args) => match args.skip(1).collect::<Vec<String>>(alloc) {
-            Ok(words) => run_owned(alloc, &words, &mut reader, &mut out, &mut err),
+        Ok(args) => match args.skip(1).collect::<Vec<String>>(rt.alloc()) {
+            Ok(words) => run_on_host(rt, Unknown, &words, &mut reader, &mut out, &mut err),
             Err(AllocError) => CommandError::Refused(Refusal::Memory).refuse(&mut err),
         },
         Err(error) => refuse_arguments(&error, &mut err),
     }
 }
 
-// The same, of words that are owned.
-fn run_owned<R: Read, O: Write, E: Write>(
-    alloc: Global,
+// The same, where `disk` stands for what the files hold that keep a contest.
+fn run_on_host<D: Start, R: Read, O: Write, E: Write>(
+    rt: &HostRuntime,
+    disk: D,
     words: &[String],
     reader: &mut Counted<R>,
     out: &mut Counted<O>,
     err: &mut Counted<E>,
 ) -> u8
     ensures statuses { result ≤ 2 }
-    ensures replay { invocation_of (map string_bytes words.now) ≡ Invocation.ToReplay
-        → Replays (map string_bytes words.now)
+    ensures command { (command : CommandName) → invocation_of (map string_bytes words.now) ≡ Invocation.To command
+        → Runs over_files ⟦<Host<'static, D> as Machine>⟧.found command (map string_bytes words.now)
+        (stream R.remaining reader.old) (stream R.remaining reader.new)
+        (stream O.contents out.old) (stream O.contents out.new)
+        (stream E.contents err.old) (stream E.contents err.new) result }
+    ensures unknown { NamesNone (map string_bytes words.now) → 1 ≤ result }
+{
+    run_owned(rt.alloc(), Host { rt, disk }, words, reader, out, err)
+}
+
+// The same on any machine.
+fn run_owned<M: Machine, R: Read, O: Write, E: Write>(
+    alloc: Global,
+    machine: M,
+    words: &[String],
+    reader: &mut Counted<R>,
+    out: &mut Counted<O>,
+    err: &mut Counted<E>,
+) -> u8
+    ensures statuses { result ≤ 2 }
+    ensures command { (command : CommandName) → invocation_of (map string_bytes words.now) ≡ Invocation.To command
+        → Runs M.Disk.Store M.found command (map string_bytes words.now)
         (stream R.remaining reader.old) (stream R.remaining reader.new)
         (stream O.contents out.old) (stream O.contents out.new)
         (stream E.contents err.old) (stream E.contents err.new) result }
     ensures unknown { NamesNone (map string_bytes words.now) → 1 ≤ result }
 {
     match borrowed(alloc, words) {
-        Ok(words) => run(alloc, &words, reader, out, err),
+        Ok(words) => run(alloc, machine, &words, reader, out, err),
         Err(AllocError) => CommandError::Refused(Refusal::Memory).refuse(err),
     }
 }
@@ -124,16 +120,17 @@ fn tell<E: Write>(text: &[u8], err: &mut Counted<E>)
 /// Runs the command that the words name; the program's own name isn't among them. Answers the exit
 /// status: 0 where it did what was asked, 1 where that was refused or a stream failed, 2 where the
 /// words have a fault or name no command. Help that is asked for goes to `out`.
-pub fn run<R: Read, O: Write, E: Write>(
+pub fn run<M: Machine, R: Read, O: Write, E: Write>(
     alloc: Global,
+    machine: M,
     words: &[&str],
     reader: &mut Counted<R>,
     out: &mut Counted<O>,
     err: &mut Counted<E>,
 ) -> u8
     ensures statuses { result ≤ 2 }
-    ensures replay { invocation_of (map (λ s. s.now) words.now) ≡ Invocation.ToReplay
-        → Replays (map (λ s. s.now) words.now)
+    ensures command { (command : CommandName) → invocation_of (map (λ s. s.now) words.now) ≡ Invocation.To command
+        → Runs M.Disk.Store M.found command (map (λ s. s.now) words.now)
         (stream R.remaining reader.old) (stream R.remaining reader.new)
         (stream O.contents out.old) (stream O.contents out.new)
         (stream E.contents err.old) (stream E.contents err.new) result }
@@ -154,27 +151,33 @@ pub fn run<R: Read, O: Write, E: Write>(
             2
         }
         Invocation::Help => show(HELP, out, err),
-        Invocation::ToReplay => replay(alloc, words, reader, out, err),
-        Invocation::HelpOfReplay => show_replay_help(alloc, out, err),
+        Invocation::To(command) => run_command(alloc, machine, command, words, reader, out, err),
+        Invocation::HelpOf(command) => show_help(alloc, command, out, err),
         Invocation::Unknown => refuse_command(alloc, first_of(words), err),
     }
 }
 
-// What the words ask for, by the first of them.
-fn invocation_of(words: &[&str]) -> Invocation
-    ensures { result ≡ invocation_of (map (λ s. s.now) words.now) }
+// Runs a command by its words.
+fn run_command<M: Machine, R: Read, O: Write, E: Write>(
+    alloc: Global,
+    machine: M,
+    command: CommandName,
+    words: &[&str],
+    reader: &mut Counted<R>,
+    out: &mut Counted<O>,
+    err: &mut Counted<E>,
+) -> u8
+    ensures statuses { result ≤ 2 }
+    ensures runs { Runs M.Disk.Store M.found command (map (λ s. s.now) words.now)
+        (stream R.remaining reader.old) (stream R.remaining reader.new)
+        (stream O.contents out.old) (stream O.contents out.new)
+        (stream E.contents err.old) (stream E.contents err.new) result }
 {
-    if words.is_empty() {
-        return Invocation::Nothing;
+    match command {
+        CommandName::Replay => replay(alloc, words, reader, out, err),
+        CommandName::Init => init_by_words(alloc, machine, words, err),
+        CommandName::Import => import_by_words(alloc, machine, words, out, err),
     }
-    let name = words[0];
-    if name == "help" || is_help(name) {
-        return Invocation::Help;
-    }
-    if name == "replay" {
-        return replay_invocation(&words[1..]);
-    }
-    Invocation::Unknown
 }
 
 // The first word, empty where there is none.
@@ -187,57 +190,10 @@ fn first_of<'a>(words: &[&'a str]) -> &'a str
     }
 }
 
-// What `replay` is asked for by its options.
-fn replay_invocation(options: &[&str]) -> Invocation
-    ensures { result ≡ replay_invocation (map (λ s. s.now) options.now) }
-{
-    if asks_help(options) {
-        Invocation::HelpOfReplay
-    } else {
-        Invocation::ToReplay
-    }
-}
-
-// Whether a command's options ask for its help.
-fn asks_help(options: &[&str]) -> bool
-    ensures { result ≡ list_any (λ s. is_help s.now) options.now }
-{
-    options.iter().any(|option| is_help(option))
-}
-
-// Whether an option asks for its command's help.
-fn is_help(option: &str) -> bool
-    ensures { result ≡ is_help option.now }
-{
-    option == "--help" || option == "-h"
-}
-
-// Writes the help of `replay`.
-fn show_replay_help<O: Write, E: Write>(
-    alloc: Global,
-    out: &mut Counted<O>,
-    err: &mut Counted<E>,
-) -> u8
-    ensures { ShowsSome
-        (stream O.contents out.old) (stream O.contents out.new)
-        (stream E.contents err.old) (stream E.contents err.new) result }
-{
-    match replay_help(alloc) {
-        Ok(text) => show(text.as_str(), out, err),
-        Err(AllocError) => CommandError::Refused(Refusal::Memory).refuse(err),
-    }
-}
-
-// The help of `replay`.
-fn replay_help(alloc: Global) -> Result<String, AllocError> {
-    let mut command = replay_app(alloc)?;
-    command.render_help()
-}
-
 fn unknown_command(alloc: Global, name: &str) -> Result<String, AllocError>
     ensures { IfOk result (λ text. string_bytes text ≡ unknown_command name.now) }
 {
-    format!(in alloc; "error: unknown command '{name}'; the commands are replay and help\n")
+    format!(in alloc; "error: unknown command '{name}'; the commands are replay, init, import and help\n")
 }
 
 // What is said of a command that there isn't.

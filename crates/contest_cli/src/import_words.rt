@@ -87,8 +87,8 @@ fn no_kind(alloc: Global, name: &str) -> CommandError
     ensures { IsWordsOrMemory result }
 {
     match format!(in alloc;
-        "error: '{name}' of 'KIND' is no kind: judgement-types, languages, problems, groups, teams, \
-         teams-csv or accounts-csv\n"
+        "error: '{name}' of '<KIND>' is no kind of file: judgement-types, languages, problems, groups, \
+         teams, teams-csv or accounts-csv\n"
     ) {
         Ok(message) => CommandError::Usage(message),
         Err(AllocError) => CommandError::from(AllocError),

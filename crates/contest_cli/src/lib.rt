@@ -1,14 +1,19 @@
-//! The commands of the program `desk`, over any reader and writers.
+//! The commands of the program `desk`, on any machine, over any reader and writers.
 #![tactic(auto)]
 
 mod added_line;
 mod arguments;
 mod command_error;
 mod commands;
+mod file_commands;
+mod help;
+mod host;
 mod import_command;
 mod import_words;
 mod init_command;
 mod init_words;
+mod invocation;
+mod machine;
 mod opening;
 mod refusal_line;
 mod replay_command;

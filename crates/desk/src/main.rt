@@ -6,6 +6,6 @@ use std::process::ExitCode;
 
 fn main(rt: HostRuntime) -> ExitCode {
     let args = env::args(&rt);
-    let status = contest_cli::start(rt.alloc(), args, rt.stdin(), rt.stdout(), rt.stderr());
+    let status = contest_cli::start(&rt, args, rt.stdin(), rt.stdout(), rt.stderr());
     ExitCode::from(status)
 }

@@ -1,0 +1,24 @@
+-- How a command ends that isn't begun.
+use Rattle.std.proofs.Common.{◌≡◌, inl, inr, refl, ℕ, List}
+use Rattle.clap.specs.Walk.{Text}
+use Rattle.sqlite_trees.specs.declared.store.Store.{Ghosts}
+use Rattle.sqlite.specs.Held.{Held}
+use Rattle.contest_types.specs.Streams.{Stream, Tells}
+use Rattle.contest_types.specs.declared.refusal.Refusal.TheVariants.{Memory}
+use Rattle.contest_cli.specs.Replay.{exit_status_of, line_of}
+use Rattle.contest_cli.specs.Runs.{Runs}
+use Rattle.contest_cli.specs.declared.command_error.CommandError.TheVariants.{Refused}
+use Rattle.contest_cli.specs.declared.invocation.CommandName.{CommandName}
+use Rattle.contest_cli.specs.declared.invocation.CommandName.TheVariants.{Replay, Init, Import}
+use Rattle.contest_cli.proofs.ReplayLemmas.{keeps_same, stopped}
+
+-- memory for its words was refused
+pub out_of_memory : {S : Type 0} (g : Ghosts S) (Found : Held S → Type 0) (command : CommandName) (words : List Text) (in_old in_new out err_old err_new : Stream) (status : ℕ)
+    → status ≡ exit_status_of (Refused Memory) → Tells err_old err_new (line_of (Refused Memory))
+    → Runs g Found command words in_old in_new out out err_old err_new status
+out_of_memory g Found Replay words in_old in_new out err_old err_new status is told =
+    stopped words in_old in_new out err_old err_new (Refused Memory) status (inl refl) is told
+out_of_memory g Found Init words in_old in_new out err_old err_new status is told =
+    (inl (Refused Memory, inr (inl refl), is, told), keeps_same out.bytes)
+out_of_memory g Found Import words in_old in_new out err_old err_new status is told =
+    inl ((Refused Memory, inr (inl refl), is, told), keeps_same out.bytes)

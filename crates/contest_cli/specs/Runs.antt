@@ -1,0 +1,21 @@
+-- How each command ends, by its words.
+use Rattle.std.specs.Prelude.{ℕ, List}
+use Rattle.std.specs.Io.KnownBytes.{Keeps}
+use Rattle.clap.specs.Walk.{Text}
+use Rattle.sqlite_trees.specs.declared.store.Store.{Ghosts}
+use Rattle.sqlite.specs.Held.{Held}
+use Rattle.contest_types.specs.Streams.{Stream}
+use Rattle.contest_cli.specs.FileCommands.{ImportsByWords, InitsByWords}
+use Rattle.contest_cli.specs.Replay.{Replays}
+use Rattle.contest_cli.specs.declared.invocation.CommandName.{CommandName}
+use Rattle.contest_cli.specs.declared.invocation.CommandName.TheVariants.{Replay, Init, Import}
+
+-- on a machine whose stores are of some type S, of which this is known of one that was opened
+abbrev pub Runs : {S : Type 0} → Ghosts S → (Held S → Type 0) → CommandName → List Text
+    → (in_old in_new out_old out_new err_old err_new : Stream) → (status : ℕ) → Type 0
+Runs g Found Replay words in_old in_new out_old out_new err_old err_new status =
+    Replays words in_old in_new out_old out_new err_old err_new status
+Runs g Found Init words in_old in_new out_old out_new err_old err_new status =
+    InitsByWords g Found words err_old err_new status × Keeps out_old.bytes out_new.bytes
+Runs g Found Import words in_old in_new out_old out_new err_old err_new status =
+    ImportsByWords g Found words out_old out_new err_old err_new status

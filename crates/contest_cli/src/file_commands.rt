@@ -1,0 +1,107 @@
+//! The commands that keep a contest in a file: their words, what these name on the machine, then the
+//! command. Faults are found in this order: the words, the clock, the file that keeps the contest, the
+//! file that is read.
+ghost use Rattle.std.specs.Prelude.{◌≡◌, ◌≤◌, IfOk, IfErr, map};
+ghost use Rattle.sqlite.specs.Held.{state};
+ghost use Rattle.contest_types.specs.Streams.{stream};
+ghost use Rattle.contest_sqlite.specs.Opening.{IsNumbered};
+ghost use Rattle.contest_cli.specs.FileCommands.{ImportsByWords, InitsByWords, NamesFiles, NamesKind, StopsImportEarly, StopsInitEarly};
+
+use crate::command_error::CommandError;
+use crate::import_command::run_import;
+use crate::import_words::read_import_words;
+use crate::init_command::run_init;
+use crate::init_words::read_init_words;
+use crate::machine::{Machine, Opened};
+use contest_import::ImportKind;
+use contest_types::Moment;
+use contest_types::streams::Counted;
+use std::alloc::Global;
+use std::io::Write;
+
+/// Runs `init` by its words, of which the first is the command's own. Answers the exit status: 0 where the
+/// contest stands, 2 where the words have a fault, 1 where something else was refused. Where it isn't 0,
+/// `err` is told why.
+pub(crate) fn init_by_words<M: Machine, E: Write>(
+    alloc: Global,
+    machine: M,
+    words: &[&str],
+    err: &mut Counted<E>,
+) -> u8
+    ensures { InitsByWords M.Disk.Store M.found (map (λ s. s.now) words.now) (stream E.contents err.old) (stream E.contents err.new) result }
+{
+    match open_init(alloc, machine, words) {
+        Ok(opened) => {
+            let Opened { conn, mut reader } = opened;
+            run_init(alloc, conn, &mut reader, err).0
+        }
+        Err(stop) => stop.refuse(err),
+    }
+}
+
+// What the words of `init` name, opened; or the first fault.
+fn open_init<M: Machine>(
+    alloc: Global,
+    machine: M,
+    words: &[&str],
+) -> Result<Opened<M::Disk, M::File>, CommandError>
+    ensures named { IfOk result (λ _. NamesFiles (map (λ s. s.now) words.now)) }
+    ensures found { IfOk result (λ opened. M.found opened.conn) }
+    ensures numbered { IfOk result (λ opened. IsNumbered (state M.Disk.Store opened.conn)) }
+    ensures err { IfErr result (StopsInitEarly (map (λ s. s.now) words.now)) }
+{
+    let named = read_init_words(alloc, words)?;
+    machine.open(named.file, named.contest)
+}
+
+/// What `import` works on.
+#[derive(Drop)]
+struct ToImport<M: Machine> {
+    now: Moment,
+    kind: ImportKind,
+    files: Opened<M::Disk, M::File>,
+}
+
+/// Runs `import` by its words, of which the first is the command's own, at the moment that the clock shows.
+/// Answers the exit status: 0 where all rows are kept and `out` is told how many they are, 2 where the words
+/// have a fault, 1 where something else was refused or `out` failed. Where it isn't 0, `err` is told why.
+pub(crate) fn import_by_words<M: Machine, O: Write, E: Write>(
+    alloc: Global,
+    machine: M,
+    words: &[&str],
+    out: &mut Counted<O>,
+    err: &mut Counted<E>,
+) -> u8
+    ensures { ImportsByWords M.Disk.Store M.found (map (λ s. s.now) words.now)
+        (stream O.contents out.old) (stream O.contents out.new)
+        (stream E.contents err.old) (stream E.contents err.new) result }
+{
+    match open_import(alloc, machine, words) {
+        Ok(it) => {
+            let Opened { conn, mut reader } = it.files;
+            run_import(alloc, conn, it.now, it.kind, &mut reader, out, err).0
+        }
+        Err(stop) => stop.refuse(err),
+    }
+}
+
+// The moment, and what the words of `import` name, opened; or the first fault.
+fn open_import<M: Machine>(
+    alloc: Global,
+    machine: M,
+    words: &[&str],
+) -> Result<ToImport<M>, CommandError>
+    ensures named { IfOk result (λ it. NamesKind (map (λ s. s.now) words.now) it.kind) }
+    ensures found { IfOk result (λ it. M.found it.files.conn) }
+    ensures numbered { IfOk result (λ it. IsNumbered (state M.Disk.Store it.files.conn)) }
+    ensures err { IfErr result (StopsImportEarly (map (λ s. s.now) words.now)) }
+{
+    let named = read_import_words(alloc, words)?;
+    let now = machine.now()?;
+    let files = machine.open(named.file, named.path)?;
+    Ok(ToImport {
+        now,
+        kind: named.kind,
+        files,
+    })
+}

@@ -1,0 +1,62 @@
+//! The help of the program and of its commands.
+ghost use Rattle.contest_types.specs.Streams.{stream};
+ghost use Rattle.contest_cli.specs.Commands.{ShowsSome};
+
+use crate::command_error::CommandError;
+use crate::import_words::import_app;
+use crate::init_words::init_app;
+use crate::invocation::CommandName;
+use crate::replay_words::replay_app;
+use crate::show::show;
+use contest_types::Refusal;
+use contest_types::streams::Counted;
+use std::alloc::{AllocError, Global};
+use std::io::Write;
+
+/// What `desk help` shows.
+pub(crate) const HELP: &str = "\
+Jury and scoreboard desk of a programming contest
+
+Usage: desk <COMMAND>
+
+Commands:
+  replay  Reads a contest as CSV on standard input and prints its board
+  init    Sets up a contest in a file, from its contest object as JSON
+  import  Adds all rows of a file to a contest, or none, and prints how many
+  help    Prints this text
+
+Examples:
+  desk replay --at 1:30:00 < contest.csv
+  desk init cup.db contest.json
+  desk import cup.db problems problems.json
+
+'desk <COMMAND> --help' tells more of a command. docs/FORMATS.md says how to
+write a contest as CSV.
+";
+
+/// Writes the help of a command.
+pub(crate) fn show_help<O: Write, E: Write>(
+    alloc: Global,
+    command: CommandName,
+    out: &mut Counted<O>,
+    err: &mut Counted<E>,
+) -> u8
+    ensures { ShowsSome
+        (stream O.contents out.old) (stream O.contents out.new)
+        (stream E.contents err.old) (stream E.contents err.new) result }
+{
+    match help_of(alloc, command) {
+        Ok(text) => show(text.as_str(), out, err),
+        Err(AllocError) => CommandError::Refused(Refusal::Memory).refuse(err),
+    }
+}
+
+// The help of a command, which is clap's.
+fn help_of(alloc: Global, command: CommandName) -> Result<String, AllocError> {
+    let mut app = match command {
+        CommandName::Replay => replay_app(alloc)?,
+        CommandName::Init => init_app(alloc)?,
+        CommandName::Import => import_app(alloc)?,
+    };
+    app.render_help()
+}

@@ -1,0 +1,84 @@
+//! What the words ask for, by the first of them.
+ghost use Rattle.std.specs.Prelude.{◌≡◌, map};
+ghost use Rattle.std.specs.List.{list_any};
+ghost use Rattle.contest_cli.specs.Commands.{asked_of, command_named, invocation_of, is_help};
+
+/// A command of the program.
+#[derive(Clone, Copy, PartialEq, Eq)]
+pub enum CommandName {
+    /// `replay`.
+    Replay,
+    /// `init`.
+    Init,
+    /// `import`.
+    Import,
+}
+
+/// What the words ask for.
+#[derive(Clone, Copy)]
+pub enum Invocation {
+    /// Nothing: there are no words.
+    Nothing,
+    /// The program's help.
+    Help,
+    /// A command.
+    To(CommandName),
+    /// The help of a command.
+    HelpOf(CommandName),
+    /// A command that there isn't.
+    Unknown,
+}
+
+/// What the words ask for, by the first of them.
+pub(crate) fn invocation_of(words: &[&str]) -> Invocation
+    ensures { result ≡ invocation_of (map (λ s. s.now) words.now) }
+{
+    if words.is_empty() {
+        return Invocation::Nothing;
+    }
+    let name = words[0];
+    if name == "help" || is_help(name) {
+        return Invocation::Help;
+    }
+    match command_named(name) {
+        Some(command) => asked_of(command, &words[1..]),
+        None => Invocation::Unknown,
+    }
+}
+
+// The command that a word names.
+fn command_named(word: &str) -> Option<CommandName>
+    ensures { result ≡ command_named word.now }
+{
+    match word {
+        "replay" => Some(CommandName::Replay),
+        "init" => Some(CommandName::Init),
+        "import" => Some(CommandName::Import),
+        _ => None,
+    }
+}
+
+// What a command is asked for by its options.
+fn asked_of(command: CommandName, options: &[&str]) -> Invocation
+    ensures { result ≡ asked_of command (map (λ s. s.now) options.now) }
+{
+    if asks_help(options) {
+        Invocation::HelpOf(command)
+    } else {
+        Invocation::To(command)
+    }
+}
+
+// Whether a command's options ask for its help.
+fn asks_help(options: &[&str]) -> bool
+    ensures { result ≡ list_any (λ s. is_help s.now) options.now }
+{
+    options.iter().any(|option| is_help(option))
+}
+
+// Whether an option asks for its command's help.
+fn is_help(option: &str) -> bool
+    ensures { result ≡ is_help option.now }
+{
+    option == "--help" || option == "-h"
+}

@@ -1,0 +1,46 @@
+//! What a command asks of the machine: the time, and two files.
+ghost use Rattle.std.specs.Prelude.{◌≡◌, IfOk, IfErr};
+ghost use Rattle.sqlite.specs.Held.{Held, state};
+ghost use Rattle.contest_sqlite.specs.Opening.{IsNumbered};
+ghost use Rattle.contest_cli.specs.FileCommands.{IsUnopened};
+
+use crate::command_error::CommandError;
+use contest_types::Moment;
+use contest_types::streams::Counted;
+use sqlite::{Alter, Connection};
+use std::io::Read;
+
+/// The two files of a command that keeps a contest.
+#[derive(Drop)]
+pub struct Opened<S: Alter + Drop, F: Read + Drop> {
+    /// The SQLite file that keeps the contest.
+    pub conn: Connection<S>,
+    /// The file that is read.
+    pub reader: Counted<F>,
+}
+
+/// The machine that a command runs on.
+pub trait Machine: Drop {
+    /// Where an SQLite file is.
+    type Disk: Alter + Drop;
+    /// A file that is read.
+    type File: Read + Drop;
+
+    /// What is known of an SQLite file that was opened.
+    ghost found: { Held Self.Disk → Type 0 };
+
+    /// The moment that the clock shows. The error is `Clock`.
+    fn now(&self) -> Result<Moment, CommandError>
+        ensures { IfErr result (λ stop. stop ≡ CommandError.Clock) };
+
+    /// The SQLite file at `file`, which is made where there is none, and then the file at `path`, to be
+    /// read.
+    ///
+    /// # Errors
+    ///
+    /// `StoreFault` where the first can't be opened, `File` where the second can't, or want of memory.
+    fn open(self, file: &str, path: &str) -> Result<Opened<Self::Disk, Self::File>, CommandError>
+        ensures found { IfOk result (λ opened. found opened.conn) }
+        ensures numbered { IfOk result (λ opened. IsNumbered (state Self.Disk.Store opened.conn)) }
+        ensures refused { IfErr result IsUnopened };
+}
