@@ -193,7 +193,9 @@ fn first_of<'a>(words: &[&'a str]) -> &'a str
 fn unknown_command(alloc: Global, name: &str) -> Result<String, AllocError>
     ensures { IfOk result (λ text. string_bytes text ≡ unknown_command name.now) }
 {
-    format!(in alloc; "error: unknown command '{name}'; the commands are replay, init, import and help\n")
+    format!(in alloc;
+        "error: unknown command '{name}'; the commands are replay, init, import and help\n"
+    )
 }
 
 // What is said of a command that there isn't.

@@ -32,6 +32,7 @@ impl<D: Start> Machine for Host<'_, D> {
     ghost use Rattle.sqlite.specs.WalFiles.{image_at};
 
     type Disk = FileStore<FileFrom<D>>;
+
     type File = File;
 
     ghost found = { λ conn. HasCleanDisk (file_state conn) → AreFoundIn (image_at D.Start) (file_state conn).now.trees };
