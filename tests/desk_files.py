@@ -52,8 +52,8 @@ def cases():
 class Desk:
     """The program, the folder in which each case has one of its own, and what was counted."""
 
-    def __init__(self, program, probe, folder):
-        self.program, self.probe, self.folder = program, probe, pathlib.Path(folder)
+    def __init__(self, program, probe, folder, kills):
+        self.program, self.probe, self.folder, self.kills = program, probe, pathlib.Path(folder), kills
         self.made = self.passed = self.failed = 0
 
     def new_folder(self):
@@ -91,9 +91,18 @@ class Desk:
 
 def shown(folder):
     """What sqlite3 shows of each database in a folder; of one without tables, as of none, nothing."""
-    databases = [path for path in sorted(folder.glob("*.db")) if path.is_file()]
-    dumps = {path.name: store_files.dump(path) for path in databases}
+    databases = [path for path in sorted(folder.glob("**/*.db")) if path.is_file()]
+    dumps = {path.name: dump(path) for path in databases}
     return {name: text for name, text in dumps.items() if "CREATE" in text}
+
+
+def dump(path):
+    """All that sqlite3 shows of a file. It reads a copy elsewhere, since there may be no room beside it."""
+    with tempfile.TemporaryDirectory() as folder:
+        for name in (path.name, f"{path.name}-wal"):
+            if (path.parent / name).is_file():
+                shutil.copy(path.parent / name, folder)
+        return store_files.sqlite(pathlib.Path(folder, path.name), ".dump")
 
 
 def wanted_of(answer):
@@ -122,7 +131,8 @@ def try_commands(desk):
 def try_limits(desk):
     """Files of as many bytes as there may be, and of one more; a table that is full."""
     folder = desk.new_folder()
-    for size, init, added in ((LIMIT, DONE, (0, "added 0\n", "")), (LIMIT + 1, (1, "", "refused: E6 BodyTooLarge\n"),) * 2):
+    large = (1, "", "refused: E6 BodyTooLarge\n")
+    for size, init, added in ((LIMIT, DONE, (0, "added 0\n", "")), (LIMIT + 1, large, large)):
         (folder / "large.json").write_text(CONTEST.ljust(size), encoding="utf-8")
         (folder / "empty.json").write_text("[]".ljust(size), encoding="utf-8")
         desk.answers(f"a contest of {size} bytes", init, folder, "init", "cup.db", "large.json")
@@ -164,11 +174,11 @@ def try_paths(desk):
     for path in ("none.csv", ".", "cup.db/teams.csv", ""):
         desk.answers(f"{path!r} to import", FILE, folder, "import", "cup.db", "teams-csv", path)
         desk.answers(f"{path!r} as a contest", FILE, folder, "init", "new.db", path)
-    folder.chmod(0o755)
     (folder / "own.csv").write_text(TEAMS, encoding="utf-8")
     (folder / "own.csv").chmod(0o600)
-    for path in (folder.parent, folder, folder / "cup.db"):
-        path.chmod(0o777 if path != folder / "cup.db" else 0o666)
+    folder.chmod(0o777)
+    for path in folder.glob("cup.db*"):
+        path.chmod(0o666)
     desk.answers("another's file", FILE, folder, "import", "cup.db", "teams-csv", "own.csv", before=NOBODY)
     (folder / "cup.db").chmod(0o444)
     desk.answers("a file that is read alone", FAULT, folder, "import", "cup.db", "teams-csv", "teams.csv", before=NOBODY)
@@ -194,17 +204,15 @@ def try_full_disk(desk):
     disk = desk.new_folder() / "disk"
     disk.mkdir()
     folder = disk.parent
-    subprocess.run(["mount", "-t", "tmpfs", "-o", "size=256k", "none", disk], check=True)
+    subprocess.run(["mount", "-t", "tmpfs", "-o", "size=1m", "none", disk], check=True)
     try:
-        (disk / "filler").write_bytes(bytes(252 * 1024))
+        (disk / "filler").write_bytes(bytes(1020 * 1024))
         desk.answers("no room for a contest", FAULT, folder, "init", "disk/cup.db", "contest.json")
         (disk / "filler").unlink()
         desk.answers("room for a contest", DONE, folder, "init", "disk/cup.db", "contest.json")
         room = os.statvfs(disk).f_bavail * os.statvfs(disk).f_frsize
         (disk / "filler").write_bytes(bytes(max(0, room - 8192)))
-        was = shown(disk)
         desk.answers("no room for teams", FAULT, folder, "import", "disk/cup.db", "teams-csv", "teams.csv")
-        desk.note(shown(disk) == was, "a full disk: the file shows something else")
         (disk / "filler").unlink()
         desk.answers("room again", (0, "added 500\n", ""), folder, "import", "disk/cup.db", "teams-csv", "teams.csv")
     finally:
@@ -240,7 +248,7 @@ def try_rows(desk):
     for kind, name in DEMO:
         (folder / "file").write_text(DEMO[kind, name], encoding="utf-8")
         desk.run(folder, "import", "cup.db", kind, "file", before=early)
-    rows = "SELECT * FROM desk; SELECT * FROM contest; SELECT * FROM items; SELECT *, hex(token) FROM accounts"
+    rows = "SELECT * FROM desk; SELECT * FROM contest; SELECT * FROM items; SELECT *, hex(token) FROM accounts ORDER BY id"
     made, wanted = (store_files.sqlite(path, rows) for path in (folder / "cup.db", demo))
     desk.note(made == wanted, f"the demo contest's rows: {made}, wanted {wanted}")
     desk.opens("the demo contest", folder, "3 2 3 2 4 7 0 0 0 0 0")
@@ -298,22 +306,23 @@ def kill(desk, base, delay):
     return None if right else f"killed after {delay:.4f} s: {told!r}, then {opened!r}", opened == every
 
 
-def try_kills(desk, kills):
+def try_kills(desk):
     """Imports that are killed leave all their rows or none, and all where that was told."""
     base = desk.new_folder()
     desk.run(base, "init", "cup.db", "contest.json")
-    full, chance = desk.new_folder(), random.Random(18)
-    shutil.copy(base / "cup.db", full)
+    full, chance, kills = desk.new_folder(), random.Random(18), desk.kills
+    for file in base.glob("cup.db*"):
+        shutil.copy(file, full)
     start = time.monotonic()
     desk.run(full, "import", "cup.db", "teams-csv", "teams.csv")
-    whole = time.monotonic() - start
-    delays = [chance.uniform(0, 1.5 * whole) for _ in range(kills)]
+    longest = 4 * (time.monotonic() - start)
+    delays = [chance.uniform(0, longest) for _ in range(kills)]
     with concurrent.futures.ThreadPoolExecutor(os.cpu_count() or 1) as pool:
         ends = list(pool.map(lambda delay: kill(desk, base, delay), delays))
     for wrong, _ in ends:
         desk.note(wrong is None, wrong)
     stood = sum(all_stand for _, all_stand in ends)
-    print(f"kills within {1.5 * whole:.3f} s: {stood} of {kills} left all rows", flush=True)
+    print(f"kills within {longest:.3f} s: {stood} of {kills} left all rows", flush=True)
     desk.note(0 < stood < kills, "kills came all too early or all too late to say anything")
 
 
@@ -328,9 +337,9 @@ def main():
             parser.error(f"there is no program {program}: build it, or name one by --program or --probe")
     with tempfile.TemporaryDirectory() as folder:
         os.chmod(folder, 0o755)
-        desk = Desk(str(pathlib.Path(options.program).resolve()), str(pathlib.Path(options.probe).resolve()), folder)
-        parts = (try_commands, try_limits, try_bytes, try_paths, try_streams, try_full_disk, try_clock, try_rows, try_readme)
-        for part in (*parts, lambda desk: try_kills(desk, options.kills)):
+        programs = (str(pathlib.Path(program).resolve()) for program in (options.program, options.probe))
+        desk = Desk(*programs, folder, options.kills)
+        for part in (try_commands, try_limits, try_bytes, try_paths, try_streams, try_full_disk, try_clock, try_rows, try_readme, try_kills):
             before = desk.passed
             part(desk)
             print(f"{part.__name__[4:].replace('_', ' ')}: {desk.passed - before} held", flush=True)
