@@ -1,5 +1,5 @@
 -- What a file that is read, and a contest that is set up, say of `init`.
-use Rattle.std.proofs.Common.{◌≡◌, ◌<◌, ◌+◌, ◌⊎◌, inl, inr, ◌∙◌, refl, subst, sym, ℕ, List, Bool, true, false, Option, Some, None, IfSome, IsTrue, length, arith}
+use Rattle.std.proofs.Common.{◌≡◌, ◌+◌, ◌⊎◌, inl, inr, ◌∙◌, refl, subst, sym, ℕ, List, Bool, true, false, IsTrue, arith}
 use Rattle.sqlite.specs.State.{HasCleanDisk, State}
 use Rattle.sqlite.proofs.StateLemmas.{survives_weaker}
 use Rattle.contest_types.specs.State.{ContestState, new_contest}
@@ -22,7 +22,6 @@ use Rattle.contest_sqlite.specs.Contests.{committed_of, may_leave_of}
 use Rattle.contest_sqlite.specs.Creation.{Created, IsOfStore, StoodEqual, StoodOther}
 use Rattle.contest_sqlite.specs.Keeping.{kept_of}
 use Rattle.contest_cli.specs.Init.{Inits, LeavesContest, LeavesNew, ReadsContest, RefusesContest, RefusesFile, Sets, SetsFile, StopsContest, StopsFile, StopsInit}
-use Rattle.contest_cli.specs.Inputs.{KeepsAll, WasRead}
 use Rattle.contest_cli.specs.Replay.{exit_status_of, line_of, stop_of}
 use Rattle.contest_cli.specs.declared.command_error.CommandError.{CommandError}
 use Rattle.contest_cli.specs.declared.command_error.CommandError.TheVariants.{File, Refused}

@@ -1,4 +1,4 @@
-use Rattle.std.proofs.Common.{map, ◌∙◌}
+use Rattle.std.proofs.Common.{◌∙◌}
 use Rattle.clap.specs.Simple.{app_of}
 use Rattle.contest_cli.proofs.WordLemmas.{faults_are, refuses, rows_are, simple_alone, wanted_there}
 use Rattle.contest_cli.proofs.arguments.matches_in.Goals as goal
