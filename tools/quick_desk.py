@@ -1,5 +1,5 @@
 #!/usr/bin/env python3
-"""Runs `replay` or the help of `desk` unproved, in about a minute on a fresh clone.
+"""Runs `replay` or the help of `desk` unproved, in some three minutes on a fresh clone.
 
     tools/quick_desk.py replay [OPTION ..] < contest.csv
     tools/quick_desk.py --help
@@ -28,8 +28,8 @@ NO_ANSWER = 3
 # The interpreter can't run a program that reads its arguments, so one step of it is as good as its
 # twenty million. With all its checks the compiled program takes 45 seconds of a quiet machine for
 # 8 MB, and a file may have twice that; the rest is for a machine that is busy. Neither number changes
-# how long a small file takes: that is rt's, 42 processor seconds to read and lower the sources, and 15
-# of clang.
+# how long a small file takes: that is rt's, 160 processor seconds to read and lower the sources, those of
+# the commands over SQLite too, and to compile them.
 STEPS, SECONDS = "1", "600"
 
 # rt cuts what it gives a program at this size, and replay refuses files that are much smaller.
@@ -84,7 +84,7 @@ def hand_on(ran):
 def main(words):
     if not words or words[0] not in FIRST_WORDS:
         return refuse(words[0] if words else "")
-    say("--quick proves nothing: it compiles the program with checks and runs it, in about a minute")
+    say("--quick proves nothing: it compiles the program with checks and runs it, in some three minutes")
     try:
         with tempfile.TemporaryFile() as kept:
             keep_input(words, kept)
