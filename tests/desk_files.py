@@ -337,7 +337,10 @@ def main():
             parser.error(f"there is no program {program}: build it, or name one by --program or --probe")
     with tempfile.TemporaryDirectory() as folder:
         os.chmod(folder, 0o755)
-        programs = (str(pathlib.Path(program).resolve()) for program in (options.program, options.probe))
+        # Another user may not come to where the programs are.
+        programs = [shutil.copy(program, folder) for program in (options.program, options.probe)]
+        for program in programs:
+            os.chmod(program, 0o755)
         desk = Desk(*programs, folder, options.kills)
         for part in (try_commands, try_limits, try_bytes, try_paths, try_streams, try_full_disk, try_clock, try_rows, try_readme, try_kills):
             before = desk.passed
