@@ -5,5 +5,5 @@ mod input;
 mod output;
 
 pub use counted::Counted;
-pub use input::{InputFault, read_limited};
+pub use input::{InputFault, RETRIES, read_limited, read_piece};
 pub use output::{OutputFault, write_all};

@@ -10,8 +10,8 @@ use std::io::{ErrorKind, Read};
 /// How many bytes one read asks for.
 const PIECE: usize = 65_536;
 
-/// How often an interrupted read is tried again.
-const RETRIES: u32 = 1_000;
+/// How often an interrupted read is tried again, over all the reads of one input.
+pub const RETRIES: u32 = 1_000;
 
 /// Why a stream wasn't read to its end.
 #[derive(Clone, Copy, PartialEq, Eq)]
@@ -94,9 +94,13 @@ fn read_by<R: Read>(
     Err(InputFault::TooLarge)
 }
 
-// One read. An interrupted one is tried again as often as `retries` says, which counts down. The
-// error is `File`.
-fn read_piece<R: Read>(
+/// One read, which gives so many bytes at the front of `piece`; none at the end, or where `piece` has no
+/// room. An interrupted one is tried again as often as `retries` says, which counts down.
+///
+/// # Errors
+///
+/// `File` alone: a read failed, or was interrupted once too often. Nothing is taken then.
+pub fn read_piece<R: Read>(
     reader: &mut Counted<R>,
     piece: &mut [u8],
     retries: &mut u32,

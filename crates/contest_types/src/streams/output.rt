@@ -1,5 +1,5 @@
 //! Writing to a stream whose bytes are all known before the first one goes out.
-ghost use Rattle.std.specs.Prelude.{OnOk, OnErr};
+ghost use Rattle.std.specs.Prelude.{◌≡◌, OnOk, OnErr};
 ghost use Rattle.std.specs.Io.KnownBytes.{Appends};
 ghost use Rattle.contest_types.specs.Streams.{AppendsFront, Fails, stream};
 
@@ -20,6 +20,7 @@ pub fn write_all<W: Write>(out: &mut Counted<W>, bytes: &[u8]) -> Result<(), Out
     ensures ok { OnOk result (Appends (W.contents out.old.inner) (W.contents out.new.inner) bytes.now) }
     ensures err { OnErr result (AppendsFront (W.contents out.old.inner) (W.contents out.new.inner) bytes.now) }
     ensures fault { OnErr result (Fails (stream W.contents out.old) (stream W.contents out.new)) }
+    ensures calm { OnOk result (out.new.faults ≡ out.old.faults) }
 {
     let mut sent = 0;
     while sent < bytes.len() {

@@ -1,17 +1,8 @@
-use Rattle.std.proofs.Common.{◌++◌, ◌≤◌, ◌+◌, length, ◌∙◌, sym, ap, ℕ, List, Option, Some, None, Result, Ok, Err, OnErr, append_assoc, arith, take}
+use Rattle.std.proofs.Common.{◌++◌, ◌≤◌, ◌+◌, length, Result, Ok, Err, OnErr, arith, take}
 use Rattle.std.proofs.lemmas.Grind.{common_steps}
-use Rattle.std.specs.Io.KnownBytes.{Consumes}
 use Rattle.contest_types.specs.Streams.{TakesUpTo}
+use Rattle.contest_types.proofs.StreamLemmas.{consumes_both}
 use Rattle.contest_types.proofs.streams.input.read_by.Goals as goal
-
--- first `xs` is taken, and then `ys`
-consumes_both : (a b c : Option (List ℕ)) (xs ys : List ℕ)
-    → Consumes a b xs → Consumes b c ys → Consumes a c (xs ++ ys)
-consumes_both None b c xs ys p q = tt
-consumes_both (Some x) None c xs ys p q = absurd p
-consumes_both (Some x) (Some y) None xs ys p q = absurd q
-consumes_both (Some x) (Some y) (Some z) xs ys p q =
-    p ∙ ap (λ t. xs ++ t) q ∙ sym (append_assoc xs ys z)
 
 on_err_always : {T E P : Type 0} (r : Result T E) → P → OnErr r P
 on_err_always (Ok v) p = tt
