@@ -1,0 +1,9 @@
+pub mod HeadLemmas
+pub mod LastBytes
+pub mod HeadFields
+pub mod FieldLemmas
+pub mod LengthLemmas
+pub mod FrameLemmas
+pub mod RestLemmas
+pub mod ServeLemmas
+pub mod HeadLaws

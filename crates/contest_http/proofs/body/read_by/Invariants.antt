@@ -1,0 +1,13 @@
+use Rattle.std.proofs.Common.{◌≤◌, ◌-◌, length}
+use Rattle.std.specs.Io.KnownBytes.{Consumes}
+use Rattle.contest_http.proofs.body.read_by.Given as goal
+
+abbrev pub invariant-loop-bytes : goal.invariant-loop-bytes
+invariant-loop-bytes g l = record {
+  count : l.fn.reader.faults ≤ l.reader.faults;
+  within : length l.bytes.items ≤ l.size;
+  taken : Consumes (g.R.Read.remaining l.fn.reader.inner) (g.R.Read.remaining l.reader.inner) l.bytes.items;
+}
+
+abbrev pub decreases-loop-bytes : goal.decreases-loop-bytes
+decreases-loop-bytes g l = l.size - length l.bytes.items

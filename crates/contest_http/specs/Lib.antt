@@ -1,0 +1,11 @@
+pub mod Head
+pub mod Bodies
+pub mod Fields
+pub mod Targets
+pub mod Credentials
+pub mod Plans
+pub mod Frames
+pub mod Reading
+pub mod Spelling
+pub mod Serving
+pub mod Laws
