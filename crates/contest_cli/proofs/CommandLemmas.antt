@@ -5,12 +5,13 @@ use Rattle.sqlite_trees.specs.declared.store.Store.{Ghosts}
 use Rattle.sqlite.specs.Held.{Held}
 use Rattle.contest_types.specs.Streams.{Stream, Tells}
 use Rattle.contest_types.specs.declared.refusal.Refusal.TheVariants.{Memory}
-use Rattle.contest_cli.specs.Replay.{exit_status_of, line_of}
+use Rattle.contest_words.specs.CommandErrors.{exit_status_of, line_of}
 use Rattle.contest_cli.specs.Runs.{Runs}
-use Rattle.contest_cli.specs.declared.command_error.CommandError.TheVariants.{Refused}
+use Rattle.contest_words.specs.declared.command_error.CommandError.TheVariants.{Refused}
 use Rattle.contest_cli.specs.declared.invocation.CommandName.{CommandName}
 use Rattle.contest_cli.specs.declared.invocation.CommandName.TheVariants.{Replay, Init, Import}
-use Rattle.contest_cli.proofs.ReplayLemmas.{keeps_same, stopped}
+use Rattle.contest_words.proofs.StreamLemmas.{keeps_same}
+use Rattle.contest_replay_cli.proofs.ReplayLemmas.{stopped}
 
 -- memory for its words was refused
 pub out_of_memory : {S : Type 0} (g : Ghosts S) (Found : Held S → Type 0) (command : CommandName) (words : List Text) (in_old in_new out err_old err_new : Stream) (status : ℕ)

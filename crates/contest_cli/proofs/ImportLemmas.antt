@@ -18,14 +18,14 @@ use Rattle.contest_desk.specs.Items.{HasStoreError}
 use Rattle.contest_sqlite.specs.Contests.{may_leave_of}
 use Rattle.contest_sqlite.specs.Creation.{IsOfStore}
 use Rattle.contest_sqlite.specs.Opening.{Opened}
-use Rattle.contest_cli.specs.Commands.{Shows}
+use Rattle.contest_words.specs.Endings.{Shows}
 use Rattle.contest_cli.specs.Import.{Imports, LeavesStep, RefusesImport, Steps, StopsImport, added_line}
 use Rattle.contest_cli.specs.Inputs.{KeepsAll, WasRead}
-use Rattle.contest_cli.specs.Replay.{exit_status_of, line_of, stop_of}
-use Rattle.contest_cli.specs.declared.command_error.CommandError.{CommandError}
-use Rattle.contest_cli.specs.declared.command_error.CommandError.TheVariants.{Clock, File, Refused, Usage}
+use Rattle.contest_words.specs.CommandErrors.{exit_status_of, line_of, stop_of}
+use Rattle.contest_words.specs.declared.command_error.CommandError.{CommandError}
+use Rattle.contest_words.specs.declared.command_error.CommandError.TheVariants.{Clock, File, Refused, Usage}
 use Rattle.contest_cli.proofs.InputLemmas.{keeps_all, too_large}
-use Rattle.contest_cli.proofs.ReplayLemmas.{keeps_same}
+use Rattle.contest_words.proofs.StreamLemmas.{keeps_same}
 
 -- a refusal is the store's or want of memory, or another
 decided : (r : Refusal) → ((r ≡ StoreFault) ⊎ (r ≡ Memory)) ⊎ ¬ HasStoreError {A = ℕ} (Err r)

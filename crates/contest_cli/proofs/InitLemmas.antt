@@ -22,11 +22,11 @@ use Rattle.contest_sqlite.specs.Contests.{committed_of, may_leave_of}
 use Rattle.contest_sqlite.specs.Creation.{Created, IsOfStore, StoodEqual, StoodOther}
 use Rattle.contest_sqlite.specs.Keeping.{kept_of}
 use Rattle.contest_cli.specs.Init.{Inits, LeavesContest, LeavesNew, ReadsContest, RefusesContest, RefusesFile, Sets, SetsFile, StopsContest, StopsFile, StopsInit}
-use Rattle.contest_cli.specs.Replay.{exit_status_of, line_of, stop_of}
-use Rattle.contest_cli.specs.declared.command_error.CommandError.{CommandError}
-use Rattle.contest_cli.specs.declared.command_error.CommandError.TheVariants.{File, Refused}
+use Rattle.contest_words.specs.CommandErrors.{exit_status_of, line_of, stop_of}
+use Rattle.contest_words.specs.declared.command_error.CommandError.{CommandError}
+use Rattle.contest_words.specs.declared.command_error.CommandError.TheVariants.{File, Refused}
 use Rattle.contest_cli.proofs.InputLemmas.{keeps_all, too_large, was_read}
-use Rattle.contest_cli.proofs.ReplayLemmas.{keeps_same}
+use Rattle.contest_words.proofs.StreamLemmas.{keeps_same}
 
 -- why a file can't be read
 pub unread_stops : (old new : Stream) (f : InputFault) → (f ≡ fault.TooLarge → TakesFront old.bytes new.bytes (IMPORTED_FILE + 1))

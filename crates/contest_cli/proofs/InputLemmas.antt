@@ -4,7 +4,7 @@ use Rattle.sqlite.specs.State.{State}
 use Rattle.contest_types.specs.Streams.{ReadsAll, Stream, TakesFront}
 use Rattle.contest_types.specs.declared.limits.TheConstants.{IMPORTED_FILE}
 use Rattle.contest_cli.specs.Inputs.{KeepsAll, WasRead}
-use Rattle.contest_cli.proofs.ReplayLemmas.{is_longer}
+use Rattle.contest_words.proofs.StreamLemmas.{is_longer}
 
 -- bytes that were read to their end, by the slice of them
 pub was_read : (input : Stream) {left : Option (List ℕ)} {limit : ℕ} {bytes file : List ℕ} → ReadsAll input.bytes left limit bytes → file ≡ bytes → WasRead input file

@@ -1,6 +1,3 @@
-mod ReplayLemmas
-mod WordLemmas
-mod RefusalNames
 mod ExamplesCommands
 mod InputLemmas
 mod InitLemmas

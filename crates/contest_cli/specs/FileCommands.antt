@@ -13,9 +13,9 @@ use Rattle.contest_cli.specs.Import.{Imports}
 use Rattle.contest_cli.specs.ImportWords.{HasImportFault, NamesImport}
 use Rattle.contest_cli.specs.Init.{Inits}
 use Rattle.contest_cli.specs.InitWords.{HasInitFault, NamesInit}
-use Rattle.contest_cli.specs.Replay.{IsMemory, IsWords, exit_status_of, line_of}
-use Rattle.contest_cli.specs.declared.command_error.CommandError.{CommandError}
-use Rattle.contest_cli.specs.declared.command_error.CommandError.TheVariants.{Clock, File, Refused}
+use Rattle.contest_words.specs.CommandErrors.{IsMemory, IsWords, exit_status_of, line_of}
+use Rattle.contest_words.specs.declared.command_error.CommandError.{CommandError}
+use Rattle.contest_words.specs.declared.command_error.CommandError.TheVariants.{Clock, File, Refused}
 
 -- an SQLite file that can't be opened, or memory for it was refused
 abbrev pub IsNoStore : CommandError → Type 0

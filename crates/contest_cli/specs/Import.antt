@@ -12,9 +12,9 @@ use Rattle.contest_import.specs.declared.import_kind.ImportKind.{ImportKind}
 use Rattle.contest_desk.specs.Imports.{import_step}
 use Rattle.contest_sqlite.specs.Contests.{contest_in_trees, may_leave_of}
 use Rattle.contest_cli.specs.Inputs.{IsTooLarge, KeepsAll, WasRead}
-use Rattle.contest_cli.specs.Replay.{line_of}
-use Rattle.contest_cli.specs.declared.command_error.CommandError.{CommandError}
-use Rattle.contest_cli.specs.declared.command_error.CommandError.TheVariants.{Clock, File, Refused, Usage}
+use Rattle.contest_words.specs.CommandErrors.{line_of}
+use Rattle.contest_words.specs.declared.command_error.CommandError.{CommandError}
+use Rattle.contest_words.specs.declared.command_error.CommandError.TheVariants.{Clock, File, Refused, Usage}
 
 -- what is told of so many rows
 abbrev pub added_line : ℕ → List ℕ

@@ -6,7 +6,7 @@ use Rattle.clap.specs.Walk.{Text}
 use Rattle.contest_import.specs.declared.import_kind.ImportKind.{ImportKind}
 use Rattle.contest_import.specs.declared.import_kind.ImportKind.TheVariants.{Settings, TeamsCsv, AccountsCsv}
 use Rattle.contest_import.specs.declared.import_kind.SettingsKind.TheVariants.{JudgementTypes, Languages, Problems, Groups, Teams}
-use Rattle.contest_cli.specs.Arguments.{word, faults_in, value_of}
+use Rattle.contest_words.specs.Arguments.{word, faults_in, value_of}
 
 -- the command
 unfoldable pub import_app : App

@@ -13,9 +13,9 @@ use Rattle.contest_tables.specs.Connected.{IsBare}
 use Rattle.contest_sqlite.specs.Contests.{contest_in_trees, may_leave_of}
 use Rattle.contest_sqlite.specs.Creation.{StoodOther}
 use Rattle.contest_cli.specs.Inputs.{IsTooLarge, KeepsAll, WasRead}
-use Rattle.contest_cli.specs.Replay.{line_of}
-use Rattle.contest_cli.specs.declared.command_error.CommandError.{CommandError}
-use Rattle.contest_cli.specs.declared.command_error.CommandError.TheVariants.{Clock, File, Refused, Usage}
+use Rattle.contest_words.specs.CommandErrors.{line_of}
+use Rattle.contest_words.specs.declared.command_error.CommandError.{CommandError}
+use Rattle.contest_words.specs.declared.command_error.CommandError.TheVariants.{Clock, File, Refused, Usage}
 
 -- a file of this contest was read
 abbrev pub ReadsContest : Stream → Contest → Type 0

@@ -2,7 +2,7 @@
 use Rattle.std.specs.Prelude.{◌≡◌, List, [], Some, codes}
 use Rattle.clap.specs.Simple.{App, new_app, with_rule}
 use Rattle.clap.specs.Walk.{Text}
-use Rattle.contest_cli.specs.Arguments.{word, faults_in, value_of}
+use Rattle.contest_words.specs.Arguments.{word, faults_in, value_of}
 
 -- the command
 unfoldable pub init_app : App

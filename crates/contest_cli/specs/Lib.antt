@@ -1,10 +1,5 @@
-pub mod Arguments
-pub mod RefusalLine
-pub mod Asked
 pub mod InitWords
 pub mod ImportWords
-pub mod ReplayText
-pub mod Replay
 pub mod Commands
 pub mod Inputs
 pub mod Init

@@ -6,7 +6,7 @@ use Rattle.sqlite_trees.specs.declared.store.Store.{Ghosts}
 use Rattle.sqlite.specs.Held.{Held}
 use Rattle.contest_types.specs.Streams.{Stream}
 use Rattle.contest_cli.specs.FileCommands.{ImportsByWords, InitsByWords}
-use Rattle.contest_cli.specs.Replay.{Replays}
+use Rattle.contest_replay_cli.specs.Replay.{Replays}
 use Rattle.contest_cli.specs.declared.invocation.CommandName.{CommandName}
 use Rattle.contest_cli.specs.declared.invocation.CommandName.TheVariants.{Replay, Init, Import}
 

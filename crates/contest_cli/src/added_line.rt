@@ -2,8 +2,8 @@
 ghost use Rattle.std.specs.Prelude.{◌≡◌};
 ghost use Rattle.contest_cli.specs.Import.{added_line};
 
-use crate::refusal_line::{LINE, push_number};
 use arrayvec::ArrayString;
+use contest_words::{LINE, push_number};
 
 /// `added <n>`.
 pub(crate) fn added_line(added: u64) -> ArrayString<LINE>

@@ -1,25 +1,25 @@
 //! The program's commands, run by the words of its command line.
 ghost use Rattle.std.specs.Prelude.{◌≡◌, ◌≤◌, codes, map, string_bytes, IfErr, IfOk};
 ghost use Rattle.sqlite.specs.Files.{over_files};
-ghost use Rattle.contest_types.specs.Streams.{Tells, stream};
-ghost use Rattle.contest_cli.specs.Commands.{AsksHelp, NamesNone, ShowsSome, TellsNone, TellsUnknown, TellsWords, first_word, invocation_of, unknown_command};
+ghost use Rattle.contest_types.specs.Streams.{stream};
+ghost use Rattle.contest_words.specs.Endings.{ShowsSome, TellsWords};
+ghost use Rattle.contest_cli.specs.Commands.{AsksHelp, NamesNone, TellsNone, TellsUnknown, first_word, invocation_of, unknown_command};
 ghost use Rattle.contest_cli.specs.Runs.{Runs};
 ghost use Rattle.contest_cli.specs.declared.invocation.CommandName.{CommandName};
 
-use crate::command_error::CommandError;
 use crate::file_commands::{import_by_words, init_by_words};
-use crate::help::{HELP, show_help};
+use crate::help::{HELP, show_help_of};
 use crate::host::Host;
 use crate::invocation::{CommandName, Invocation, invocation_of};
 use crate::machine::Machine;
-use crate::replay_command::replay;
-use crate::show::show;
+use contest_replay_cli::replay;
 use contest_types::Refusal;
-use contest_types::streams::{Counted, write_all};
+use contest_types::streams::Counted;
+use contest_words::{CommandError, borrowed, refuse_arguments, show, tell};
 use sqlite::{Start, Unknown};
 use std::alloc::{AllocError, Global};
 use std::env::Args;
-use std::io::{self, ErrorKind, Read, Write};
+use std::io::{self, Read, Write};
 
 /// Runs the program by its arguments, of which the first is its own name. Answers the exit status.
 pub fn start<R: Read + Drop, O: Write + Drop, E: Write + Drop>(
@@ -87,36 +87,6 @@ fn run_owned<M: Machine, R: Read, O: Write, E: Write>(
     }
 }
 
-// The words themselves.
-fn borrowed(alloc: Global, words: &[String]) -> Result<Vec<&str>, AllocError>
-    ensures { IfOk result (λ found. map (λ s. s.now) found.items ≡ map string_bytes words.now) }
-{
-    let mut found = Vec::new(alloc);
-    for word in words {
-        found.push(word.as_str())?;
-    }
-    Ok(found)
-}
-
-// What is said of arguments that can't be read.
-fn refuse_arguments<E: Write>(error: &io::Error, err: &mut Counted<E>) -> u8
-    ensures told { TellsWords (codes "error: an argument isn't UTF-8\n") (stream E.contents err.old) (stream E.contents err.new) result }
-    ensures refused { 1 ≤ result }
-{
-    if error.kind() == ErrorKind::OutOfMemory {
-        return CommandError::Refused(Refusal::Memory).refuse(err);
-    }
-    tell(b"error: an argument isn't UTF-8\n", err);
-    2
-}
-
-// Writes a text to `err`, as far as it takes it.
-fn tell<E: Write>(text: &[u8], err: &mut Counted<E>)
-    ensures { Tells (stream E.contents err.old) (stream E.contents err.new) text.now }
-{
-    let _ = write_all(err, text);
-}
-
 /// Runs the command that the words name; the program's own name isn't among them. Answers the exit
 /// status: 0 where it did what was asked, 1 where that was refused or a stream failed, 2 where the
 /// words have a fault or name no command. Help that is asked for goes to `out`.
@@ -152,7 +122,7 @@ pub fn run<M: Machine, R: Read, O: Write, E: Write>(
         }
         Invocation::Help => show(HELP, out, err),
         Invocation::To(command) => run_command(alloc, machine, command, words, reader, out, err),
-        Invocation::HelpOf(command) => show_help(alloc, command, out, err),
+        Invocation::HelpOf(command) => show_help_of(alloc, command, out, err),
         Invocation::Unknown => refuse_command(alloc, first_of(words), err),
     }
 }

@@ -7,7 +7,6 @@ ghost use Rattle.contest_types.specs.Streams.{stream};
 ghost use Rattle.contest_sqlite.specs.Opening.{IsNumbered};
 ghost use Rattle.contest_cli.specs.FileCommands.{ImportsByWords, InitsByWords, NamesFiles, NamesKind, StopsImportEarly, StopsInitEarly};
 
-use crate::command_error::CommandError;
 use crate::import_command::run_import;
 use crate::import_words::read_import_words;
 use crate::init_command::run_init;
@@ -16,6 +15,7 @@ use crate::machine::{Machine, Opened};
 use contest_import::ImportKind;
 use contest_types::Moment;
 use contest_types::streams::Counted;
+use contest_words::CommandError;
 use std::alloc::Global;
 use std::io::Write;
 

@@ -1,15 +1,15 @@
 //! The help of the program and of its commands.
 ghost use Rattle.contest_types.specs.Streams.{stream};
-ghost use Rattle.contest_cli.specs.Commands.{ShowsSome};
+ghost use Rattle.contest_words.specs.Endings.{ShowsSome};
 
-use crate::command_error::CommandError;
 use crate::import_words::import_app;
 use crate::init_words::init_app;
 use crate::invocation::CommandName;
-use crate::replay_words::replay_app;
-use crate::show::show;
+use clap::Command;
+use contest_replay_cli::replay_app;
 use contest_types::Refusal;
 use contest_types::streams::Counted;
+use contest_words::{CommandError, show_help};
 use std::alloc::{AllocError, Global};
 use std::io::Write;
 
@@ -34,8 +34,9 @@ Examples:
 write a contest as CSV.
 ";
 
-/// Writes the help of a command.
-pub(crate) fn show_help<O: Write, E: Write>(
+/// Writes the help of a command to `out`, or tells `err` that `out` failed or memory was refused. Answers the
+/// exit status, 0 or 1.
+pub(crate) fn show_help_of<O: Write, E: Write>(
     alloc: Global,
     command: CommandName,
     out: &mut Counted<O>,
@@ -45,18 +46,17 @@ pub(crate) fn show_help<O: Write, E: Write>(
         (stream O.contents out.old) (stream O.contents out.new)
         (stream E.contents err.old) (stream E.contents err.new) result }
 {
-    match help_of(alloc, command) {
-        Ok(text) => show(text.as_str(), out, err),
+    match app_of(alloc, command) {
+        Ok(app) => show_help(app, out, err),
         Err(AllocError) => CommandError::Refused(Refusal::Memory).refuse(err),
     }
 }
 
-// The help of a command, which is clap's.
-fn help_of(alloc: Global, command: CommandName) -> Result<String, AllocError> {
-    let mut app = match command {
-        CommandName::Replay => replay_app(alloc)?,
-        CommandName::Init => init_app(alloc)?,
-        CommandName::Import => import_app(alloc)?,
-    };
-    app.render_help()
+// A command, as clap knows it. The error is want of memory.
+fn app_of<'a>(alloc: Global, command: CommandName) -> Result<Command<'a>, AllocError> {
+    match command {
+        CommandName::Replay => replay_app(alloc),
+        CommandName::Init => init_app(alloc),
+        CommandName::Import => import_app(alloc),
+    }
 }

@@ -10,10 +10,10 @@ ghost use Rattle.contest_types.specs.declared.refusal.Refusal.TheVariants.{Memor
 ghost use Rattle.contest_sqlite.specs.Opening.{IsNumbered};
 ghost use Rattle.contest_cli.specs.FileCommands.{IsNoFile, IsNoStore};
 
-use crate::command_error::CommandError;
 use crate::machine::{Machine, Opened};
 use contest_types::streams::Counted;
 use contest_types::{Moment, Refusal};
+use contest_words::CommandError;
 use sqlite::{Connection, Error, ErrorCode, FileFrom, FileStore, Start};
 use std::fs::{File, Files};
 use std::io::{self, ErrorKind};

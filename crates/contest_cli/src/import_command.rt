@@ -9,13 +9,12 @@ ghost use Rattle.contest_cli.specs.Import.{Imports, LeavesStep, Steps, StopsImpo
 ghost use Rattle.contest_cli.specs.Inputs.{WasRead};
 
 use crate::added_line::added_line;
-use crate::command_error::CommandError;
 use crate::opening::open_desk;
-use crate::show::show;
 use contest_import::ImportKind;
 use contest_types::limits::IMPORTED_FILE;
 use contest_types::streams::{Counted, read_limited};
 use contest_types::{Moment, Refusal};
+use contest_words::{CommandError, show};
 use sqlite::{Alter, Connection};
 use std::alloc::Global;
 use std::io::{Read, Write};

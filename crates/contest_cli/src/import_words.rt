@@ -2,12 +2,11 @@
 ghost use Rattle.std.specs.Prelude.{◌≡◌, ◌⊎◌, IfOk, IfErr, map};
 ghost use Rattle.clap.specs.Simple.{app_of};
 ghost use Rattle.contest_cli.specs.ImportWords.{HasImportFault, NamesImport, import_app, kind_named};
-ghost use Rattle.contest_cli.specs.Replay.{IsMemory, IsWords, IsWordsOrMemory};
+ghost use Rattle.contest_words.specs.CommandErrors.{IsMemory, IsWords, IsWordsOrMemory};
 
-use crate::arguments::{headed, matches_in, word, word_in};
-use crate::command_error::CommandError;
 use clap::Command;
 use contest_import::{ImportKind, SettingsKind};
+use contest_words::{CommandError, headed, matches_in, word, word_in};
 use std::alloc::{AllocError, Global};
 
 /// What the words of `import` name.

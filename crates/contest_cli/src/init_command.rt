@@ -8,12 +8,12 @@ ghost use Rattle.contest_types.specs.Valid.{is_valid};
 ghost use Rattle.contest_sqlite.specs.Opening.{IsNumbered};
 ghost use Rattle.contest_cli.specs.Init.{Inits, LeavesContest, LeavesNew, ReadsContest, Sets, SetsFile, StopsContest, StopsFile, StopsInit};
 
-use crate::command_error::CommandError;
 use contest_import::read_contest_json;
 use contest_sqlite::Store;
 use contest_types::Contest;
 use contest_types::limits::IMPORTED_FILE;
 use contest_types::streams::{Counted, read_limited};
+use contest_words::CommandError;
 use sqlite::{Alter, Connection};
 use std::alloc::Global;
 use std::io::{Read, Write};

@@ -1,13 +1,12 @@
 //! The words of `init`.
 ghost use Rattle.std.specs.Prelude.{◌≡◌, IfOk, IfErr, map};
 ghost use Rattle.clap.specs.Simple.{app_of};
-ghost use Rattle.contest_cli.specs.Arguments.{faults_in};
+ghost use Rattle.contest_words.specs.Arguments.{faults_in};
 ghost use Rattle.contest_cli.specs.InitWords.{NamesInit, init_app};
-ghost use Rattle.contest_cli.specs.Replay.{RefusesWords};
+ghost use Rattle.contest_words.specs.CommandErrors.{RefusesWords};
 
-use crate::arguments::{headed, matches_in, word, word_in};
-use crate::command_error::CommandError;
 use clap::Command;
+use contest_words::{CommandError, headed, matches_in, word, word_in};
 use std::alloc::{AllocError, Global};
 
 /// What the words of `init` name.

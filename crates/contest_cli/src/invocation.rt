@@ -1,7 +1,8 @@
 //! What the words ask for, by the first of them.
 ghost use Rattle.std.specs.Prelude.{◌≡◌, map};
-ghost use Rattle.std.specs.List.{list_any};
-ghost use Rattle.contest_cli.specs.Commands.{asked_of, command_named, invocation_of, is_help};
+ghost use Rattle.contest_cli.specs.Commands.{asked_of, command_named, invocation_of};
+
+use contest_words::{asks_help, is_help};
 
 /// A command of the program.
 #[derive(Clone, Copy, PartialEq, Eq)]
@@ -67,18 +68,4 @@ fn asked_of(command: CommandName, options: &[&str]) -> Invocation
     } else {
         Invocation::To(command)
     }
-}
-
-// Whether a command's options ask for its help.
-fn asks_help(options: &[&str]) -> bool
-    ensures { result ≡ list_any (λ s. is_help s.now) options.now }
-{
-    options.iter().any(|option| is_help(option))
-}
-
-// Whether an option asks for its command's help.
-fn is_help(option: &str) -> bool
-    ensures { result ≡ is_help option.now }
-{
-    option == "--help" || option == "-h"
 }

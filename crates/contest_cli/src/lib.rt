@@ -2,8 +2,6 @@
 #![tactic(auto)]
 
 mod added_line;
-mod arguments;
-mod command_error;
 mod commands;
 mod file_commands;
 mod help;
@@ -15,15 +13,8 @@ mod init_words;
 mod invocation;
 mod machine;
 mod opening;
-mod refusal_line;
-mod replay_command;
-mod replay_text;
-mod replay_words;
-mod show;
 
 pub use commands::{run, start};
-pub use contest_types::Counted;
 pub use import_command::run_import;
 pub use init_command::run_init;
 pub use opening::open_desk;
-pub use replay_command::replay;

@@ -4,9 +4,9 @@ ghost use Rattle.sqlite.specs.Held.{Held, state};
 ghost use Rattle.contest_sqlite.specs.Opening.{IsNumbered};
 ghost use Rattle.contest_cli.specs.FileCommands.{IsUnopened};
 
-use crate::command_error::CommandError;
 use contest_types::Moment;
 use contest_types::streams::Counted;
+use contest_words::CommandError;
 use sqlite::{Alter, Connection};
 use std::io::Read;
 

@@ -1,0 +1,3 @@
+mod WordLemmas
+mod RefusalNames
+pub mod StreamLemmas

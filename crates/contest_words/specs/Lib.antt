@@ -1,0 +1,5 @@
+pub mod Arguments
+pub mod Help
+pub mod RefusalLine
+pub mod CommandErrors
+pub mod Endings

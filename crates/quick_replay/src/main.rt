@@ -1,0 +1,67 @@
+//! The command `replay` of `desk` as a program of its own, whose words are the command's. It stands on few
+//! crates, so that `./desk --quick` soon has it compiled.
+#![tactic(auto)]
+
+ghost use Rattle.std.specs.Prelude.{◌≡◌, map, true, false};
+ghost use Rattle.std.specs.List.{list_any};
+ghost use Rattle.contest_types.specs.Streams.{stream};
+ghost use Rattle.contest_words.specs.Endings.{ShowsSome};
+ghost use Rattle.contest_words.specs.Help.{is_help};
+ghost use Rattle.contest_replay_cli.specs.Replay.{Replays};
+
+use contest_replay_cli::{replay, replay_app};
+use contest_types::Refusal;
+use contest_types::streams::Counted;
+use contest_words::{CommandError, asks_help, borrowed, refuse_arguments, show_help};
+use std::alloc::{AllocError, Global};
+use std::env;
+use std::io::{Read, Write};
+use std::process::ExitCode;
+
+fn main(rt: HostRuntime) -> ExitCode {
+    let mut err = Counted::new(rt.stderr());
+    let status = match env::args(&rt) {
+        Ok(args) => match args.collect::<Vec<String>>(rt.alloc()) {
+            Ok(words) => run_owned(&rt, &words, &mut err),
+            Err(AllocError) => CommandError::Refused(Refusal::Memory).refuse(&mut err),
+        },
+        Err(error) => refuse_arguments(&error, &mut err),
+    };
+    ExitCode::from(status)
+}
+
+// Runs the command on the machine's streams. The first of its words is the program's own name.
+fn run_owned<E: Write>(rt: &HostRuntime, words: &[String], err: &mut Counted<E>) -> u8 {
+    let mut reader = Counted::new(rt.stdin());
+    let mut out = Counted::new(rt.stdout());
+    match borrowed(rt.alloc(), words) {
+        Ok(words) => run(rt.alloc(), &words, &mut reader, &mut out, err),
+        Err(AllocError) => CommandError::Refused(Refusal::Memory).refuse(err),
+    }
+}
+
+// Prints the board that the words ask for, or the command's help. Answers the exit status.
+fn run<R: Read, O: Write, E: Write>(
+    alloc: Global,
+    words: &[&str],
+    reader: &mut Counted<R>,
+    out: &mut Counted<O>,
+    err: &mut Counted<E>,
+) -> u8
+    ensures board { list_any (λ s. is_help s.now) words.now ≡ false
+        → Replays (map (λ s. s.now) words.now)
+        (stream R.remaining reader.old) (stream R.remaining reader.new)
+        (stream O.contents out.old) (stream O.contents out.new)
+        (stream E.contents err.old) (stream E.contents err.new) result }
+    ensures help { list_any (λ s. is_help s.now) words.now ≡ true
+        → ShowsSome (stream O.contents out.old) (stream O.contents out.new)
+        (stream E.contents err.old) (stream E.contents err.new) result }
+{
+    if !asks_help(words) {
+        return replay(alloc, words, reader, out, err);
+    }
+    match replay_app(alloc) {
+        Ok(app) => show_help(app, out, err),
+        Err(AllocError) => CommandError::Refused(Refusal::Memory).refuse(err),
+    }
+}
