@@ -1,5 +1,5 @@
 -- One request served: what was taken of the input, what went out, and what became of the contest (own).
-use Rattle.std.specs.Prelude.{◌≡◌, ◌≢◌, ◌⊎◌, ℕ, List, ◌++◌, Bool, true, Option, Result, Ok, Err, IsTrue, take}
+use Rattle.std.specs.Prelude.{◌≡◌, ◌≢◌, ◌⊎◌, ℕ, List, ◌++◌, Bool, true, Option, Result, Ok, Err, IsFalse, IsTrue, take}
 use Rattle.std.specs.Io.KnownBytes.{Appends}
 use Rattle.contest_types.specs.Alike.{Alike, MayBeHeld}
 use Rattle.contest_types.specs.State.{ContestState}
@@ -8,7 +8,7 @@ use Rattle.contest_types.specs.Valid.{is_valid}
 use Rattle.contest_types.specs.declared.audience.Audience.{Audience}
 use Rattle.contest_types.specs.declared.refusal.Refusal.{Refusal}
 use Rattle.contest_types.specs.declared.refusal.Refusal.TheVariants.{Memory, StoreFault}
-use Rattle.contest_store.specs.Keeping.{Kept, LeavesOnly, LeavesOr}
+use Rattle.contest_store.specs.Keeping.{Kept, LeavesNoMore, LeavesOnly, LeavesOr}
 use Rattle.contest_desk.specs.Laws.{HasSight}
 use Rattle.contest_desk.specs.Replies.{refused}
 use Rattle.contest_desk.specs.Serving.{IsStoreReply}
@@ -32,12 +32,20 @@ pub record Handles {S : Type 0} (kept : S → Kept) (before after : S) (now : �
   pub contest : (kept after).is_clean → ¬ (IsStoreReply reply) → (kept after).contest ≡ (step (kept before).contest now credential request).1
   pub unchanged : (kept after).is_clean → IsTrue (kept after).is_open → IsStoreReply reply → (kept after).contest ≡ (kept before).contest
   pub lasts : (kept after).is_clean → ¬ (IsStoreReply reply) → LeavesOnly (kept after).may_leave (step (kept before).contest now credential request).1
+  pub opens : (kept after).is_clean → IsStoreReply reply ⊎ (IsTrue (kept after).is_open × ¬ (IsStoreReply reply))
+  pub up : (kept after).is_clean → IsTrue (kept after).is_open → IsTrue (kept before).is_open
+  pub shut : (kept after).is_clean → IsFalse (kept before).is_open → LeavesNoMore (kept before).may_leave (kept after).may_leave
   pub crash : (kept after).is_clean → LeavesOr (kept before).may_leave (kept after).may_leave (step (kept before).contest now credential request).1
   pub fault : reply ≡ refused StoreFault → (kept after).faults ≡ one_more (kept before).faults
   pub no_fault : ¬ (reply ≡ refused StoreFault) → (kept after).faults ≡ (kept before).faults
   pub isolated : (kept after).is_clean → ¬ (IsStoreReply reply) → (a : Audience) (y : ContestState) → HasSight (kept before).contest.fixed credential a
       → MayBeHeld a now (kept before).contest → is_valid y ≡ true → Alike a (kept before).contest y
       → (reply ≡ (step y now credential request).0) × Alike a (kept after).contest (step y now credential request).1
+
+-- one request is handled at most, whatever is known of the streams
+abbrev pub HandlesOne : {S : Type 0} (kept : S → Kept) (now : ℕ) (before after : S) → Type 0
+HandlesOne kept now before after =
+    (after ≡ before) ⊎ ((credential : Credential) × (request : Request) × (reply : Reply) × Handles kept before after now credential request reply)
 
 -- what is answered, after `first` went out: the desk's reply to the request, a refusal of what is no request, or want
 -- of memory while it was read; by the last two the contest stays as it is

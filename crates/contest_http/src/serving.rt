@@ -1,7 +1,7 @@
 //! One request served.
 ghost use Rattle.std.specs.Prelude.{◌≡◌, Err, IsSome, IsTrue, List, Some, ℕ};
 ghost use Rattle.contest_types.specs.Streams.{Fails, stream};
-ghost use Rattle.contest_http.specs.Serving.{Answers, AnswersAlike, ServesOne};
+ghost use Rattle.contest_http.specs.Serving.{Answers, AnswersAlike, HandlesOne, ServesOne};
 
 use crate::framed::{Framed, ServeFault, Served};
 use crate::reply::write_reply;
@@ -35,6 +35,7 @@ pub fn serve_one<R: Read, W: Write, S: ContestStore>(
         → ServesOne S.kept input left (W.contents writer.old.inner) (W.contents writer.new.inner) now desk.old desk.new result }
     ensures isolated { (input left : List ℕ) → R.remaining reader.old.inner ≡ Some input → R.remaining reader.new.inner ≡ Some left
         → (S.kept desk.new).is_clean → AnswersAlike S.kept input (W.contents writer.old.inner) (W.contents writer.new.inner) now desk.old desk.new result }
+    ensures handled { HandlesOne S.kept now desk.old desk.new }
     ensures read { result ≡ Err ServeFault.Read → Fails (stream R.remaining reader.old) (stream R.remaining reader.new) }
     ensures write { result ≡ Err ServeFault.Write → Fails (stream W.contents writer.old) (stream W.contents writer.new) }
     ensures clean { (S.kept desk.new).is_clean → (S.kept desk.old).is_clean }
