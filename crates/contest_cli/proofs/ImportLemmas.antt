@@ -23,7 +23,7 @@ use Rattle.contest_cli.specs.Import.{Imports, LeavesStep, RefusesImport, Steps, 
 use Rattle.contest_cli.specs.Inputs.{KeepsAll, WasRead}
 use Rattle.contest_words.specs.CommandErrors.{exit_status_of, line_of, stop_of}
 use Rattle.contest_words.specs.declared.command_error.CommandError.{CommandError}
-use Rattle.contest_words.specs.declared.command_error.CommandError.TheVariants.{Clock, File, Refused, Usage}
+use Rattle.contest_words.specs.declared.command_error.CommandError.TheVariants.{Clock, File, Net, Refused, Usage}
 use Rattle.contest_cli.proofs.InputLemmas.{keeps_all, too_large}
 use Rattle.contest_words.proofs.StreamLemmas.{keeps_same}
 
@@ -98,6 +98,7 @@ module _ (now : ℕ) (kind : ImportKind) (in_old in_new : Stream) (old new : Sta
       → Imports now kind in_old in_new out out err_old err_new old new status
   stopped out (Usage text) stops is told = absurd stops
   stopped out Clock stops is told = absurd stops
+  stopped out Net stops is told = absurd stops
   stopped out (Refused r) stops is told = record {
     statuses = omega (arith, is);
     done = λ e. absurd (omega (arith, is, e));

@@ -5,3 +5,4 @@ mod OpeningLemmas
 mod ImportLemmas
 mod HostLemmas
 mod CommandLemmas
+mod ServingLemmas

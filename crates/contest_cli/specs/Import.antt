@@ -14,7 +14,7 @@ use Rattle.contest_sqlite.specs.Contests.{contest_in_trees, may_leave_of}
 use Rattle.contest_cli.specs.Inputs.{IsTooLarge, KeepsAll, WasRead}
 use Rattle.contest_words.specs.CommandErrors.{line_of}
 use Rattle.contest_words.specs.declared.command_error.CommandError.{CommandError}
-use Rattle.contest_words.specs.declared.command_error.CommandError.TheVariants.{Clock, File, Refused, Usage}
+use Rattle.contest_words.specs.declared.command_error.CommandError.TheVariants.{Clock, File, Net, Refused, Usage}
 
 -- what is told of so many rows
 abbrev pub added_line : ℕ → List ℕ
@@ -43,6 +43,7 @@ StopsImport now kind in_old in_new old new (Usage text) = ⊥
 StopsImport now kind in_old in_new old new (Refused r) = RefusesImport now kind in_old old new r
 StopsImport now kind in_old in_new old new File = Fails in_old in_new × KeepsAll old new
 StopsImport now kind in_old in_new old new Clock = ⊥
+StopsImport now kind in_old in_new old new Net = ⊥
 
 -- a crash leaves what it could leave before, or the contest of the step
 abbrev pub LeavesStep : (now : ℕ) → ImportKind → Stream → State → State → Type 0

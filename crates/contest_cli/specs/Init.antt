@@ -15,7 +15,7 @@ use Rattle.contest_sqlite.specs.Creation.{StoodOther}
 use Rattle.contest_cli.specs.Inputs.{IsTooLarge, KeepsAll, WasRead}
 use Rattle.contest_words.specs.CommandErrors.{line_of}
 use Rattle.contest_words.specs.declared.command_error.CommandError.{CommandError}
-use Rattle.contest_words.specs.declared.command_error.CommandError.TheVariants.{Clock, File, Refused, Usage}
+use Rattle.contest_words.specs.declared.command_error.CommandError.TheVariants.{Clock, File, Net, Refused, Usage}
 
 -- a file of this contest was read
 abbrev pub ReadsContest : Stream → Contest → Type 0
@@ -78,6 +78,7 @@ StopsInit in_old in_new old new (Usage text) = ⊥
 StopsInit in_old in_new old new (Refused r) = RefusesInit in_old old new r
 StopsInit in_old in_new old new File = Fails in_old in_new × KeepsAll old new
 StopsInit in_old in_new old new Clock = ⊥
+StopsInit in_old in_new old new Net = ⊥
 
 -- a crash leaves what it could leave before, or the file's contest, whole
 abbrev pub LeavesContest : Stream → State → State → Type 0

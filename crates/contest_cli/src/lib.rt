@@ -11,10 +11,18 @@ mod import_words;
 mod init_command;
 mod init_words;
 mod invocation;
+mod listening_line;
 mod machine;
+mod network;
 mod opening;
+mod serve_command;
+mod serve_words;
+mod serving;
 
 pub use commands::{run, start};
 pub use import_command::run_import;
 pub use init_command::run_init;
+pub use network::{Connected, Listen, Network};
 pub use opening::open_desk;
+pub use serve_command::run_serve;
+pub use serving::serve;

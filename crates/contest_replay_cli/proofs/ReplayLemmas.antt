@@ -11,7 +11,7 @@ use Rattle.contest_types.specs.declared.streams.input.InputFault.TheVariants as 
 use Rattle.contest_words.specs.CommandErrors.{stop_of, exit_status_of, line_of}
 use Rattle.contest_words.specs.Endings.{Shows}
 use Rattle.contest_words.specs.declared.command_error.CommandError.{CommandError}
-use Rattle.contest_words.specs.declared.command_error.CommandError.TheVariants.{Usage, Refused, File, Clock}
+use Rattle.contest_words.specs.declared.command_error.CommandError.TheVariants.{Usage, Refused, File, Clock, Net}
 use Rattle.contest_words.proofs.StreamLemmas.{is_longer, keeps_same}
 use Rattle.contest_replay_cli.specs.Asked.{Asks}
 use Rattle.contest_replay_cli.specs.Replay.{replay_of, Gives, StopsBy, Replays}
@@ -89,6 +89,7 @@ stopped words in_old in_new out err_old err_new File status stops is told = reco
   faulty = λ e. absurd (omega (arith, is, e));
 }
 stopped words in_old in_new out err_old err_new Clock status stops is told = absurd stops
+stopped words in_old in_new out err_old err_new Net status stops is told = absurd stops
 
 -- where there is one, and it is shown
 pub shown : (words : List Text) (in_old in_new out_old out_new err_old err_new : Stream) (text written : List ℕ) (status : ℕ)

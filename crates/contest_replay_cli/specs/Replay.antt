@@ -8,7 +8,7 @@ use Rattle.contest_types.specs.declared.limits.TheConstants.{IMPORTED_FILE}
 use Rattle.contest_types.specs.Streams.{Stream, Fails, Tells, AppendsFront}
 use Rattle.contest_words.specs.CommandErrors.{exit_status_of, line_of}
 use Rattle.contest_words.specs.declared.command_error.CommandError.{CommandError}
-use Rattle.contest_words.specs.declared.command_error.CommandError.TheVariants.{Usage, Refused, File, Clock}
+use Rattle.contest_words.specs.declared.command_error.CommandError.TheVariants.{Usage, Refused, File, Clock, Net}
 use Rattle.contest_replay_cli.specs.Asked.{Asks, HasFault}
 use Rattle.contest_replay_cli.specs.ReplayText.{board_of}
 
@@ -33,6 +33,7 @@ StopsBy words old new (Usage text) = HasFault words
 StopsBy words old new (Refused r) = (r ≡ Memory) ⊎ Gives words old.bytes (Err r)
 StopsBy words old new File = Faultless words × Fails old new
 StopsBy words old new Clock = ⊥
+StopsBy words old new Net = ⊥
 
 -- there is a text, and a front of it is out, for `out` failed
 abbrev pub CutsOff : List Text → Option (List ℕ) → Stream → Stream → Type 0

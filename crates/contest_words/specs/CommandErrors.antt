@@ -6,7 +6,7 @@ use Rattle.contest_types.specs.declared.streams.input.InputFault.{InputFault}
 use Rattle.contest_types.specs.declared.streams.input.InputFault.TheVariants as fault
 use Rattle.contest_words.specs.RefusalLine.{refusal_line}
 use Rattle.contest_words.specs.declared.command_error.CommandError.{CommandError}
-use Rattle.contest_words.specs.declared.command_error.CommandError.TheVariants.{Usage, Refused, File, Clock}
+use Rattle.contest_words.specs.declared.command_error.CommandError.TheVariants.{Usage, Refused, File, Clock, Net}
 
 -- the line that tells of it
 abbrev pub line_of : CommandError → List ℕ
@@ -14,6 +14,7 @@ line_of (Usage text) = string_bytes text
 line_of (Refused r) = refusal_line r
 line_of File = codes "refused: File\n"
 line_of Clock = codes "refused: Clock\n"
+line_of Net = codes "refused: Net\n"
 
 -- the program's exit status
 abbrev pub exit_status_of : CommandError → ℕ
@@ -21,6 +22,7 @@ exit_status_of (Usage text) = 2
 exit_status_of (Refused r) = 1
 exit_status_of File = 1
 exit_status_of Clock = 1
+exit_status_of Net = 1
 
 -- memory was refused
 abbrev pub IsMemory : CommandError → Type 0
@@ -32,6 +34,7 @@ IsWords (Usage text) = Unit {0}
 IsWords (Refused r) = ⊥
 IsWords File = ⊥
 IsWords Clock = ⊥
+IsWords Net = ⊥
 
 -- the words are refused, or memory was while that was told
 abbrev pub IsWordsOrMemory : CommandError → Type 0

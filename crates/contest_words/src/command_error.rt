@@ -23,6 +23,8 @@ pub enum CommandError {
     File,
     /// The clock can't be read, or shows a time that is no moment of a contest.
     Clock,
+    /// Nobody can connect: the port can't be had, or listening on it failed.
+    Net,
 }
 
 impl CommandError {
@@ -48,7 +50,10 @@ impl CommandError {
         let _ = self.tell(err);
         match self {
             CommandError::Usage(_) => 2,
-            CommandError::Refused(_) | CommandError::File | CommandError::Clock => 1,
+            CommandError::Refused(_)
+            | CommandError::File
+            | CommandError::Clock
+            | CommandError::Net => 1,
         }
     }
 
@@ -63,6 +68,7 @@ impl CommandError {
             CommandError::Refused(refusal) => write_all(err, refusal_line(*refusal).as_bytes()),
             CommandError::File => write_all(err, b"refused: File\n"),
             CommandError::Clock => write_all(err, b"refused: Clock\n"),
+            CommandError::Net => write_all(err, b"refused: Net\n"),
         }
     }
 }

@@ -1,0 +1,84 @@
+//! The command `serve`: the contest that a connection holds, served to clients.
+ghost use Rattle.std.specs.Prelude.{◌≡◌};
+ghost use Rattle.sqlite.specs.Held.{state};
+ghost use Rattle.contest_types.specs.Streams.{stream};
+ghost use Rattle.contest_sqlite.specs.Opening.{IsNumbered};
+ghost use Rattle.contest_cli.specs.Serve.{Serves};
+
+use crate::listening_line::listening_line;
+use crate::network::{Listen, Network};
+use crate::opening::open_desk;
+use crate::serving::serve;
+use contest_desk::Desk;
+use contest_store::ContestStore;
+use contest_types::streams::{Counted, write_all};
+use contest_words::CommandError;
+use sqlite::{Alter, Connection};
+use std::alloc::Global;
+use std::io::Write;
+
+/// Runs `serve`: opens the desk of a contest, listens on a port of this machine, tells `out` which, and
+/// serves so many clients. Answers the exit status: 0 where all were served, 1 where `err` is told why
+/// not; and the connection.
+pub fn run_serve<S: Alter, N: Network, O: Write, E: Write>(
+    alloc: Global,
+    conn: Connection<S>,
+    network: &N,
+    port: u16,
+    requests: u32,
+    out: &mut Counted<O>,
+    err: &mut Counted<E>,
+) -> (u8, Connection<S>)
+    requires { IsNumbered (state S.Store conn) }
+    ensures { Serves (stream O.contents out.old) (stream O.contents out.new)
+        (stream E.contents err.old) (stream E.contents err.new) result.0 }
+{
+    match open_desk(alloc, conn) {
+        Ok(mut desk) => {
+            let status = serve_desk(alloc, &mut desk, network, port, requests, out, err);
+            (status, desk.into_store().into_connection())
+        }
+        Err((refusal, conn)) => (CommandError::Refused(refusal).refuse(err), conn),
+    }
+}
+
+// The same of a desk that is open.
+fn serve_desk<S: ContestStore, N: Network, O: Write, E: Write>(
+    alloc: Global,
+    desk: &mut Desk<S>,
+    network: &N,
+    port: u16,
+    requests: u32,
+    out: &mut Counted<O>,
+    err: &mut Counted<E>,
+) -> u8
+    ensures { Serves (stream O.contents out.old) (stream O.contents out.new)
+        (stream E.contents err.old) (stream E.contents err.new) result }
+{
+    match network.listen(port) {
+        Ok(listener) => serve_from(alloc, desk, network, &listener, requests, out, err),
+        Err(stop) => stop.refuse(err),
+    }
+}
+
+// The same where clients can connect.
+fn serve_from<S: ContestStore, N: Network, O: Write, E: Write>(
+    alloc: Global,
+    desk: &mut Desk<S>,
+    network: &N,
+    listener: &N::Listener,
+    requests: u32,
+    out: &mut Counted<O>,
+    err: &mut Counted<E>,
+) -> u8
+    ensures { Serves (stream O.contents out.old) (stream O.contents out.new)
+        (stream E.contents err.old) (stream E.contents err.new) result }
+{
+    match write_all(out, listening_line(listener.port()).as_bytes()) {
+        Ok(()) => match serve(alloc, desk, network, listener, requests) {
+            Ok(()) => 0,
+            Err(stop) => stop.refuse(err),
+        },
+        Err(_) => CommandError::File.refuse(err),
+    }
+}
