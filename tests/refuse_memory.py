@@ -12,8 +12,8 @@ cc). Each case is run with its first call refused, its second, and so on until a
 with no call refused; and all that again with every later call refused as well.
 
 The second form has `rt try --fail-alloc N` refuse allocation N instead, in an unproved build that checks
-each access and each sum as it runs. It takes the cases with no option, and builds the program anew for
-each N, which takes about a minute.
+each access and each sum as it runs. It takes the cases with no option, and builds the program of `replay`
+alone anew for each N, which takes about a minute.
 
 Prints each answer that is neither, and ends with the line `N passed, M failed`. The exit status is 0
 where M is 0.
@@ -129,9 +129,9 @@ def refuse_by_try(program, numbers):
     with tempfile.TemporaryDirectory() as folder:
         for name, _, words, data in cases:
             pathlib.Path(folder, name).write_bytes(data)
-            pathlib.Path(folder, f"{name}.args").write_text("".join(word + "\n" for word in words))
+            pathlib.Path(folder, f"{name}.args").write_text("".join(f"{word}\n" for word in words[1:]))
         for number in numbers:
-            answers = tried(ROOT / "crates/desk", folder, number)
+            answers = tried(ROOT / "crates/quick_replay", folder, number)
             for name, title, words, data in cases:
                 wanted = answer_with_memory(program, title, words, data)
                 given = answers.get(name)
