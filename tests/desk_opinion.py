@@ -165,7 +165,7 @@ def imported(contest, now, kind, data):
                     added += 1
             except Fault as fault:
                 return f"refused: E22 ImportRow {number} {fault}", contest
-        is_closed = contest["start"] <= now or contest["submissions"]
+        is_closed = has_come(contest["start"], now) or contest["submissions"]
         if kind != "accounts-csv" and added and is_closed:
             raise Refused("SettingsClosed")
     except Refused as refused:
@@ -176,9 +176,44 @@ def imported(contest, now, kind, data):
 # --- Requests --------------------------------------------------------------------------------------
 
 
-def new_contest(contest_id, start, duration):
+def new_contest(head, start, thaw, finalized):
+    """A contest with nothing in it: its head has id, name, duration, freeze and penalty; each mark is set or None."""
     lists = ("types", "languages", "problems", "groups", "teams", "accounts", "submissions", "proposals", "releases")
-    return {"id": contest_id, "start": start, "end": start + duration, **{name: [] for name in lists}}
+    return {**head, "start": start, "thaw": thaw, "finalized": finalized, **{name: [] for name in lists}}
+
+
+def has_come(one, now):
+    return one is not None and one <= now
+
+
+def contest_object(contest):
+    return {
+        "duration": relative(contest["duration"]),
+        "id": contest["id"],
+        "name": contest["name"],
+        "penalty_time": contest["penalty"],
+        "scoreboard_freeze_duration": relative(contest["freeze"]),
+        "scoreboard_thaw_time": moment(contest["thaw"]),
+        "scoreboard_type": "pass-fail",
+        "start_time": moment(contest["start"]),
+    }
+
+
+def state_object(contest, now):
+    """The moments that have come: a thaw once there is something frozen, final results once the contest has ended."""
+    start, state = contest["start"], dict.fromkeys(["started", "frozen", "ended", "thawed", "finalized", "end_of_updates"])
+    if start is None:
+        return state
+    end = start + contest["duration"]
+    for name, one in (("started", start), ("frozen", end - contest["freeze"]), ("ended", end)):
+        state[name] = one if has_come(one, now) else None
+    if state["frozen"] is not None and has_come(contest["thaw"], now):
+        state["thawed"] = contest["thaw"]
+    if state["ended"] is not None and has_come(contest["finalized"], now):
+        state["finalized"] = contest["finalized"]
+    if state["thawed"] is not None and state["finalized"] is not None:
+        state["end_of_updates"] = max(state["thawed"], state["finalized"])
+    return {name: moment(one) for name, one in state.items()}
 
 
 def submission_object(contest, submission, caller):
@@ -201,6 +236,8 @@ def submission_object(contest, submission, caller):
 
 
 def moment(milliseconds):
+    if milliseconds is None:
+        return None
     day = datetime.datetime(1970, 1, 1) + datetime.timedelta(milliseconds=milliseconds)
     return day.strftime("%Y-%m-%dT%H:%M:%S.") + f"{milliseconds % 1000:03}+00:00"
 
@@ -261,7 +298,8 @@ def submit(contest, now, caller, key, body):
             if any(one[part] != new[part] for part in ("problem", "language", "entry", "file")):
                 raise Refused("KeyReused")
             return one
-    if not contest["start"] <= now < contest["end"]:
+    start = contest["start"]
+    if start is None or not start <= now < start + contest["duration"] or contest["finalized"] is not None:
         raise Refused("NotOpen")
     if len(own) >= TEAM_LIMIT:
         raise Refused("TeamLimit")
@@ -293,11 +331,24 @@ def offered(contest, path):
     pieces = path.split("/")
     if path == "/jury/proposals":
         return ["POST"], "proposals", None
+    if path == "/contests" or pieces in (["", "contests", contest["id"]], ["", "contests", contest["id"], "state"]):
+        return ["GET", "HEAD"], {2: "contests", 3: "contest", 4: "state"}[len(pieces)], None
+    if len(pieces) == 6 and all(pieces[1:]) and pieces[:4] + pieces[5:] == ["", "contests", contest["id"], "submissions", "files"]:
+        return ["GET", "HEAD"], "files", pieces[4]
     names = ["submissions", *COLLECTIONS]
     if len(pieces) not in (4, 5) or pieces[:3] != ["", "contests", contest["id"]] or pieces[3] not in names or not all(pieces[1:]):
         raise Refused("NotFound")
     methods = ["GET", "HEAD"] + (["POST"] if pieces[3:] == ["submissions"] else [])
     return methods, pieces[3], pieces[4] if len(pieces) == 5 else None
+
+
+def file_of(contest, which, caller):
+    """The file of a submission, for whoever is shown that there is one."""
+    for one in seen_submissions(contest, caller):
+        shown = submission_object(contest, one, caller)
+        if shown["id"] == which and "files" in shown:
+            return one["file"]
+    raise Refused("NotFound")
 
 
 def caller_of(contest, who):
@@ -320,6 +371,10 @@ def value_of(contest, now, who, key, method, path, body):
         return propose(contest, now, caller, body)
     if method == "POST":
         return submission_object(contest, submit(contest, now, caller, key, body), caller)
+    if name == "files":
+        return file_of(contest, which, caller)
+    if name in ("contests", "contest", "state"):
+        return {"contests": [contest_object(contest)], "contest": contest_object(contest), "state": state_object(contest, now)}[name]
     rows = collection(contest, name, caller)
     if which is None:
         return rows
@@ -333,7 +388,8 @@ def handled(contest, now, who, key, method, path, body):
     """What is answered to a request, and the contest after it."""
     after = copy.deepcopy(contest)
     try:
-        return f"200 {compact(value_of(after, now, who, key, method, path, body))}", after
+        value = value_of(after, now, who, key, method, path, body)
+        return "200 " + (f"application/zip {value.decode()}" if isinstance(value, bytes) else compact(value)), after
     except Refused as refused:
         name, field = refused.args[0], refused.args[1] if len(refused.args) > 1 else ""
         field = " WWW-Authenticate: Bearer" if name == "UnknownToken" else field

@@ -24,7 +24,7 @@ import desk_opinion
 
 ROOT = pathlib.Path(__file__).resolve().parent.parent
 START = 1_709_370_000_000
-DURATION = 18_000_000
+HEAD = {"id": "demo", "name": "Demo Cup", "duration": 18_000_000, "freeze": 3_600_000, "penalty": 20}
 SETTINGS = ["judgement-types", "languages", "groups", "problems", "teams"]
 NAMES = ["Alpha", "Beta", "Gamma, the third", 'The "Deltas"', "Łódź", "東京", ""]
 IDS = {"judgement-types": ["AC", "WA", "CE"], "languages": ["cpp", "java"], "groups": ["north", "south"],
@@ -111,6 +111,11 @@ class Chance:
             return "POST", self.often("/contests/demo/submissions", ["/contests/cup/submissions"], 0.98), self.post()
         if self.random.random() < 0.4:
             return "POST", "/jury/proposals", self.proposal()
+        if self.random.random() < 0.4:
+            which = f"s{self.often(1, [2, 3, 4])}-{self.often('1', ['2', '3', '01'], 0.6)}"
+            path = self.often(f"/contests/demo/submissions/{which}/files", ["/contests", "/contests/demo", "/contests/demo/state"], 0.5)
+            path = self.often(path, ["/contests/cup", "/contests/", "/contests/demo/states", "/contests/demo/submissions//files"], 0.95)
+            return self.often("GET", ["HEAD", "POST", "PATCH", "PUT"], 0.9), path, ""
         name = self.often("submissions", SETTINGS, 0.7)
         ids = IDS.get(name, ["s1-1", "s1-2", "s2-1", "s3-1", "s1-01"])
         path = f"/contests/demo/{name}" + self.often("", [f"/{self.one(ids)}", "/x", "/"], 0.6)
@@ -135,8 +140,13 @@ def item(chance, contest, now):
 def walk(number, seed, steps):
     """A walk with the answers that it must get, and how often each kind of answer came."""
     chance, kinds = Chance(seed), collections.Counter()
-    contest = desk_opinion.new_contest("demo", START, DURATION)
-    text, now = f"\n== Walk {number}\nnothing is set up\n", START - 4_000_000
+    text, now = f"\n== Walk {number}\n", START - 4_000_000
+    start = chance.often(START, [None], 0.9)
+    marks = [chance.often(None, [START + chance.random.randint(-2_000_000, 26_000_000)], part) for part in (0.5, 0.8)]
+    contest = desk_opinion.new_contest(HEAD, start, *marks)
+    for words, mark in zip(("thawed from", "final from"), marks):
+        text += f"{words}: {desk_opinion.moment(mark).replace('+00:00', 'Z')}\n" if mark is not None else ""
+    text += ("" if start else "no start is set\n") + "nothing is set up\n"
     for step in range(steps):
         lines, answers = "", ""
         for _ in range(chance.random.randint(1, 3)):
@@ -163,7 +173,7 @@ def main():
         text, kinds = text + made, kinds + counted
     done = subprocess.run([options.program], input=text.encode(), capture_output=True, timeout=600)
     print(done.stderr.decode(), end="")
-    met = re.findall(r"(?m)^Walk \d+: (\d+) of (\d+), faults of the store: 0$", done.stdout.decode())
+    met = re.findall(r"(?m)^Walk \d+: (\d+) of (\d+), .*, faults of the store: 0$", done.stdout.decode())
     passed = sum(int(one) for one, _ in met)
     failed = options.walks * options.steps - passed
     if failed or done.returncode:

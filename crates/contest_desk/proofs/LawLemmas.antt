@@ -7,18 +7,20 @@ use Rattle.contest_types.specs.State.{FixedPart, ContestState}
 use Rattle.contest_types.specs.Valid.{is_valid}
 use Rattle.contest_types.specs.declared.audience.Audience.{Audience}
 use Rattle.contest_types.proofs.AddEntry.{adding_all}
+use Rattle.contest_view.specs.ContestObjects.{whole_data}
 use Rattle.contest_view.specs.SettingsObjects.{settings_data, setting_found}
+use Rattle.contest_view.proofs.FileReadLemmas.{files_alike}
 use Rattle.contest_view.proofs.ReadLaws.{alike_read}
 use Rattle.contest_desk.specs.Callers.{Caller, caller_of, audience_of}
 use Rattle.contest_desk.specs.Laws.{StayAlike, ReadsAlike, StepsAlike, StepsKeepValid}
 use Rattle.contest_desk.specs.Outcomes.{replying}
 use Rattle.contest_desk.specs.Paths.{object_piece}
 use Rattle.contest_desk.specs.Commands.{post_outcome}
-use Rattle.contest_desk.specs.Readings.{read, told}
+use Rattle.contest_desk.specs.Readings.{file_told, read, told}
 use Rattle.contest_desk.specs.Step.{wish_or_reply, outcome_of, outcome}
 use Rattle.contest_desk.specs.Wishes.{wish_outcome, IsSound}
 use Rattle.contest_desk.specs.declared.operation.Endpoint.TheVariants.{Settings, Submissions}
-use Rattle.contest_desk.specs.declared.operation.Reading.TheVariants.{List as AllOf, Object}
+use Rattle.contest_desk.specs.declared.operation.Reading.TheVariants.{Whole, List as AllOf, Object, File}
 use Rattle.contest_desk.specs.declared.reply.Reply.{Reply}
 use Rattle.contest_desk.specs.declared.request.Credential.{Credential}
 use Rattle.contest_desk.specs.declared.request.Request.{Request}
@@ -28,10 +30,12 @@ use Rattle.contest_desk.proofs.CommandLemmas.{post_addable, posts_alike}
 use Rattle.contest_desk.proofs.WishLemmas.{speaker, SpeaksFor, IfKnown, wished_known}
 
 pub reads_alike : ReadsAlike
+reads_alike a now x y (Whole endpoint) path held h = ap (λ (f : FixedPart). told (Some (whole_data endpoint f now))) h.fixed
 reads_alike a now x y (AllOf (Settings endpoint)) path held h = ap (λ (f : FixedPart). told (Some (settings_data endpoint f.settings))) h.fixed
 reads_alike a now x y (AllOf Submissions) path held h = ap (λ d. told (Some d)) (alike_read a now x y held h).0
 reads_alike a now x y (Object (Settings endpoint)) path held h = ap (λ (f : FixedPart). told (setting_found endpoint f.settings (object_piece path))) h.fixed
 reads_alike a now x y (Object Submissions) path held h = ap told ((alike_read a now x y held h).1 (object_piece path))
+reads_alike a now x y File path held h = ap file_told (files_alike a now x y (object_piece path) held h)
 
 come_alike : (a : Audience) (now : ℕ) (wish : Wish) (x y : ContestState) → is_valid x ≡ true → is_valid y ≡ true → IsSound x.fixed wish → speaker wish ≡ a → MayBeHeld a now x → Alike a x y
     → StayAlike a x y (wish_outcome now wish x) (wish_outcome now wish y)

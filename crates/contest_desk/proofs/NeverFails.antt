@@ -4,12 +4,13 @@ use Rattle.std.specs.Prelude.{◌==◌}
 use Rattle.std.proofs.lemmas.Bool.{false≢true}
 use Rattle.serde_json.specs.Data.{Data}
 use Rattle.contest_types.specs.State.{ContestState}
+use Rattle.contest_view.specs.FileReads.{file_found}
 use Rattle.contest_desk.specs.Laws.{StepsNeverFail}
 use Rattle.contest_types.specs.declared.audience.Audience.{Audience}
 use Rattle.contest_desk.specs.Paths.{object_piece}
 use Rattle.contest_desk.specs.declared.operation.Reading.{Reading}
-use Rattle.contest_desk.specs.declared.operation.Reading.TheVariants.{List as AllOf, Object}
-use Rattle.contest_desk.specs.Readings.{object_found, read, told}
+use Rattle.contest_desk.specs.declared.operation.Reading.TheVariants.{Whole, List as AllOf, Object, File}
+use Rattle.contest_desk.specs.Readings.{file_told, object_found, read, told}
 use Rattle.contest_desk.specs.Wishes.{wish_outcome}
 use Rattle.contest_desk.specs.declared.wish.Wish.{Wish}
 use Rattle.contest_desk.specs.declared.wish.Wish.TheVariants.{Read, Do}
@@ -25,9 +26,15 @@ found_ordinary : (o : Option Data) → IsOrdinary (told o)
 found_ordinary None = refl
 found_ordinary (Some d) = refl
 
+file_ordinary : (o : Option (List ℕ)) → IsOrdinary (file_told o)
+file_ordinary None = refl
+file_ordinary (Some bytes) = refl
+
 read_ordinary : (a : Audience) (now : ℕ) (x : ContestState) (reading : Reading) (path : List ℕ) → IsOrdinary (read a now x reading path)
+read_ordinary a now x (Whole endpoint) path = refl
 read_ordinary a now x (AllOf endpoint) path = refl
 read_ordinary a now x (Object endpoint) path = found_ordinary (object_found a now x endpoint (object_piece path))
+read_ordinary a now x File path = file_ordinary (file_found a now x (object_piece path))
 
 come_ordinary : (x : ContestState) (now : ℕ) (wish : Wish) → IsOrdinary (wish_outcome now wish x).reply
 come_ordinary x now (Read reading a path) = read_ordinary a now x reading path

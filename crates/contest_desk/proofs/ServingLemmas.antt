@@ -6,7 +6,7 @@ use Rattle.contest_types.specs.declared.entry.Entry.{Entry}
 use Rattle.contest_store.specs.Keeping.{Kept, Reads}
 use Rattle.contest_store.specs.declared.store_error.StoreError.{StoreError}
 use Rattle.contest_store.proofs.LeaveLemmas.{in_turn, restated}
-use Rattle.contest_desk.specs.Serving.{IsSettled, Keeps, commits_for}
+use Rattle.contest_desk.specs.Serving.{IsSettled, Keeps, OnlyReads, commits_for}
 
 -- the store is as settled after an item as before it
 pub stays_settled : {T : Type 0} (old new : Kept) (entries : List Entry) (own : Type 0) (r : Result T StoreError)
@@ -15,6 +15,17 @@ stays_settled old new entries own (Ok v) keeps settled l cleaned opened =
     let s = l.ok cleaned in
     (s.now_is ∙ sym s.kept_is, subst (λ x. is_valid x ≡ true) (sym s.now_is) (keeps (settled (l.clean cleaned) (l.up cleaned opened)).1))
 stays_settled old new entries own (Err e) keeps settled l cleaned opened =
+    let back = l.err cleaned opened in
+    let before = settled (l.clean cleaned) (l.up cleaned opened) in
+    (back.now_is ∙ sym back.kept_is, subst (λ x. is_valid x ≡ true) (sym (back.now_is ∙ sym before.0)) before.1)
+
+-- so it is after a look
+pub stays_settled_by : {T : Type 0} (old new : Kept) (r : Result T StoreError) → IsSettled old → OnlyReads r old new → IsSettled new
+stays_settled_by old new (Ok v) settled l cleaned opened =
+    let s = l.ok cleaned in
+    let before = settled (l.clean cleaned) (l.up cleaned opened) in
+    (s.now_is ∙ (before.0 ∙ sym s.kept_is), subst (λ x. is_valid x ≡ true) (sym s.now_is) before.1)
+stays_settled_by old new (Err e) settled l cleaned opened =
     let back = l.err cleaned opened in
     let before = settled (l.clean cleaned) (l.up cleaned opened) in
     (back.now_is ∙ sym back.kept_is, subst (λ x. is_valid x ≡ true) (sym (back.now_is ∙ sym before.0)) before.1)

@@ -9,7 +9,7 @@ use Rattle.contest_desk.specs.declared.offer.AllowedMethods.{AllowedMethods}
 use Rattle.contest_desk.specs.declared.reply.Reply.{Reply}
 use Rattle.contest_desk.specs.declared.reply.ExtraField.{ExtraField}
 use Rattle.contest_desk.specs.declared.reply.ExtraField.TheVariants.{Nothing, Allow, WwwAuthenticate}
-use Rattle.contest_desk.specs.declared.reply.ContentType.TheVariants.{Json}
+use Rattle.contest_desk.specs.declared.reply.ContentType.TheVariants.{Json, Zip}
 
 -- the object that a refusal's body is
 abbrev pub refusal_data : Refusal → Data
@@ -37,3 +37,7 @@ answer_with text = record { status = 200; content = Json; extra = Nothing; body 
 -- a value is answered as its compact text
 abbrev pub answer : Data → Reply
 answer d = answer_with (compact_text d)
+
+-- a file is answered as its bytes
+abbrev pub file_answer : List ℕ → Reply
+file_answer bytes = record { status = 200; content = Zip; extra = Nothing; body = bytes }

@@ -9,19 +9,20 @@ use Rattle.matchit.specs.Route.{Scan, parse_route}
 use Rattle.matchit.specs.Router.{RouteOf, route_from, nearest}
 use Rattle.matchit.specs.Seek.{first}
 use Rattle.matchit.specs.declared.error.InsertError.{InsertError}
+use Rattle.contest_view.specs.declared.contest_objects.ContestEndpoint.TheVariants.{Contests, Contest, State}
 use Rattle.contest_view.specs.declared.settings_objects.SettingsEndpoint.TheVariants.{Groups, JudgementTypes, Languages, Problems, Teams}
 use Rattle.contest_desk.specs.Offers.{nothing, reads}
 use Rattle.contest_desk.specs.declared.offer.Offer.{Offer}
 use Rattle.contest_desk.specs.declared.command.Command.TheVariants.{Submit, Propose}
 use Rattle.contest_desk.specs.declared.operation.Endpoint.TheVariants.{Settings, Submissions}
-use Rattle.contest_desk.specs.declared.operation.Reading.TheVariants.{List as AllOf, Object}
+use Rattle.contest_desk.specs.declared.operation.Reading.TheVariants.{Whole, List as AllOf, Object, File}
 
 -- each route's text, and what is offered there
 abbrev pub route_rows : List (List ℕ × Offer)
 route_rows =
-    (codes "/contests", nothing)
-    ∷ (codes "/contests/{contest}", nothing)
-    ∷ (codes "/contests/{contest}/state", nothing)
+    (codes "/contests", reads (Whole Contests))
+    ∷ (codes "/contests/{contest}", reads (Whole Contest))
+    ∷ (codes "/contests/{contest}/state", reads (Whole State))
     ∷ (codes "/contests/{contest}/scoreboard", nothing)
     ∷ (codes "/contests/{contest}/judgement-types", reads (AllOf (Settings JudgementTypes)))
     ∷ (codes "/contests/{contest}/judgement-types/{id}", reads (Object (Settings JudgementTypes)))
@@ -39,7 +40,7 @@ route_rows =
     ∷ (codes "/contests/{contest}/awards/{id}", nothing)
     ∷ (codes "/contests/{contest}/submissions", record (reads (AllOf Submissions)) { post = Some Submit })
     ∷ (codes "/contests/{contest}/submissions/{id}", reads (Object Submissions))
-    ∷ (codes "/contests/{contest}/submissions/{id}/files", nothing)
+    ∷ (codes "/contests/{contest}/submissions/{id}/files", reads File)
     ∷ (codes "/contests/{contest}/clarifications", nothing)
     ∷ (codes "/contests/{contest}/clarifications/{id}", nothing)
     ∷ (codes "/jury/proposals", record nothing { post = Some Propose })

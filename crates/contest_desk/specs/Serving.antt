@@ -1,11 +1,13 @@
 -- What serving a request or an import asks of a kept contest, and what it leaves of it, whoever keeps it (own).
-use Rattle.std.specs.Prelude.{◌≡◌, ◌⊎◌, ◌==◌, ℕ, true, false, List, [], ◌∷◌, Some, IsTrue, Result}
+use Rattle.std.specs.Prelude.{◌≡◌, ◌⊎◌, ◌==◌, ℕ, true, false, List, [], ◌∷◌, Some, IsTrue, Result, Ok, Err}
 use Rattle.contest_types.specs.State.{ContestState, add_all}
 use Rattle.contest_types.specs.Streams.{one_more}
 use Rattle.contest_types.specs.Valid.{is_valid}
 use Rattle.contest_types.specs.declared.entry.Entry.{Entry}
+use Rattle.contest_types.specs.declared.refusal.Refusal.{Refusal}
 use Rattle.contest_types.specs.declared.refusal.Refusal.TheVariants.{StoreFault, Memory}
 use Rattle.contest_store.specs.Keeping.{Kept, Leaves}
+use Rattle.contest_store.specs.StoreErrors.{refusal_of}
 use Rattle.contest_store.specs.declared.store_error.StoreError.{StoreError}
 use Rattle.contest_desk.specs.Outcomes.{Outcome}
 use Rattle.contest_desk.specs.Replies.{refused}
@@ -34,6 +36,15 @@ Keeps result old new entries own =
 -- what a request comes to is committed; `own` is where it may be refused memory while the store isn't
 abbrev pub Serves : {T : Type 0} → Result T StoreError → Kept → Kept → (ContestState → Outcome) → (own : Type 0) → Type 0
 Serves result old new outcome own = Keeps result old new (outcome old.contest).entries own
+
+-- nothing changes; the desk itself may be refused memory too
+abbrev pub OnlyReads : {T : Type 0} → Result T StoreError → Kept → Kept → Type 0
+OnlyReads result old new = Leaves result old new old.contest old.committed (λ c. ⊥) (λ n. n) (Unit {0})
+
+-- a failure is told as its refusal
+abbrev pub refused_as : {T : Type 0} → Result T StoreError → Result T Refusal
+refused_as (Ok v) = Ok v
+refused_as (Err e) = Err (refusal_of e)
 
 -- a refusal that the store or want of memory is the cause of
 abbrev pub IsStoreReply : Reply → Type 0

@@ -1,13 +1,13 @@
 -- What a known caller wishes, and what it comes to (own). What is off its form, or isn't for the caller's
 -- role, is refused before anything but the fixed part is read.
-use Rattle.std.specs.Prelude.{ℕ, Bool, true, List, Option, None, Result, Ok, Err}
+use Rattle.std.specs.Prelude.{ℕ, Bool, true, List, Option, Result, Ok, Err}
 use Rattle.contest_types.specs.State.{FixedPart, ContestState}
 use Rattle.contest_types.specs.declared.refusal.Refusal.{Refusal}
 use Rattle.contest_store.specs.Lists.{loaded}
 use Rattle.contest_desk.specs.Callers.{Caller, audience_of}
 use Rattle.contest_desk.specs.Commands.{IsSoundPost, file_at, post_file, post_outcome, post_takes_memory, posted_by}
 use Rattle.contest_desk.specs.Outcomes.{Outcome, replying}
-use Rattle.contest_desk.specs.Readings.{read}
+use Rattle.contest_desk.specs.Readings.{read, read_file}
 use Rattle.contest_desk.specs.declared.command.Posted.{Posted}
 use Rattle.contest_desk.specs.declared.operation.Operation.{Operation}
 use Rattle.contest_desk.specs.declared.operation.Operation.TheVariants.{Read as ToRead, Do as ToDo}
@@ -41,7 +41,7 @@ takes_memory who (ToDo command) = post_takes_memory who command
 
 -- whose file is looked at, by its team and its number
 abbrev pub file_needed : Wish → ContestState → Option (ℕ × ℕ)
-file_needed (Read reading a path) x = None
+file_needed (Read reading a path) x = read_file a reading path x
 file_needed (Do posted) x = post_file posted x
 
 -- that file, if there is one

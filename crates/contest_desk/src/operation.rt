@@ -1,6 +1,6 @@
 //! What may be asked of a contest.
 use crate::command::Command;
-use contest_view::SettingsEndpoint;
+use contest_view::{ContestEndpoint, SettingsEndpoint};
 
 /// A collection of objects (Contest API 2023-06, endpoints).
 #[derive(Clone, Copy)]
@@ -14,10 +14,14 @@ pub enum Endpoint {
 /// What is read.
 #[derive(Clone, Copy)]
 pub enum Reading {
+    /// What is served of the contest as a whole, to everybody alike.
+    Whole(ContestEndpoint),
     /// The objects of an endpoint that the caller sees, as an array.
     List(Endpoint),
     /// One of them, by its id.
     Object(Endpoint),
+    /// The file of a submission, by its id, for the team itself and the jury.
+    File,
 }
 
 /// What a request asks for.

@@ -1,6 +1,6 @@
 //! What the desk answers.
 ghost use Rattle.std.specs.Prelude.{◌≡◌};
-ghost use Rattle.contest_desk.specs.Replies.{answer_with, refused, refused_method};
+ghost use Rattle.contest_desk.specs.Replies.{answer_with, file_answer, refused, refused_method};
 
 use crate::offer::AllowedMethods;
 use contest_types::Refusal;
@@ -123,6 +123,18 @@ impl Reply {
             content: ContentType::Json,
             extra: ExtraField::Nothing,
             body: ReplyBody::made(text),
+        }
+    }
+
+    /// The answer with the bytes of this file.
+    pub fn file(bytes: Vec<u8>) -> Reply
+        ensures { result ≡ file_answer bytes.items }
+    {
+        Reply {
+            status: 200,
+            content: ContentType::Zip,
+            extra: ExtraField::Nothing,
+            body: ReplyBody::made(bytes),
         }
     }
 }

@@ -6,7 +6,7 @@ ghost use Rattle.contest_desk.specs.Routes.{offer_in, route_rows, routes, takes_
 use crate::command::Command;
 use crate::offer::Offer;
 use crate::operation::{Endpoint, Reading};
-use contest_view::SettingsEndpoint;
+use contest_view::{ContestEndpoint, SettingsEndpoint};
 use matchit::{InsertError, Router};
 use std::alloc::{AllocError, Global};
 
@@ -19,9 +19,27 @@ const NOTHING: Offer = Offer {
 /// The text of each route, as matchit reads it, and what is offered there (paths are the Contest API
 /// 2023-06's; those under `/jury/` are own).
 const ROUTES: [(&str, Offer); 31] = [
-    ("/contests", NOTHING),
-    ("/contests/{contest}", NOTHING),
-    ("/contests/{contest}/state", NOTHING),
+    (
+        "/contests",
+        Offer {
+            get: Some(Reading::Whole(ContestEndpoint::Contests)),
+            ..NOTHING
+        },
+    ),
+    (
+        "/contests/{contest}",
+        Offer {
+            get: Some(Reading::Whole(ContestEndpoint::Contest)),
+            ..NOTHING
+        },
+    ),
+    (
+        "/contests/{contest}/state",
+        Offer {
+            get: Some(Reading::Whole(ContestEndpoint::State)),
+            ..NOTHING
+        },
+    ),
     ("/contests/{contest}/scoreboard", NOTHING),
     (
         "/contests/{contest}/judgement-types",
@@ -112,7 +130,13 @@ const ROUTES: [(&str, Offer); 31] = [
             ..NOTHING
         },
     ),
-    ("/contests/{contest}/submissions/{id}/files", NOTHING),
+    (
+        "/contests/{contest}/submissions/{id}/files",
+        Offer {
+            get: Some(Reading::File),
+            ..NOTHING
+        },
+    ),
     ("/contests/{contest}/clarifications", NOTHING),
     ("/contests/{contest}/clarifications/{id}", NOTHING),
     (

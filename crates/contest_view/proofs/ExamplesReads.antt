@@ -7,7 +7,8 @@ use Rattle.contest_types.specs.State.{ContestState}
 use Rattle.contest_types.specs.declared.audience.Audience.{Audience}
 use Rattle.contest_types.specs.declared.audience.Audience.TheVariants as audience
 use Rattle.contest_types.proofs.ExampleContest.{hours, accepted, submitted, released}
-use Rattle.contest_types.proofs.ExampleTalk.{base}
+use Rattle.contest_types.proofs.ExampleTalk.{base, hidden_submission, own_submission}
+use Rattle.contest_view.specs.FileReads.{file_found}
 use Rattle.contest_view.specs.Items.{Item}
 use Rattle.contest_view.specs.Reads.{submission_items, submission_found}
 
@@ -39,6 +40,31 @@ found_by_itself = refl
 other_text : submission_found audience.Jury (hours 5) base (codes "s4-01") ≡ None
 unfolding digits
 other_text = refl
+
+-- a file is for the team itself and the jury alone; of others, seen or not, it is as one that isn't there
+own_file : file_found (audience.Team 1) (hours 5) base (codes "s1-1") ≡ Some own_submission.file
+unfolding digits
+own_file = refl
+
+jurys_file : file_found audience.Jury (hours 5) base (codes "s4-1") ≡ Some hidden_submission.file
+unfolding digits
+jurys_file = refl
+
+others_file : file_found (audience.Team 2) (hours 5) base (codes "s1-1") ≡ None
+unfolding digits
+others_file = refl
+
+hidden_file : file_found (audience.Team 2) (hours 5) base (codes "s4-1") ≡ None
+unfolding digits
+hidden_file = refl
+
+publics_file : file_found audience.Public (hours 5) base (codes "s1-1") ≡ None
+unfolding digits
+publics_file = refl
+
+no_file : file_found audience.Jury (hours 5) base (codes "s1-2") ≡ None
+unfolding digits
+no_file = refl
 
 -- verdicts on the hidden team's submissions, before the freeze and in it, are seen by itself and the jury alone;
 -- in the freeze it learns no other team's

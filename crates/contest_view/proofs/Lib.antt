@@ -2,6 +2,7 @@ pub mod ObjectLemmas
 pub mod ProposalObjectLemmas
 pub mod CollectionLemmas
 pub mod SettingsObjectLemmas
+pub mod ContestObjectLemmas
 pub mod KeyPlaces
 pub mod Sorting
 pub mod SeenApart
@@ -10,5 +11,6 @@ pub mod SeenArray
 pub mod SubmissionIds
 pub mod SeenById
 pub mod ReadLaws
+pub mod FileReadLemmas
 mod ExamplesState
 mod ExamplesReads

@@ -78,7 +78,7 @@ found_as a now x id =
     ap (option_map (λ (i : Item). i.object)) (find_mapped (λ (i : Item). bytes_eq i.id id) (submission_item x.fixed) (seen_submissions a now x)) ∙ both (find (has_this_id id) (seen_submissions a now x))
 
 -- files don't enter
-found_loaded : (a : Audience) (x : ContestState) (id : List ℕ) → find (is_asked a x id) (loaded_submissions x) ≡ option_map without_file (find (is_asked a x id) x.submissions)
+pub found_loaded : (a : Audience) (x : ContestState) (id : List ℕ) → find (is_asked a x id) (loaded_submissions x) ≡ option_map without_file (find (is_asked a x id) x.submissions)
 found_loaded a x id = find_mapped (is_asked a x id) without_file x.submissions
 
 from_loaded : (o : Option Submission) (row : Submission) → option_map without_file o ≡ Some row → (s : Submission) × (o ≡ Some s) × (row ≡ without_file s)

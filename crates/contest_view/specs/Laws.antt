@@ -1,6 +1,9 @@
 -- What holds of all that is read, in the subject's words. Each is the contract of a function of src/laws.rt.
 use Rattle.std.specs.Prelude.{◌≡◌, ℕ, true, List, Some, None, if◌then◌else◌}
+use Rattle.std.specs.Option.{option_and_then}
 use Rattle.contest_types.specs.Alike.{Alike, MayBeHeld}
+use Rattle.contest_types.specs.Loads.{file_of, loaded_submissions}
+use Rattle.contest_types.specs.Masks.{knows_all_of}
 use Rattle.contest_types.specs.Order.{Has}
 use Rattle.contest_types.specs.State.{ContestState}
 use Rattle.contest_types.specs.Sight.{sees_submission, seen_submission}
@@ -8,6 +11,7 @@ use Rattle.contest_types.specs.Valid.{is_valid}
 use Rattle.contest_types.specs.declared.audience.Audience.{Audience}
 use Rattle.contest_types.specs.declared.submission.Submission.{Submission}
 use Rattle.contest_types.specs.VisibleIds.{submission_id}
+use Rattle.contest_view.specs.FileReads.{file_found, file_place}
 use Rattle.contest_view.specs.Objects.{submission_object}
 use Rattle.contest_view.specs.Reads.{submissions_data, submission_found}
 
@@ -16,6 +20,11 @@ abbrev pub AlikeReadTheSame : Type 0
 AlikeReadTheSame =
     (a : Audience) (now : ℕ) (x y : ContestState) → MayBeHeld a now x → Alike a x y
     → (submissions_data a now x ≡ submissions_data a now y) × ((id : List ℕ) → submission_found a now x id ≡ submission_found a now y id)
+
+-- and the same files, by any id
+abbrev pub AlikeReadTheSameFiles : Type 0
+AlikeReadTheSameFiles =
+    (a : Audience) (now : ℕ) (x y : ContestState) (id : List ℕ) → MayBeHeld a now x → Alike a x y → file_found a now x id ≡ file_found a now y id
 
 -- in a valid contest a submission is found by its id where it is seen, and nothing is found where it isn't
 abbrev pub SeenIsFound : Type 0
@@ -28,3 +37,15 @@ abbrev pub NothingElseIsFound : Type 0
 NothingElseIsFound =
     (a : Audience) (now : ℕ) (x : ContestState) → is_valid x ≡ true → (id : List ℕ) → ((s : Submission) → Has x.submissions s → submission_id s.team s.number ≡ id → ⊥)
     → submission_found a now x id ≡ None
+
+-- in a valid contest the file of a submission is read by its id by its team and the jury, and by nobody else
+abbrev pub FilesAreForTheirTeams : Type 0
+FilesAreForTheirTeams =
+    (a : Audience) (now : ℕ) (x : ContestState) → is_valid x ≡ true → (s : Submission) → Has x.submissions s
+    → file_found a now x (submission_id s.team s.number) ≡ (if knows_all_of a s.team then Some s.file else None)
+
+-- in a valid contest the file that is read is that of the submission which its place names
+abbrev pub PlacedFileIsFound : Type 0
+PlacedFileIsFound =
+    (a : Audience) (now : ℕ) (x : ContestState) (id : List ℕ) → is_valid x ≡ true
+    → option_and_then (λ (p : ℕ × ℕ). file_of x p.0 p.1) (file_place a x.fixed (loaded_submissions x) id) ≡ file_found a now x id

@@ -1,3 +1,4 @@
+pub mod Times
 pub mod Objects
 pub mod Members
 pub mod Items
@@ -6,4 +7,6 @@ pub mod ProposalObjects
 pub mod Reads
 pub mod Keys
 pub mod StateObject
+pub mod ContestObjects
+pub mod FileReads
 pub mod Laws

@@ -2,14 +2,18 @@
 -- Words of private functions: nothing public is said with them.
 use Rattle.std.specs.Prelude.{ℕ, List, [], ◌∷◌, Option, Some, None}
 use Rattle.serde_json.specs.Data.{Data, Members, boolean, number, put, string, unsigned}
+use Rattle.contest_view.specs.Times.{moment_or_null, span_data, span_or_null}
 use Rattle.contest_view.specs.declared.members.Member.{Member}
-use Rattle.contest_view.specs.declared.members.Member.TheVariants.{Text, Number, Flag, Absent}
+use Rattle.contest_view.specs.declared.members.Member.TheVariants.{Text, Number, Flag, Span, SpanOrNull, TimeOrNull, Absent}
 
 -- what stands under a name, if anything
 abbrev pub shown : Member → Option Data
 shown (Text t) = Some (string t.now)
 shown (Number n) = Some (number (unsigned n))
 shown (Flag b) = Some (boolean b)
+shown (Span s) = Some (span_data s.now)
+shown (SpanOrNull s) = Some (span_or_null s.now)
+shown (TimeOrNull m) = Some (moment_or_null m.now)
 shown Absent = None
 
 -- the members, with one that is only there with a value

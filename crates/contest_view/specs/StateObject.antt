@@ -4,14 +4,7 @@ use Rattle.std.specs.Prelude.{ℕ, nat_le, Option, None, Some, if◌then◌else�
 use Rattle.contest_types.specs.Setup.{Setup}
 use Rattle.contest_types.specs.Clock.{reached, end_of, freeze_of}
 use Rattle.contest_types.specs.declared.marks.Marks.{Marks}
-
-pub record StateTimes : Type 0 where
-  pub started : Option ℕ
-  pub frozen : Option ℕ
-  pub ended : Option ℕ
-  pub thawed : Option ℕ
-  pub finalized : Option ℕ
-  pub end_of_updates : Option ℕ
+pub use Rattle.contest_view.specs.declared.state_object.StateTimes.{StateTimes}
 
 -- a moment that is there and not after now
 abbrev pub come : Option ℕ → (now : ℕ) → Option ℕ
@@ -35,17 +28,20 @@ abbrev pub last_update : (freeze thawed finalized : Option ℕ) → Option ℕ
 last_update None thawed finalized = finalized
 last_update (Some freeze) thawed finalized = both_come thawed finalized
 
+-- the thaw, once there is something to thaw
+abbrev pub thawed_from : Setup → Marks → (now : ℕ) → Option ℕ
+thawed_from s marks now = once (come (freeze_of s marks) now) (come marks.thaw now)
+
+-- the final results, once the contest has ended
+abbrev pub final_from : Setup → Marks → (now : ℕ) → Option ℕ
+final_from s marks now = once (come (end_of s marks) now) (come marks.finalized now)
+
 abbrev pub state_times : Setup → Marks → (now : ℕ) → StateTimes
-state_times s marks now =
-    let frozen = come (freeze_of s marks) now in
-    let ended = come (end_of s marks) now in
-    let thawed = once frozen (come marks.thaw now) in
-    let finalized = once ended (come marks.finalized now) in
-    record {
-      started = come marks.start now;
-      frozen = frozen;
-      ended = ended;
-      thawed = thawed;
-      finalized = finalized;
-      end_of_updates = last_update (freeze_of s marks) thawed finalized;
-    }
+state_times s marks now = record {
+  started = come marks.start now;
+  frozen = come (freeze_of s marks) now;
+  ended = come (end_of s marks) now;
+  thawed = thawed_from s marks now;
+  finalized = final_from s marks now;
+  end_of_updates = last_update (freeze_of s marks) (thawed_from s marks now) (final_from s marks now);
+}

@@ -1,11 +1,16 @@
 //! Laws of what is served: functions that do nothing, and whose contracts say what holds of every
 //! contest.
-ghost use Rattle.contest_view.specs.Laws.{AlikeReadTheSame, SeenIsFound, NothingElseIsFound};
+ghost use Rattle.contest_view.specs.Laws.{AlikeReadTheSame, AlikeReadTheSameFiles, SeenIsFound, NothingElseIsFound, FilesAreForTheirTeams, PlacedFileIsFound};
 
 /// Until the thaw, contests that are alike for an audience give it the same submissions to read, all
 /// of them and by any id.
 pub fn submissions_alike()
     ensures { AlikeReadTheSame }
+{}
+
+/// And the same files, by any id.
+pub fn files_alike()
+    ensures { AlikeReadTheSameFiles }
 {}
 
 /// In a valid contest a submission is found by its id where the audience sees it, and nothing is found
@@ -17,4 +22,15 @@ pub fn seen_is_found()
 /// By an id that no submission has nothing is found.
 pub fn nothing_else_is_found()
     ensures { NothingElseIsFound }
+{}
+
+/// In a valid contest the file of a submission is read by its id by its team and the jury, and by
+/// nobody else.
+pub fn files_are_for_their_teams()
+    ensures { FilesAreForTheirTeams }
+{}
+
+/// In a valid contest the file that is read is that of the submission which `file_place` names.
+pub fn placed_file_is_found()
+    ensures { PlacedFileIsFound }
 {}

@@ -1,12 +1,13 @@
 //! Objects by their members, and values that come as texts.
-ghost use Rattle.std.specs.Prelude.{◌≡◌, ◌-ℤ◌, pos, IfOk, OnOk, map, option_map};
+ghost use Rattle.std.specs.Prelude.{◌≡◌, IfOk, OnOk, map, option_map};
 ghost use Rattle.serde_json.specs.Data.{no_members, object, string};
 ghost use Rattle.serde_json.specs.View.{view, members_view};
 ghost use Rattle.contest_types.specs.MomentText.{moment_text};
 ghost use Rattle.contest_types.specs.RelTimeText.{rel_time_text};
 ghost use Rattle.contest_view.specs.Members.{put_where, shown, with_all};
+ghost use Rattle.contest_view.specs.Times.{moment_or_null, span_data, span_or_null};
 
-use contest_types::{Moment, RelTime, print_reltime, print_time};
+use contest_types::{Moment, RelTime, TimeSpan, print_reltime, print_time};
 use serde_json::{Map, Value, put};
 use std::alloc::{AllocError, Global};
 
@@ -19,6 +20,12 @@ pub(crate) enum Member<'a> {
     Number(u64),
     /// True or false.
     Flag(bool),
+    /// A length of time.
+    Span(&'a TimeSpan),
+    /// A length of time, or null where there is none.
+    SpanOrNull(&'a Option<TimeSpan>),
+    /// A moment, or null where there is none.
+    TimeOrNull(&'a Option<Moment>),
     /// Nothing: the object has no such name.
     Absent,
 }
@@ -77,6 +84,9 @@ fn member_value(alloc: Global, member: Member<'_>) -> Result<Option<Value>, Allo
         Member::Text(text) => Ok(Some(Value::try_from_str(alloc, text)?)),
         Member::Number(number) => Ok(Some(Value::from(number))),
         Member::Flag(flag) => Ok(Some(Value::Bool(flag))),
+        Member::Span(span) => Ok(Some(span_value(alloc, *span)?)),
+        Member::SpanOrNull(span) => Ok(Some(span_or_null(alloc, *span)?)),
+        Member::TimeOrNull(moment) => Ok(Some(moment_or_null(alloc, *moment)?)),
         Member::Absent => Ok(None),
     }
 }
@@ -92,14 +102,41 @@ pub(crate) fn moment_value(alloc: Global, moment: Moment) -> Result<Value, Alloc
     }
 }
 
-/// The text of the time from one moment to another.
-pub(crate) fn reltime_value(alloc: Global, start: Moment, time: Moment) -> Result<Value, AllocError>
-    ensures { IfOk result (λ v. view v ≡ string (rel_time_text (pos time -ℤ pos start))) }
+/// The text of a time.
+pub(crate) fn reltime_value(alloc: Global, time: RelTime) -> Result<Value, AllocError>
+    ensures { IfOk result (λ v. view v ≡ string (rel_time_text time)) }
 {
     let mut buffer = [0; 24];
-    let length = print_reltime(RelTime::between(start, time), &mut buffer);
+    let length = print_reltime(time, &mut buffer);
     match std::str::from_utf8(&buffer[..length]) {
         Ok(text) => Value::try_from_str(alloc, text),
         Err(_) => unreachable!(),
+    }
+}
+
+fn moment_or_null(alloc: Global, moment: Option<Moment>) -> Result<Value, AllocError>
+    ensures { IfOk result (λ v. view v ≡ moment_or_null moment) }
+{
+    match moment {
+        Some(moment) => moment_value(alloc, moment),
+        None => Ok(Value::Null),
+    }
+}
+
+fn span_or_null(alloc: Global, span: Option<TimeSpan>) -> Result<Value, AllocError>
+    ensures { IfOk result (λ v. view v ≡ span_or_null span) }
+{
+    match span {
+        Some(span) => span_value(alloc, span),
+        None => Ok(Value::Null),
+    }
+}
+
+fn span_value(alloc: Global, span: TimeSpan) -> Result<Value, AllocError>
+    ensures { IfOk result (λ v. view v ≡ span_data span) }
+{
+    match RelTime::from_milliseconds(span.milliseconds() as i64) {
+        Some(time) => reltime_value(alloc, time),
+        None => unreachable!(),
     }
 }

@@ -10,7 +10,7 @@ ghost use Rattle.contest_view.specs.Objects.{contest_time_data, file_array, file
 
 use crate::members::{Member, moment_value, put_all, put_where, reltime_value};
 use crate::submission_id::submission_id;
-use contest_types::{Audience, Fixed, Moment, Name, Settings, Submission, knows_all_of};
+use contest_types::{Audience, Fixed, Moment, Name, RelTime, Settings, Submission, knows_all_of};
 use serde_json::{Map, Value, json, put};
 use std::alloc::{AllocError, Global};
 
@@ -91,7 +91,7 @@ fn contest_time_value(
     ensures { IfOk result (λ v. view v ≡ contest_time_data start time) }
 {
     match start {
-        Some(start) => reltime_value(alloc, start, time),
+        Some(start) => reltime_value(alloc, RelTime::between(start, time)),
         None => Ok(Value::Null),
     }
 }

@@ -5,13 +5,14 @@ ghost use Rattle.serde_json.specs.Written.{has_float};
 ghost use Rattle.contest_types.specs.Loads.{loaded_submissions};
 ghost use Rattle.contest_types.specs.State.{ContestState};
 ghost use Rattle.contest_types.specs.Valid.{is_valid};
+ghost use Rattle.contest_view.specs.FileReads.{file_place};
 ghost use Rattle.contest_view.specs.Reads.{submissions_data, submission_found};
 
 use crate::collection::{Collection, objects_at, with_id};
 use crate::submission_id::has_submission_id;
 use crate::submission_object::submission_value;
 use crate::submission_order::{SubmissionKey, seen_keys};
-use contest_types::{Audience, Fixed, Submission, sees_team};
+use contest_types::{Audience, Fixed, Submission, knows_all_of, sees_team};
 use serde_json::Value;
 use std::alloc::{AllocError, Global};
 
@@ -102,5 +103,23 @@ pub fn submission_by_id(
     match with_id(&collection, submissions, id) {
         Some(submission) => Ok(Some(submission_value(alloc, fixed, audience, submission)?)),
         None => Ok(None),
+    }
+}
+
+/// Whose file an audience reads by an id: by the place of the team, from 0, and the submission's number,
+/// from 1. None where it doesn't see such a submission, or isn't shown its program. It takes no memory.
+pub fn file_place(
+    fixed: &Fixed,
+    audience: Audience,
+    submissions: &[Submission],
+    id: &[u8],
+) -> Option<(usize, usize)>
+    ensures { result ≡ file_place audience fixed.now submissions.now id.now }
+{
+    let submission = with_id(&Submissions { fixed, audience }, submissions, id)?;
+    if knows_all_of(audience, submission.team) {
+        Some((submission.team, submission.number))
+    } else {
+        None
     }
 }

@@ -6,8 +6,8 @@ ghost use Rattle.contest_store.specs.InMemory.{kept_of};
 
 use contest_desk::Desk;
 use contest_fixtures::{SettingRow, demo, id};
-use contest_store::{MemoryStore, is_valid_fixed};
-use contest_types::{Account, Digest, Fixed, Role, Rows};
+use contest_store::{MemoryStore, copied_fixed, is_valid_fixed};
+use contest_types::{Account, Digest, Fixed, Marks, Moment, Refusal, Role, Rows};
 use sha2::{Digest as _, Sha256};
 use std::alloc::Global;
 use std::rc::Rc;
@@ -57,8 +57,16 @@ fn accounts(alloc: Global) -> Result<Rows<Account>, Fail> {
     Ok(accounts)
 }
 
+/// Whether a walk begins at a desk at which nothing is set up but the contest.
+fn is_bare(walk: &str) -> bool {
+    match walk.split_once("\n\n") {
+        Some((head, _)) => head.ends_with("nothing is set up"),
+        None => false,
+    }
+}
+
 /// The contest with all that is set up, or alone.
-fn fixed(alloc: Global, is_bare: bool) -> Result<Rc<Fixed>, Fail> {
+fn set_up(alloc: Global, is_bare: bool) -> Result<Rc<Fixed>, Fail> {
     if is_bare {
         demo(alloc, &[], Rows::new(alloc))
     } else {
@@ -66,28 +74,56 @@ fn fixed(alloc: Global, is_bare: bool) -> Result<Rc<Fixed>, Fail> {
     }
 }
 
+/// The contest with the marks of the clock that a walk sets.
+fn fixed(alloc: Global, walk: &str) -> Result<Rc<Fixed>, Fail> {
+    let demo = set_up(alloc, is_bare(walk))?;
+    let mut fixed = copied_fixed(alloc, &demo)?;
+    set_marks(&mut fixed.marks, walk)?;
+    Ok(Rc::new(alloc, fixed)?)
+}
+
+fn set_marks(marks: &mut Marks, walk: &str) -> Result<(), Refusal> {
+    if walk.split_once("\nno start is set\n").is_some() {
+        marks.start = None;
+    }
+    marks.thaw = moment_after(walk, "thawed from: ")?;
+    marks.finalized = moment_after(walk, "final from: ")?;
+    Ok(())
+}
+
+/// The moment that stands after these words, up to the end of the line.
+fn moment_after(text: &str, words: &str) -> Result<Option<Moment>, Refusal> {
+    match text.split_once(words) {
+        Some((_, rest)) => Moment::parse(rest.lines().next().unwrap_or("")),
+        None => Ok(None),
+    }
+}
+
+/// The number that stands after these words, up to the end of the line.
+pub fn number_after(text: &str, words: &str) -> Option<u32> {
+    let (_, rest) = text.split_once(words)?;
+    let (number, _) = rest.split_once('\n')?;
+    number.parse().ok()
+}
+
 /// A store in which nothing was submitted yet. It fails once, at the call after so many, if it is to.
-fn store(alloc: Global, is_bare: bool, failing: Option<u32>) -> Result<MemoryStore, Fail>
+fn store(alloc: Global, walk: &str) -> Result<MemoryStore, Fail>
     ensures { IfOk result (λ store. IsSettled (kept_of store)) }
 {
-    let fixed = fixed(alloc, is_bare)?;
+    let fixed = fixed(alloc, walk)?;
     if !is_valid_fixed(&fixed) {
         return Err(Fail::from("the demo contest isn't valid"));
     }
     let mut store = MemoryStore::new(alloc, fixed);
-    if let Some(calls) = failing {
+    if let Some(calls) = number_after(walk, "calls until the store fails: ") {
         store.fail_after(calls);
     }
     Ok(store)
 }
 
-/// A desk over that store.
-pub fn desk_over(
-    alloc: Global,
-    is_bare: bool,
-    failing: Option<u32>,
-) -> Result<Desk<MemoryStore>, Fail> {
-    match Desk::new(alloc, store(alloc, is_bare, failing)?) {
+/// The desk at which a walk begins.
+pub fn desk_for(alloc: Global, walk: &str) -> Result<Desk<MemoryStore>, Fail> {
+    match Desk::new(alloc, store(alloc, walk)?) {
         Ok(desk) => Ok(desk),
         Err(_) => Err(Fail::from("no desk")),
     }

@@ -1,50 +1,51 @@
 //! A walk: its name, and then steps at one desk, with an empty line before each. A step is requests and
 //! imports that come in one run, and then their answers.
 
-use crate::demo_desk::desk_over;
+use crate::demo_desk::{desk_for, number_after};
 use crate::reply_line::{is_answer, line_of};
 use crate::request_lines::items_of;
 use contest_desk::Desk;
 use contest_store::MemoryStore;
+use contest_types::Moment;
 use std::alloc::{AllocError, Global};
 use std::test::Fail;
 
 /// What came of a walk: each step that was answered otherwise than it says, and a line for the whole.
 pub fn report_of(alloc: Global, walk: &str) -> Result<String, Fail> {
-    let failing = number_after(walk, "calls until the store fails: ");
-    let mut desk = desk_over(alloc, is_bare(walk), failing)?;
+    let mut desk = desk_for(alloc, walk)?;
     let mut report = String::new(alloc);
     let (steps, met) = go(alloc, &mut report, &mut desk, walk)?;
+    let standing = standing_text(alloc, &mut desk)?;
     let faults = desk.into_store().faults();
-    add_whole(alloc, &mut report, walk, (steps, met, faults))?;
+    let (name, _) = walk.split_once('\n').unwrap_or((walk, ""));
+    let whole = format!(in alloc;
+        "{name}: {met} of {steps}, {standing}, faults of the store: {faults}\n"
+    )?;
+    report.push_str(whole.as_str())?;
     Ok(report)
 }
 
-/// Whether a walk begins at a desk at which nothing is set up but the contest.
-fn is_bare(walk: &str) -> bool {
-    match walk.split_once("\n\n") {
-        Some((head, _)) => head.ends_with("nothing is set up"),
-        None => false,
+/// What stands at the end: how many teams, and the start in milliseconds, 0 where none is set; or why
+/// that isn't told.
+fn standing_text(alloc: Global, desk: &mut Desk<MemoryStore>) -> Result<String, AllocError> {
+    match desk.fixed(alloc) {
+        Ok((settings, marks)) => {
+            let teams = settings.teams().len();
+            let start = milliseconds_of(marks.start);
+            format!(in alloc; "teams {teams}, start {start}")
+        }
+        Err(refusal) => {
+            let name = refusal.row().name;
+            format!(in alloc; "{name}")
+        }
     }
 }
 
-/// The line for the whole: how many steps, how many were answered as they say, and the store's faults.
-fn add_whole(
-    alloc: Global,
-    report: &mut String,
-    walk: &str,
-    (steps, met, faults): (u32, u32, u64),
-) -> Result<(), AllocError> {
-    let (name, _) = walk.split_once('\n').unwrap_or((walk, ""));
-    let line = format!(in alloc; "{name}: {met} of {steps}, faults of the store: {faults}\n")?;
-    report.push_str(line.as_str())
-}
-
-/// The number that stands after these words, up to the end of the line.
-fn number_after(text: &str, words: &str) -> Option<u32> {
-    let (_, rest) = text.split_once(words)?;
-    let (number, _) = rest.split_once('\n')?;
-    number.parse().ok()
+fn milliseconds_of(moment: Option<Moment>) -> u64 {
+    match moment {
+        Some(moment) => moment.milliseconds(),
+        None => 0,
+    }
 }
 
 /// Goes the steps of a walk: how many they are, and how many of them were answered as they say.

@@ -1,5 +1,5 @@
 use Rattle.std.proofs.Common.{◌∙◌, ap, sym}
-use Rattle.contest_desk.proofs.answer.object.Goals as goal
+use Rattle.contest_desk.proofs.reading.object.Goals as goal
 
 pub returns-in-Submissions-clause-seen : goal.returns-in-Submissions-clause-seen
 returns-in-Submissions-clause-seen c = λ now x valid is.
