@@ -9,7 +9,7 @@ use Rattle.contest_words.specs.CommandErrors.{exit_status_of, line_of}
 use Rattle.contest_cli.specs.Runs.{Runs}
 use Rattle.contest_words.specs.declared.command_error.CommandError.TheVariants.{Refused}
 use Rattle.contest_cli.specs.declared.invocation.CommandName.{CommandName}
-use Rattle.contest_cli.specs.declared.invocation.CommandName.TheVariants.{Replay, Init, Import}
+use Rattle.contest_cli.specs.declared.invocation.CommandName.TheVariants.{Replay, Init, Import, Serve}
 use Rattle.contest_words.proofs.StreamLemmas.{keeps_same}
 use Rattle.contest_replay_cli.proofs.ReplayLemmas.{stopped}
 
@@ -22,4 +22,6 @@ out_of_memory g Found Replay words in_old in_new out err_old err_new status is t
 out_of_memory g Found Init words in_old in_new out err_old err_new status is told =
     (inl (Refused Memory, inr (inl refl), is, told), keeps_same out.bytes)
 out_of_memory g Found Import words in_old in_new out err_old err_new status is told =
+    inl ((Refused Memory, inr (inl refl), is, told), keeps_same out.bytes)
+out_of_memory g Found Serve words in_old in_new out err_old err_new status is told =
     inl ((Refused Memory, inr (inl refl), is, told), keeps_same out.bytes)

@@ -6,3 +6,5 @@ mod ImportLemmas
 mod HostLemmas
 mod CommandLemmas
 mod ServingLemmas
+mod NumberLemmas
+mod ServeEndings

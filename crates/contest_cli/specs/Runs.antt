@@ -6,9 +6,10 @@ use Rattle.sqlite_trees.specs.declared.store.Store.{Ghosts}
 use Rattle.sqlite.specs.Held.{Held}
 use Rattle.contest_types.specs.Streams.{Stream}
 use Rattle.contest_cli.specs.FileCommands.{ImportsByWords, InitsByWords}
+use Rattle.contest_cli.specs.Serve.{ServesByWords}
 use Rattle.contest_replay_cli.specs.Replay.{Replays}
 use Rattle.contest_cli.specs.declared.invocation.CommandName.{CommandName}
-use Rattle.contest_cli.specs.declared.invocation.CommandName.TheVariants.{Replay, Init, Import}
+use Rattle.contest_cli.specs.declared.invocation.CommandName.TheVariants.{Replay, Init, Import, Serve}
 
 -- on a machine whose stores are of some type S, of which this is known of one that was opened
 abbrev pub Runs : {S : Type 0} → Ghosts S → (Held S → Type 0) → CommandName → List Text
@@ -19,3 +20,5 @@ Runs g Found Init words in_old in_new out_old out_new err_old err_new status =
     InitsByWords g Found words err_old err_new status × Keeps out_old.bytes out_new.bytes
 Runs g Found Import words in_old in_new out_old out_new err_old err_new status =
     ImportsByWords g Found words out_old out_new err_old err_new status
+Runs g Found Serve words in_old in_new out_old out_new err_old err_new status =
+    ServesByWords words out_old out_new err_old err_new status

@@ -37,15 +37,19 @@ pub record Serves (out_old out_new err_old err_new : Stream) (status : ℕ) : Ty
   pub refused : status ≡ 1 → (stop : CommandError) × Tells err_old err_new (line_of stop)
       × ((StopsBefore stop × Keeps out_old.bytes out_new.bytes) ⊎ TellsPort out_old out_new stop)
 
+-- the words of `serve` name a file, so many requests and this port
+abbrev pub NamesServed : List Text → (requests port : ℕ) → Type 0
+NamesServed words requests port = (file : Text) × NamesServe words file requests port
+
 -- why `serve` isn't begun: its words have a fault, or memory was refused, or the clock shows no moment, or the file that
 -- they name can't be opened
 abbrev pub StopsServeEarly : List Text → CommandError → Type 0
 StopsServeEarly words stop =
     (IsWords stop × HasServeFault words)
-    ⊎ (IsMemory stop ⊎ ((file : Text) × (requests : ℕ) × (port : ℕ) × NamesServe words file requests port × ((stop ≡ Clock) ⊎ IsNoStore stop)))
+    ⊎ (IsMemory stop ⊎ ((requests : ℕ) × (port : ℕ) × NamesServed words requests port × ((stop ≡ Clock) ⊎ IsNoStore stop)))
 
 -- how `serve` ends by its words; where it isn't begun, `out` keeps what it had
 abbrev pub ServesByWords : List Text → (out_old out_new err_old err_new : Stream) → (status : ℕ) → Type 0
 ServesByWords words out_old out_new err_old err_new status =
     (EndsEarly (StopsServeEarly words) err_old err_new status × Keeps out_old.bytes out_new.bytes)
-    ⊎ ((file : Text) × (requests : ℕ) × (port : ℕ) × NamesServe words file requests port × Serves out_old out_new err_old err_new status)
+    ⊎ ((requests : ℕ) × (port : ℕ) × NamesServed words requests port × Serves out_old out_new err_old err_new status)

@@ -7,7 +7,7 @@ ghost use Rattle.contest_cli.specs.Commands.{AsksHelp, NamesNone, TellsNone, Tel
 ghost use Rattle.contest_cli.specs.Runs.{Runs};
 ghost use Rattle.contest_cli.specs.declared.invocation.CommandName.{CommandName};
 
-use crate::file_commands::{import_by_words, init_by_words};
+use crate::file_commands::{import_by_words, init_by_words, serve_by_words};
 use crate::help::{HELP, show_help_of};
 use crate::host::Host;
 use crate::invocation::{CommandName, Invocation, invocation_of};
@@ -147,6 +147,7 @@ fn run_command<M: Machine, R: Read, O: Write, E: Write>(
         CommandName::Replay => replay(alloc, words, reader, out, err),
         CommandName::Init => init_by_words(alloc, machine, words, err),
         CommandName::Import => import_by_words(alloc, machine, words, out, err),
+        CommandName::Serve => serve_by_words(alloc, machine, words, out, err),
     }
 }
 
@@ -164,7 +165,7 @@ fn unknown_command(alloc: Global, name: &str) -> Result<String, AllocError>
     ensures { IfOk result (λ text. string_bytes text ≡ unknown_command name.now) }
 {
     format!(in alloc;
-        "error: unknown command '{name}'; the commands are replay, init, import and help\n"
+        "error: unknown command '{name}'; the commands are replay, init, import, serve and help\n"
     )
 }
 

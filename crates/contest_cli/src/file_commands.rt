@@ -1,17 +1,20 @@
 //! The commands that keep a contest in a file: their words, what these name on the machine, then the
 //! command. Faults are found in this order: the words, the clock, the file that keeps the contest, the
-//! file that is read.
+//! file that is read or the port.
 ghost use Rattle.std.specs.Prelude.{◌≡◌, ◌≤◌, IfOk, IfErr, map};
 ghost use Rattle.sqlite.specs.Held.{state};
 ghost use Rattle.contest_types.specs.Streams.{stream};
 ghost use Rattle.contest_sqlite.specs.Opening.{IsNumbered};
 ghost use Rattle.contest_cli.specs.FileCommands.{ImportsByWords, InitsByWords, NamesFiles, NamesKind, StopsImportEarly, StopsInitEarly};
+ghost use Rattle.contest_cli.specs.Serve.{NamesServed, ServesByWords, StopsServeEarly};
 
 use crate::import_command::run_import;
 use crate::import_words::read_import_words;
 use crate::init_command::run_init;
 use crate::init_words::read_init_words;
-use crate::machine::{Machine, Opened};
+use crate::machine::{Machine, Opened, ServedFile};
+use crate::serve_command::run_serve;
+use crate::serve_words::read_serve_words;
 use contest_import::ImportKind;
 use contest_types::Moment;
 use contest_types::streams::Counted;
@@ -103,5 +106,57 @@ fn open_import<M: Machine>(
         now,
         kind: named.kind,
         files,
+    })
+}
+
+/// What `serve` works on.
+#[derive(Drop)]
+struct ToServe<M: Machine> {
+    requests: u32,
+    port: u16,
+    served: ServedFile<M::Disk, M::Network>,
+}
+
+/// Runs `serve` by its words, of which the first is the command's own. Answers the exit status: 0 where so
+/// many clients were served, 2 where the words have a fault, 1 where something else was refused or `out`
+/// failed. Where it isn't 0, `err` is told why.
+pub(crate) fn serve_by_words<M: Machine, O: Write, E: Write>(
+    alloc: Global,
+    machine: M,
+    words: &[&str],
+    out: &mut Counted<O>,
+    err: &mut Counted<E>,
+) -> u8
+    ensures { ServesByWords (map (λ s. s.now) words.now)
+        (stream O.contents out.old) (stream O.contents out.new)
+        (stream E.contents err.old) (stream E.contents err.new) result }
+{
+    match open_serve(alloc, machine, words) {
+        Ok(it) => {
+            let ServedFile { conn, network } = it.served;
+            run_serve(alloc, conn, &network, it.port, it.requests, out, err).0
+        }
+        Err(stop) => stop.refuse(err),
+    }
+}
+
+// What the words of `serve` name, opened; or the first fault. Each request needs a moment, so a clock that
+// shows none is told before anything is opened.
+fn open_serve<M: Machine>(
+    alloc: Global,
+    machine: M,
+    words: &[&str],
+) -> Result<ToServe<M>, CommandError>
+    ensures named { IfOk result (λ it. NamesServed (map (λ s. s.now) words.now) it.requests it.port) }
+    ensures numbered { IfOk result (λ it. IsNumbered (state M.Disk.Store it.served.conn)) }
+    ensures err { IfErr result (StopsServeEarly (map (λ s. s.now) words.now)) }
+{
+    let named = read_serve_words(alloc, words)?;
+    let _ = machine.now()?;
+    let served = machine.open_to_serve(named.file)?;
+    Ok(ToServe {
+        requests: named.requests,
+        port: named.port,
+        served,
     })
 }

@@ -6,6 +6,7 @@ use crate::import_words::import_app;
 use crate::init_words::init_app;
 use crate::invocation::CommandName;
 use clap::Command;
+use crate::serve_words::serve_app;
 use contest_replay_cli::replay_app;
 use contest_types::Refusal;
 use contest_types::streams::Counted;
@@ -23,12 +24,14 @@ Commands:
   replay  Reads a contest as CSV on standard input and prints its board
   init    Sets up a contest in a file, from its contest object as JSON
   import  Adds all rows of a file to a contest, or none, and prints how many
+  serve   Serves a contest over HTTP, to this machine alone
   help    Prints this text
 
 Examples:
   desk replay --at 1:30:00 < contest.csv
   desk init cup.db contest.json
   desk import cup.db problems problems.json
+  desk serve cup.db --requests 1000 --port 8080
 
 'desk <COMMAND> --help' tells more of a command. docs/FORMATS.md says how to
 write a contest as CSV.
@@ -58,5 +61,6 @@ fn app_of<'a>(alloc: Global, command: CommandName) -> Result<Command<'a>, AllocE
         CommandName::Replay => replay_app(alloc),
         CommandName::Init => init_app(alloc),
         CommandName::Import => import_app(alloc),
+        CommandName::Serve => serve_app(alloc),
     }
 }

@@ -10,7 +10,8 @@ ghost use Rattle.contest_types.specs.declared.refusal.Refusal.TheVariants.{Memor
 ghost use Rattle.contest_sqlite.specs.Opening.{IsNumbered};
 ghost use Rattle.contest_cli.specs.FileCommands.{IsNoFile, IsNoStore};
 
-use crate::machine::{Machine, Opened};
+use crate::host_network::HostNetwork;
+use crate::machine::{Machine, Opened, ServedFile};
 use contest_types::streams::Counted;
 use contest_types::{Moment, Refusal};
 use contest_words::CommandError;
@@ -26,7 +27,7 @@ pub(crate) struct Host<'a, D: Start> {
     pub(crate) disk: D,
 }
 
-impl<D: Start> Machine for Host<'_, D> {
+impl<'a, D: Start> Machine for Host<'a, D> {
     ghost use Rattle.sqlite.specs.Files.{AreFoundIn, file_state};
     ghost use Rattle.sqlite.specs.State.{HasCleanDisk};
     ghost use Rattle.sqlite.specs.WalFiles.{image_at};
@@ -34,6 +35,8 @@ impl<D: Start> Machine for Host<'_, D> {
     type Disk = FileStore<FileFrom<D>>;
 
     type File = File;
+
+    type Network = HostNetwork<'a>;
 
     ghost found = { λ conn. HasCleanDisk (file_state conn) → AreFoundIn (image_at D.Start) (file_state conn).now.trees };
 
@@ -50,10 +53,19 @@ impl<D: Start> Machine for Host<'_, D> {
         let reader = open_file(self.rt, path)?;
         Ok(Opened { conn, reader })
     }
+
+    fn open_to_serve(
+        self,
+        file: &str,
+    ) -> Result<ServedFile<FileStore<FileFrom<D>>, HostNetwork<'a>>, CommandError> {
+        let conn = open_store(self.rt, file, self.disk)?;
+        let network = HostNetwork { rt: self.rt };
+        Ok(ServedFile { conn, network })
+    }
 }
 
 // The moment that a clock shows.
-fn moment_now(clock: &impl Clock) -> Result<Moment, CommandError>
+pub(crate) fn moment_now(clock: &impl Clock) -> Result<Moment, CommandError>
     ensures { IfErr result (λ stop. stop ≡ CommandError.Clock) }
 {
     match SystemTime::now(clock) {

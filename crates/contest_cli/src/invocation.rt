@@ -13,6 +13,8 @@ pub enum CommandName {
     Init,
     /// `import`.
     Import,
+    /// `serve`.
+    Serve,
 }
 
 /// What the words ask for.
@@ -55,6 +57,7 @@ fn command_named(word: &str) -> Option<CommandName>
         "replay" => Some(CommandName::Replay),
         "init" => Some(CommandName::Init),
         "import" => Some(CommandName::Import),
+        "serve" => Some(CommandName::Serve),
         _ => None,
     }
 }

@@ -6,6 +6,7 @@ mod commands;
 mod file_commands;
 mod help;
 mod host;
+mod host_network;
 mod import_command;
 mod import_words;
 mod init_command;

@@ -1,9 +1,10 @@
-//! What a command asks of the machine: the time, and two files.
+//! What a command asks of the machine: the time, two files, and who connects.
 ghost use Rattle.std.specs.Prelude.{◌≡◌, IfOk, IfErr};
 ghost use Rattle.sqlite.specs.Held.{Held, state};
 ghost use Rattle.contest_sqlite.specs.Opening.{IsNumbered};
-ghost use Rattle.contest_cli.specs.FileCommands.{IsUnopened};
+ghost use Rattle.contest_cli.specs.FileCommands.{IsNoStore, IsUnopened};
 
+use crate::network::Network;
 use contest_types::Moment;
 use contest_types::streams::Counted;
 use contest_words::CommandError;
@@ -19,12 +20,23 @@ pub struct Opened<S: Alter + Drop, F: Read + Drop> {
     pub reader: Counted<F>,
 }
 
+/// The file of a contest that is served, and what serving it asks of the machine.
+#[derive(Drop)]
+pub struct ServedFile<S: Alter + Drop, N: Network> {
+    /// The SQLite file that keeps the contest.
+    pub conn: Connection<S>,
+    /// The clock, and the place where clients connect.
+    pub network: N,
+}
+
 /// The machine that a command runs on.
 pub trait Machine: Drop {
     /// Where an SQLite file is.
     type Disk: Alter + Drop;
     /// A file that is read.
     type File: Read + Drop;
+    /// The clock, and the place where clients connect.
+    type Network: Network;
 
     /// What is known of an SQLite file that was opened.
     ghost found: { Held Self.Disk → Type 0 };
@@ -43,4 +55,17 @@ pub trait Machine: Drop {
         ensures found { IfOk result (λ opened. found opened.conn) }
         ensures numbered { IfOk result (λ opened. IsNumbered (state Self.Disk.Store opened.conn)) }
         ensures refused { IfErr result IsUnopened };
+
+    /// The SQLite file at `file`, which is made where there is none, to be served.
+    ///
+    /// # Errors
+    ///
+    /// `StoreFault` where it can't be opened, or want of memory.
+    fn open_to_serve(
+        self,
+        file: &str,
+    ) -> Result<ServedFile<Self::Disk, Self::Network>, CommandError>
+        ensures found { IfOk result (λ served. found served.conn) }
+        ensures numbered { IfOk result (λ served. IsNumbered (state Self.Disk.Store served.conn)) }
+        ensures refused { IfErr result IsNoStore };
 }

@@ -34,6 +34,10 @@ pub trait Listen {
     /// `Net`: no client can connect any more.
     fn accept(&self) -> Result<Option<Connected<Self::Reader, Self::Writer>>, CommandError>
         ensures { IfErr result (λ stop. stop ≡ CommandError.Net) };
+
+    /// Parts from a client that was answered: it is told that no more comes, and what is still on its way
+    /// is let go, so that it doesn't lose the reply.
+    fn part(&self, reader: Self::Reader, writer: Self::Writer);
 }
 
 /// A client that is connected.

@@ -1,9 +1,10 @@
 //! The command `serve`: the contest that a connection holds, served to clients.
-ghost use Rattle.std.specs.Prelude.{◌≡◌};
+ghost use Rattle.std.specs.Prelude.{OnErr, OnOk};
+ghost use Rattle.std.specs.Io.KnownBytes.{Appends};
 ghost use Rattle.sqlite.specs.Held.{state};
-ghost use Rattle.contest_types.specs.Streams.{stream};
+ghost use Rattle.contest_types.specs.Streams.{AppendsFront, Fails, stream};
 ghost use Rattle.contest_sqlite.specs.Opening.{IsNumbered};
-ghost use Rattle.contest_cli.specs.Serve.{Serves};
+ghost use Rattle.contest_cli.specs.Serve.{Serves, listening_line};
 
 use crate::listening_line::listening_line;
 use crate::network::{Listen, Network};
@@ -11,7 +12,7 @@ use crate::opening::open_desk;
 use crate::serving::serve;
 use contest_desk::Desk;
 use contest_store::ContestStore;
-use contest_types::streams::{Counted, write_all};
+use contest_types::streams::{Counted, OutputFault, write_all};
 use contest_words::CommandError;
 use sqlite::{Alter, Connection};
 use std::alloc::Global;
@@ -74,11 +75,21 @@ fn serve_from<S: ContestStore, N: Network, O: Write, E: Write>(
     ensures { Serves (stream O.contents out.old) (stream O.contents out.new)
         (stream E.contents err.old) (stream E.contents err.new) result }
 {
-    match write_all(out, listening_line(listener.port()).as_bytes()) {
+    match tell_port(listener.port(), out) {
         Ok(()) => match serve(alloc, desk, network, listener, requests) {
             Ok(()) => 0,
             Err(stop) => stop.refuse(err),
         },
-        Err(_) => CommandError::File.refuse(err),
+        Err(OutputFault) => CommandError::File.refuse(err),
     }
+}
+
+// Tells which port clients can connect to.
+fn tell_port<O: Write>(port: u16, out: &mut Counted<O>) -> Result<(), OutputFault>
+    ensures ok { OnOk result (Appends (O.contents out.old.inner) (O.contents out.new.inner) (listening_line port)) }
+    ensures err { OnErr result (AppendsFront (O.contents out.old.inner) (O.contents out.new.inner) (listening_line port)) }
+    ensures fault { OnErr result (Fails (stream O.contents out.old) (stream O.contents out.new)) }
+{
+    let line = listening_line(port);
+    write_all(out, line.as_str().as_bytes())
 }

@@ -113,7 +113,10 @@ fn number_to(text: &str, most: u64) -> Option<u64>
     ensures value { result ≡ number_to most text.now }
     ensures within { IfSome result (λ n. n ≤ most) }
 {
-    decimal_number(text.as_bytes(), most)
+    match decimal_number(text.as_bytes(), most) {
+        Some(number) => Some(number),
+        None => None,
+    }
 }
 
 // What is said of an option that isn't a number up to a limit, or isn't there.

@@ -55,5 +55,6 @@ fn serve_next<S: ContestStore, N: Network>(
     let mut reader = Counted::new(reader);
     let mut writer = Counted::new(writer);
     let _ = serve_one(alloc, &mut reader, &mut writer, desk, now);
+    listener.part(reader.into_inner(), writer.into_inner());
     Ok(())
 }

@@ -1,0 +1,128 @@
+//! The network of the program's machine: its loopback address alone.
+ghost use Rattle.std.specs.Prelude.{◌≡◌, IfErr};
+
+use crate::host::moment_now;
+use crate::network::{Connected, Listen, Network};
+use contest_types::Moment;
+use contest_words::CommandError;
+use std::io::{self, ErrorKind, Read};
+use std::net::{Ipv4Addr, Shutdown, TcpListener, TcpStream};
+use std::time::Duration;
+
+/// How long one read or one write of a client may take, in seconds.
+const PATIENCE: u64 = 10;
+
+/// How long a client that was answered may take to close its side, in seconds.
+const FAREWELL: u64 = 1;
+
+/// How many pieces of what such a client still sends are taken, so that its reply isn't lost.
+const LEFTOVERS: u32 = 64;
+
+/// The clock, and the loopback address.
+#[derive(Drop)]
+pub(crate) struct HostNetwork<'a> {
+    pub(crate) rt: &'a HostRuntime,
+}
+
+impl Network for HostNetwork<'_> {
+    type Listener = HostListener;
+
+    fn now(&self) -> Result<Moment, CommandError> {
+        moment_now(self.rt)
+    }
+
+    fn listen(&self, port: u16) -> Result<HostListener, CommandError> {
+        listen_on(self.rt, port)
+    }
+}
+
+/// A port of the loopback address.
+#[derive(Drop)]
+pub(crate) struct HostListener {
+    listener: TcpListener,
+    port: u16,
+}
+
+impl Listen for HostListener {
+    type Reader = TcpStream;
+
+    type Writer = TcpStream;
+
+    fn port(&self) -> u16 {
+        self.port
+    }
+
+    fn accept(&self) -> Result<Option<Connected<TcpStream, TcpStream>>, CommandError> {
+        accept_from(&self.listener)
+    }
+
+    fn part(&self, mut reader: TcpStream, writer: TcpStream) {
+        if writer.shutdown(Shutdown::Write).is_ok()
+            && reader
+                .set_read_timeout(Some(Duration::from_secs(FAREWELL)))
+                .is_ok()
+        {
+            take_leftovers(&mut reader);
+        }
+    }
+}
+
+fn listen_on(rt: &HostRuntime, port: u16) -> Result<HostListener, CommandError>
+    ensures { IfErr result (λ stop. stop ≡ CommandError.Net) }
+{
+    match bound_to(rt, port) {
+        Ok(listener) => Ok(listener),
+        Err(_) => Err(CommandError::Net),
+    }
+}
+
+fn bound_to(rt: &HostRuntime, port: u16) -> io::Result<HostListener> {
+    let listener = TcpListener::bind(rt, (Ipv4Addr::LOCALHOST, port))?;
+    let port = listener.local_addr()?.port();
+    Ok(HostListener { listener, port })
+}
+
+fn accept_from(
+    listener: &TcpListener,
+) -> Result<Option<Connected<TcpStream, TcpStream>>, CommandError>
+    ensures { IfErr result (λ stop. stop ≡ CommandError.Net) }
+{
+    match listener.accept() {
+        Ok((stream, _)) => Ok(connected(stream).ok()),
+        Err(error) => {
+            if is_of_client(error.kind()) {
+                Ok(None)
+            } else {
+                Err(CommandError::Net)
+            }
+        }
+    }
+}
+
+// A client that went before it was had, or a signal: the listener itself is well.
+fn is_of_client(kind: ErrorKind) -> bool {
+    kind == ErrorKind::ConnectionAborted || kind == ErrorKind::Interrupted
+}
+
+// A client whose silence ends after a while.
+fn connected(stream: TcpStream) -> io::Result<Connected<TcpStream, TcpStream>> {
+    stream.set_read_timeout(Some(Duration::from_secs(PATIENCE)))?;
+    stream.set_write_timeout(Some(Duration::from_secs(PATIENCE)))?;
+    let writer = stream.try_clone()?;
+    Ok(Connected {
+        reader: stream,
+        writer,
+    })
+}
+
+// A connection that is closed while bytes of the client are unread takes back what it was sent.
+fn take_leftovers(reader: &mut TcpStream) {
+    let mut piece = [0u8; 4096];
+    for _ in 0..LEFTOVERS {
+        match reader.read(&mut piece) {
+            Ok(0) => return,
+            Ok(_) => {}
+            Err(_) => return,
+        }
+    }
+}
