@@ -239,19 +239,35 @@ def try_clock(desk):
 
 
 def try_rows(desk):
-    """Imported rows stand in their tables as in tables/store_demo.sql, token digests and all."""
+    """Imported rows stand in their tables as in tables/store_demo.sql, token digests and all; without groups they are those
+    of the demo contest that the library makes."""
+    folder = imported_demo(desk, DEMO)
+    store_files.sqlite(folder / "demo.db", store_files.TABLES + store_files.ROWS)
+    same_rows(desk, folder)
+    desk.opens("the demo contest", folder, "3 2 3 2 4 7 0 0 0 0 0")
+    plain = {kind: file.replace("north guests", "").replace("south", "") for kind, file in DEMO.items() if kind[0] != "groups"}
+    folder = imported_demo(desk, plain)
+    subprocess.run([desk.probe, "demo", folder / "demo.db", "4", "2"], capture_output=True, timeout=120)
+    same_rows(desk, folder)
+    desk.opens("the demo contest without groups", folder, "3 2 0 2 4 7 0 0 0 0 0")
+
+
+def imported_demo(desk, files):
+    """A folder with the demo contest in cup.db, made by imports at eight o'clock of its day."""
     folder = desk.new_folder()
     (folder / "contest.json").write_text(PAST, encoding="utf-8")
-    demo, early = folder / "demo.db", ["env", "TZ=UTC", "faketime", "-f", "2024-03-02 08:00:00"]
-    store_files.sqlite(demo, store_files.TABLES + store_files.ROWS)
     desk.answers("the demo contest", DONE, folder, "init", "cup.db", "contest.json")
-    for kind, name in DEMO:
-        (folder / "file").write_text(DEMO[kind, name], encoding="utf-8")
-        desk.run(folder, "import", "cup.db", kind, "file", before=early)
+    for (kind, _), file in files.items():
+        (folder / "file").write_text(file, encoding="utf-8")
+        desk.run(folder, "import", "cup.db", kind, "file", before=["env", "TZ=UTC", "faketime", "-f", "2024-03-02 08:00:00"])
+    return folder
+
+
+def same_rows(desk, folder):
+    """The settings and the accounts in cup.db are those in demo.db."""
     rows = "SELECT * FROM desk; SELECT * FROM contest; SELECT * FROM items; SELECT *, hex(token) FROM accounts ORDER BY id"
-    made, wanted = (store_files.sqlite(path, rows) for path in (folder / "cup.db", demo))
-    desk.note(made == wanted, f"the demo contest's rows: {made}, wanted {wanted}")
-    desk.opens("the demo contest", folder, "3 2 3 2 4 7 0 0 0 0 0")
+    made, wanted = (store_files.sqlite(folder / name, rows) for name in ("cup.db", "demo.db"))
+    desk.note(made == wanted != "", f"the demo contest's rows: {made}, wanted {wanted}")
 
 
 # The files of the contest in tables/store_demo.sql.

@@ -6,8 +6,9 @@
 The program is store_probe, which opens a file as the store does, and sets the thaw if it is asked to. What is in a file
 afterwards is asked of sqlite3. tables/store_demo.sql is a contest; tables/store_rows.tsv has changes of it, which leave
 another contest or break one rule each, and tables/store_files.tsv other databases. A file that is refused keeps its
-bytes, and a change is made whole or not at all: also where one of the program's calls for memory is refused (see
-refuse_call.c), each alone, and all from one on. With --every N only each Nth is.
+bytes, and a change is made whole or not at all: also where one of the program's calls on its files fails (see
+fail_disk.c), and where one of its calls for memory is refused (see refuse_call.c), each alone, and all from one on. With
+--every N only each Nth call for memory is.
 
 Takes sqlite3 and a C compiler. Ends with the line `N passed, M failed`; the exit status is 0 where M is 0.
 """
@@ -53,7 +54,18 @@ WORDS = [
     ["thaw", "{}", str(LAST_MOMENT + 1)],
     ["thaw", "{}", str(2**64)],
     ["thaw", "{}", "1", "2"],
+    ["walk", "{}", "1"],
+    ["demo", "{}", "4"],
+    ["demo", "{}", "4", "-1"],
 ]
+
+# What store_probe's walk does, with the thaw that each change sets.
+WALK = [
+    ("lists", 0), ("append", 1), ("lists", 0), ("file", 0), ("commit", 0), ("lists", 0), ("append", 2), ("file", 0),
+    ("commit", 0), ("commit", 0), ("lists", 0), ("append", 1), ("lists", 0), ("commit", 0), ("file", 0), ("lists", 0),
+]
+# How long the file is that a walk reads. With it there are more pages than the program keeps in memory.
+LARGE = 250_000
 
 # Paths at which no file of a contest can be.
 NO_PATHS = [
@@ -269,6 +281,81 @@ def try_words(probe):
         probe.note(given[:2] == (2, "") and given[2].startswith("usage: ") and not path.exists(), f"{words}: {given}")
 
 
+def try_demo_contests(probe):
+    """The demo contest that the library makes, with fewer teams and problems too, where nothing stands yet."""
+    for teams, problems, counts in ((4, 2, "3 2 0 2 4 7"), (9, 9, "3 2 0 2 4 7"), (1, 0, "3 2 0 0 1 4"), (0, 1, "3 2 0 1 0 3")):
+        path, what = probe.new_file(), f"{teams} teams and {problems} problems"
+        probe.answers(what, DONE, "demo", path, teams, problems)
+        probe.holds(what, path, (0, f"open: {counts} 0 0 0 0 0\n", ""))
+    probe.answers("the demo contest where one stands", (1, "refused: E13 KeyReused\n", ""), "demo", path, 4, 2)
+    probe.holds("the contest that stands", path, (0, "open: 3 2 0 1 0 3 0 0 0 0 0\n", ""))
+
+
+def wrong_of(lines):
+    """What is wrong of the lines that a walk prints where one call on the files may fail, if something is, the name of the
+    step that failed, if one did, and the thaws that may be committed then.
+
+    A step that fails is told as E24 and counted. What was changed since the last commit is gone then, and what comes after
+    it works on the last commit; only a failed commit may leave a store that is shut."""
+    now = committed = faults = 0
+    failed, left = None, {0}
+    if len(lines) != len(WALK):
+        return f"{len(lines)} lines", None, left
+    for at, ((name, thaw), line) in enumerate(zip(WALK, lines)):
+        word, seen, count = line.split(" ")
+        if seen == "E24":
+            shut = failed is not None
+            if shut and not all(other.split(" ")[1] == "E24" for other in lines[at:]):
+                return f"{line!r} after a failure", failed, left
+            left = {committed, now} if name == "commit" and not shut else left
+            failed, now, faults = failed or name, committed, faults + 1
+        else:
+            now = thaw if name == "append" else now
+            committed = now if name == "commit" else committed
+            left = {committed}
+            wanted = {"lists": now, "append": now, "file": LARGE, "commit": 0}[name]
+            if seen != str(wanted):
+                return f"{line!r}, wanted {wanted}", failed, left
+        if word != name or count != str(faults):
+            return f"{line!r}, wanted {name} and {faults} failures", failed, left
+    return None, failed, left
+
+
+def fail(probe, library, call, later):
+    """A walk with this call on the files failing: what is wrong of it, and the step that failed; none once none does."""
+    with tempfile.TemporaryDirectory(dir=probe.folder) as folder:
+        path = pathlib.Path(folder, "case.db")
+        shutil.copy(probe.large, path)
+        env = {**os.environ, "LD_PRELOAD": library, "FAIL_CALL": str(call), **({"FAIL_LATER": "1"} if later else {})}
+        done = subprocess.run([probe.program, "walk", path, "1", "2"], capture_output=True, env=env, timeout=120)
+        lines = done.stdout.decode().splitlines()
+        shown = sqlite(path, "SELECT ifnull(thaw, 0) FROM contest; PRAGMA integrity_check").split()
+    told, failed, left = wrong_of(lines[:-1])
+    whole = (done.returncode, lines[-1:], done.stderr) == (0, ["done"], b"") and shown[1:] == ["ok"] and int(shown[0]) in left
+    if told is None and not whole:
+        told = f"{done}, and sqlite3 shows {shown}, wanted one of {left}"
+    return told and f"call {call} on the files failed{' and all after it' if later else ''}: {told}", failed
+
+
+def try_disk(probe):
+    """Each of the program's calls on its files fails in turn, once it has opened them."""
+    probe.large, library = probe.copy(), f"{probe.folder}/fail_disk.so"
+    sqlite(probe.large, f"UPDATE submissions SET file = zeroblob({LARGE}) WHERE team = 1 AND k = 1")
+    filler = f"INSERT INTO submissions SELECT 5 + value, 3, value, 1709388000000 - 1, 'a', 'cpp', NULL, zeroblob({LARGE}), NULL FROM generate_series(1, 40)"
+    sqlite(probe.large, filler)
+    subprocess.run(["cc", "-O1", "-shared", "-fPIC", "-o", library, str(TESTS / "fail_disk.c"), "-ldl"], check=True)
+    for later in (False, True):
+        call, steps = 1, []
+        while len(steps) == call - 1:
+            wrong, failed = fail(probe, library, call, later)
+            probe.note(wrong is None, wrong)
+            steps += [failed] if failed else []
+            call += 1
+        ways = "each from one on" if later else "each alone"
+        print(f"walk, {ways}: {len(steps)} calls failed, in {', '.join(f'{steps.count(name)} of {name}' for name in dict.fromkeys(steps))}", flush=True)
+        probe.note({"commit", "file"} <= set(steps), f"calls on the files fail in {set(steps)} alone")
+
+
 def refuse(probe, library, call, later):
     """A thaw with this call for memory refused: what is wrong of it, what it answered, whether a call was refused."""
     with tempfile.TemporaryDirectory(dir=probe.folder) as folder:
@@ -314,7 +401,7 @@ def main():
         parser.error(f"there is no program {options.program}: build it, or name one by --program")
     with tempfile.TemporaryDirectory() as folder:
         probe = Probe(str(pathlib.Path(options.program).resolve()), folder)
-        for part in (try_demo, try_rows, try_databases, try_no_databases, try_paths, try_words):
+        for part in (try_demo, try_rows, try_databases, try_no_databases, try_paths, try_words, try_demo_contests, try_disk):
             before = probe.passed
             part(probe)
             print(f"{part.__name__[4:].replace('_', ' ')}: {probe.passed - before} held", flush=True)

@@ -1,5 +1,5 @@
 -- What contracts see of a store that was created.
-use Rattle.std.proofs.Common.{◌≡◌, ◌∙◌, ◌⊎◌, inl, inr, ℕ, Bool, Some, IsTrue, ap, subst, sym}
+use Rattle.std.proofs.Common.{◌≡◌, ◌∙◌, ◌⊎◌, inl, inr, ℕ, Bool, false, Some, IsTrue, ap, subst, sym}
 use Rattle.sqlite.specs.State.{HasCleanDisk, State, Survives}
 use Rattle.contest_types.specs.State.{ContestState, new_contest}
 use Rattle.contest_types.specs.declared.contest.Contest.{Contest}
@@ -15,10 +15,10 @@ use Rattle.contest_store.specs.declared.store_error.StoreError.TheVariants.{Faul
 use Rattle.contest_tables.specs.Connected.{IsBare}
 use Rattle.contest_tables.specs.declared.counts.Counts.{Counts}
 use Rattle.contest_sqlite.specs.Contests.{contest_in_trees, contest_of, HoldsContests}
-use Rattle.contest_sqlite.specs.Creation.{Created, IsMade, IsOfStore, IsReadEqual, StoodEqual, StoodOther}
-use Rattle.contest_sqlite.specs.Keeping.{kept_of, StaysHeld, StaysKept}
+use Rattle.contest_sqlite.specs.Creation.{Created, IsMade, IsOfStore, IsReadEqual, KeepsAll, StoodEqual, StoodOther}
+use Rattle.contest_sqlite.specs.Keeping.{kept_of, StaysCommitted, StaysHeld, StaysKept}
 use Rattle.contest_sqlite.specs.Opening.{ShowsValid}
-use Rattle.contest_sqlite.proofs.ShownContests.{contest_is, keeps, shows}
+use Rattle.contest_sqlite.proofs.ShownContests.{both_are, contest_is, keeps, shows}
 
 -- the contest was made, or stood with the head
 abbrev pub IsEither : (x : ContestState) → ContestHead → (old new : State) → (lists : ContestState) → Type 0
@@ -38,10 +38,11 @@ stays_held : (new : State) (lists : ContestState) → ShowsTheirs new lists → 
 stays_held new lists t = (t.holds.holds.is_open, t.held ∙ ap loaded (sym (contest_is new t.contest t.contest t.holds)))
 
 module _ (x : ContestState) (head : ContestHead) (old new : State) (lists : ContestState) where
-  pub created_whole : (HasCleanDisk new → IsEither x head old new lists) → StaysKept new × StaysHeld new (Some lists)
+  pub created_whole : (HasCleanDisk new → IsEither x head old new lists) → StaysKept new × StaysHeld new (Some lists) × StaysCommitted new false
   created_whole either = (
     λ clean. (let t = shows_theirs x head old new lists (either clean) in keeps new t.contest t.contest t.holds),
     λ clean. stays_held new lists (shows_theirs x head old new lists (either clean)),
+    λ clean none is. (let t = shows_theirs x head old new lists (either clean) in both_are new t.contest t.holds),
   )
 
   module _ (c : Contest) (counts : Counts) (commits : ℕ) (is_loaded : Bool) (clean : HasCleanDisk new) where
@@ -77,6 +78,23 @@ either_valid x head old new lists counts commits is_loaded either =
 not_reused : (e : StoreError) → refusal_of e ≡ KeyReused → ⊥
 not_reused Fault is = cc
 not_reused Memory is = cc
+
+-- nor as a contest that can't be set up
+not_malformed : (e : StoreError) → refusal_of e ≡ refusal.Malformed → ⊥
+not_malformed Fault is = cc
+not_malformed Memory is = cc
+
+-- what stood wasn't changed where another contest stood, and nothing was touched where the given one can't be set up
+pub keeps_all : (old new : State) (given : Refusal) → IsOfStore given ⊎ (given ≡ KeyReused) → (given ≡ KeyReused → KeepsAll old new)
+    → (given ≡ KeyReused) ⊎ (given ≡ refusal.Malformed) → KeepsAll old new
+keeps_all old new given kind keeps (inl reused) = keeps reused
+keeps_all old new given (inl failed) keeps (inr malformed) = absurd (not_malformed failed.0 (sym failed.1 ∙ malformed))
+keeps_all old new given (inr reused) keeps (inr malformed) = keeps reused
+
+-- what is told of a contest that wasn't made
+pub told : (given : Refusal) → IsOfStore given ⊎ (given ≡ KeyReused) → (given ≡ refusal.Malformed) ⊎ ((given ≡ KeyReused) ⊎ IsOfStore given)
+told given (inl failed) = inr (inr failed)
+told given (inr reused) = inr (inl reused)
 
 -- what isn't set up is malformed, or wants memory
 pub not_set_up : (given : Refusal) (P : Type 0) → (given ≡ refusal.Memory) ⊎ ((given ≡ refusal.Malformed) × P)

@@ -33,6 +33,10 @@ module _ (s : State) (x y : ContestState) (h : HoldsContests s x y) where
   pub keeps : IsKept s
   keeps = record { live = λ _. h.holds.is_open; holds = λ _. subst₂ (HoldsContests s) (sym contest_is) (sym committed_is) h }
 
+-- the tables show what was committed
+pub both_are : (s : State) (x : ContestState) → HoldsContests s x x → contest_of s ≡ committed_of s
+both_are s x h = contest_is s x x h ∙ sym (committed_is s x x h)
+
 -- an open connection that is kept shows a contest where it was last committed
 pub trusted : (s : State) → StaysKept s → HasCleanDisk s → IsTrusted s
 trusted s kept clean = (clean, λ up. (let h = (kept clean).holds up in shown_is s.committed.trees (committed_of s) h.was_sound h.holds.keeps.1))

@@ -1,18 +1,19 @@
 -- A store over tables that were read.
-use Rattle.std.proofs.Common.{◌∙◌, ℕ, Bool, Some, sym, ap, inl, inr}
+use Rattle.std.proofs.Common.{◌∙◌, ℕ, Bool, false, Some, sym, ap, inl, inr}
 use Rattle.sqlite.specs.State.{HasCleanDisk, State, Survives}
 use Rattle.contest_types.specs.State.{ContestState}
 use Rattle.contest_store.specs.Lists.{loaded}
 use Rattle.contest_tables.specs.declared.counts.Counts.{Counts}
-use Rattle.contest_sqlite.specs.Keeping.{StaysHeld, StaysKept, kept_of}
+use Rattle.contest_sqlite.specs.Keeping.{StaysCommitted, StaysHeld, StaysKept, kept_of}
 use Rattle.contest_sqlite.specs.Opening.{IsRead, Opened, ShowsValid}
-use Rattle.contest_sqlite.proofs.ShownContests.{contest_is, keeps, shows}
+use Rattle.contest_sqlite.proofs.ShownContests.{both_are, contest_is, keeps, shows}
 
 -- what it keeps true of itself
-pub is_whole : (old new : State) (lists : ContestState) → (HasCleanDisk new → IsRead old new lists) → StaysKept new × StaysHeld new (Some lists)
+pub is_whole : (old new : State) (lists : ContestState) → (HasCleanDisk new → IsRead old new lists) → StaysKept new × StaysHeld new (Some lists) × StaysCommitted new false
 is_whole old new lists read = (
   λ clean. (let r = read clean in keeps new r.contest r.contest r.holds),
   λ clean. (let r = read clean in (r.holds.holds.is_open, r.held ∙ ap loaded (sym (contest_is new r.contest r.contest r.holds)))),
+  λ clean none is. (let r = read clean in both_are new r.contest r.holds),
 )
 
 -- it shows a valid contest

@@ -38,6 +38,10 @@ pub record StoodOther (head : ContestHead) (s after : State) : Type 0 where
   pub other : contest.fixed.settings.head ≢ head
   pub autocommit : after.in_transaction ≡ false
 
+-- a crash leaves no more than it could leave before
+abbrev pub KeepsAll : (old new : State) → Type 0
+KeepsAll old new = Survives old new (λ _. ⊥)
+
 -- the texts and the start of a contest are of their kinds
 pub record IsOfKindsContest (c : Contest) : Type 0 where
   pub head : IsWritableItem c.head.id c.head.name
@@ -79,7 +83,7 @@ pub record IsReadEqual (head : ContestHead) (old new : State) (lists : ContestSt
   pub stood : ¬ IsBare old
   pub read : IsRead old new lists
   pub equal : read.contest.fixed.settings.head ≡ head
-  pub survives : Survives old new (λ _. ⊥)
+  pub survives : KeepsAll old new
 
 -- what the store failed with
 abbrev pub IsOfStore : Refusal → Type 0

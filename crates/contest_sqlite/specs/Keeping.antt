@@ -1,5 +1,5 @@
 -- A connection as contracts see the store over it.
-use Rattle.std.specs.Prelude.{◌≡◌, ℕ, Bool, Option, Some, IsTrue, IfSome}
+use Rattle.std.specs.Prelude.{◌≡◌, ℕ, Bool, false, Option, Some, IsTrue, IfSome}
 use Rattle.sqlite.specs.State.{State, HasCleanDisk}
 use Rattle.contest_store.specs.Keeping.{Kept}
 use Rattle.contest_store.specs.Lists.{loaded}
@@ -33,6 +33,10 @@ pub record IsKept (s : State) : Type 0 where
 
 abbrev pub StaysKept : State → Type 0
 StaysKept s = HasCleanDisk s → IsKept s
+
+-- where no change was made since the last commit, the tables show what it left
+abbrev pub StaysCommitted : State → (is_changed : Bool) → Type 0
+StaysCommitted s is_changed = HasCleanDisk s → is_changed ≡ false → IsTrue s.is_open → contest_of s ≡ committed_of s
 
 -- lists in memory are those of the tables, and the connection is open
 abbrev pub StaysHeld : State → Option ContestState → Type 0

@@ -1,5 +1,5 @@
 -- What is found where a store is opened.
-use Rattle.std.specs.Prelude.{◌≡◌, IsTrue, Some, true}
+use Rattle.std.specs.Prelude.{◌≡◌, IsTrue, Some, false, true}
 use Rattle.sqlite.specs.State.{HasCleanDisk, State}
 use Rattle.contest_types.specs.State.{ContestState}
 use Rattle.contest_types.specs.Valid.{is_valid}
@@ -35,6 +35,6 @@ pub record ShowsValid (kept : Kept) : Type 0 where
   pub shows : Shows kept contest contest
   pub valid : is_valid contest ≡ true
 
--- no call failed yet, no commit was answered, and the lists are in memory
+-- no call failed yet, no commit was answered, the lists are in memory, and no change was made
 abbrev pub IsNew : {S : Type 0} → StoreValue S → Type 0
-IsNew v = (v.faults ≡ 0) × (v.refusals ≡ 0) × (v.commits ≡ 0) × (v.is_loaded ≡ true)
+IsNew v = (v.faults ≡ 0) × (v.refusals ≡ 0) × (v.commits ≡ 0) × (v.is_loaded ≡ true) × (v.is_changed ≡ false)

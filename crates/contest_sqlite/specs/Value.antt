@@ -7,19 +7,21 @@ use Rattle.sqlite_trees.specs.declared.store.Store.{Ghosts}
 use Rattle.contest_store.specs.Keeping.{Kept}
 use Rattle.contest_sqlite.specs.Keeping.{kept_of}
 
--- the connection, how many calls failed and how many commits were answered, and whether the lists are in memory
+-- the connection, how many calls failed and how many commits were answered, whether the lists are in memory, and whether
+-- a change was made since the last commit
 pub record StoreValue (S : Type 0) : Type 0 where
   pub conn : Held S
   pub faults : ℕ
   pub refusals : ℕ
   pub commits : ℕ
   pub is_loaded : Bool
+  pub is_changed : Bool
 
 abbrev pub store_code : {S : Type 0} → Coded S → Coded (StoreValue S)
 store_code {S} code =
-    code_by (Held S × (ℕ × (ℕ × (ℕ × Bool)))) (coded× (held_code code) (coded× coded_ℕ (coded× coded_ℕ (coded× coded_ℕ coded_bool))))
-    (λ v. (v.conn, (v.faults, (v.refusals, (v.commits, v.is_loaded)))))
-    (λ p. record { conn = p.0; faults = p.1.0; refusals = p.1.1.0; commits = p.1.1.1.0; is_loaded = p.1.1.1.1 })
+    code_by (Held S × (ℕ × (ℕ × (ℕ × (Bool × Bool))))) (coded× (held_code code) (coded× coded_ℕ (coded× coded_ℕ (coded× coded_ℕ (coded× coded_bool coded_bool)))))
+    (λ v. (v.conn, (v.faults, (v.refusals, (v.commits, (v.is_loaded, v.is_changed))))))
+    (λ p. record { conn = p.0; faults = p.1.0; refusals = p.1.1.0; commits = p.1.1.1.0; is_loaded = p.1.1.1.1.0; is_changed = p.1.1.1.1.1 })
     (λ _. refl)
 
 -- what its tables show

@@ -9,7 +9,7 @@ ghost use Rattle.contest_tables.specs.Steps.{Call, HasFirst, MakesNone, Step};
 ghost use Rattle.contest_changes.specs.Kinds.{IsMoment};
 ghost use Rattle.contest_changes.specs.Sound.{IsSound};
 ghost use Rattle.contest_sqlite.specs.Contests.{contest_in_trees};
-ghost use Rattle.contest_sqlite.specs.Creation.{HasContest, HasHeadAlone, HasNoRow, HoldsNone, IsMade, IsOfKindsContest, IsOfStore, IsReadEqual, KeepsContest, MakesContest, StoodOther};
+ghost use Rattle.contest_sqlite.specs.Creation.{HasContest, HasHeadAlone, HasNoRow, HoldsNone, IsMade, IsOfKindsContest, IsOfStore, IsReadEqual, KeepsAll, KeepsContest, MakesContest, StoodOther};
 ghost use Rattle.contest_sqlite.specs.Opening.{IsNumbered};
 
 use crate::opening::read_desk;
@@ -109,6 +109,8 @@ pub(crate) fn make_or_read<S: Alter>(
     ensures kinds { IfErr result (λ e. IsOfStore e ⊎ (e ≡ Refusal.KeyReused)) }
     ensures counts { OnOk result (counts_of tables.new ≡ counts_of tables.old) }
     ensures survives { Survives (shown_by S.Store tables.old) (shown_by S.Store tables.new) (λ db. contest_in_trees db ≡ Some (without_rows fixed.value)) }
+    ensures stood { ¬ IsBare (shown_by S.Store tables.old) → KeepsAll (shown_by S.Store tables.old) (shown_by S.Store tables.new) }
+    ensures reused { IfErr result (λ e. e ≡ Refusal.KeyReused → KeepsAll (shown_by S.Store tables.old) (shown_by S.Store tables.new)) }
 {
     match tables.standing() {
         Standing::Bare => match make_contest(tables, alloc, fixed) {
@@ -132,7 +134,7 @@ fn read_equal<S: Alter>(
         → IfErr result (λ e. IsOfStore e ⊎ ((e ≡ Refusal.KeyReused) × StoodOther head.now (shown_by S.Store tables.old) (shown_by S.Store tables.new))) }
     ensures kinds { IfErr result (λ e. IsOfStore e ⊎ (e ≡ Refusal.KeyReused)) }
     ensures counts { OnOk result (counts_of tables.new ≡ counts_of tables.old) }
-    ensures survives { Survives (shown_by S.Store tables.old) (shown_by S.Store tables.new) (λ _. ⊥) }
+    ensures survives { KeepsAll (shown_by S.Store tables.old) (shown_by S.Store tables.new) }
 {
     match read_desk(tables, alloc) {
         Ok(lists) => {

@@ -1,5 +1,5 @@
 //! The tables of a contest, with the lists that were read from them.
-ghost use Rattle.std.specs.Prelude.{◌≡◌, IfOk, IsTrue, OnOk, is_some, Some, None, true};
+ghost use Rattle.std.specs.Prelude.{◌≡◌, IfOk, IsTrue, Ok, OnErr, OnOk, false, is_ok, is_some, Some, None, true};
 ghost use Rattle.contest_store.specs.Keeping.{Reads, Adds, Commits};
 ghost use Rattle.contest_types.specs.Addable.{is_addable};
 ghost use Rattle.contest_types.specs.Loads.{file_of};
@@ -22,16 +22,19 @@ use std::alloc::Global;
 pub(crate) struct Keeper<S: Alter> {
     pub(crate) tables: Tables<S>,
     pub(crate) held: Option<Lists>,
+    /// Whether a change was made since the last commit.
+    pub(crate) is_changed: bool,
     pub(crate) commits: u64,
 }
 
 impl<S: Alter> Keeper<S> {
-    // What failed leaves no lists in memory.
+    // What failed leaves no lists in memory, and no change.
     fn fail(&mut self, error: StoreError) -> StoreError
         ensures error { result ≡ error }
-        ensures dropped { self.new ≡ record self.old { held = None } }
+        ensures dropped { self.new ≡ record self.old { held = None; is_changed = false } }
     {
         self.held = None;
+        self.is_changed = false;
         error
     }
 
@@ -40,6 +43,8 @@ impl<S: Alter> Keeper<S> {
         ensures whole { IsWhole S.Store self.new }
         ensures leaves { Reads result (keeps S.Store self.old) (keeps S.Store self.new) }
         ensures loaded { OnOk result (IsTrue (is_some self.new.held)) }
+        ensures unchanged { OnOk result (self.new.is_changed ≡ self.old.is_changed) }
+        ensures undone { OnErr result (self.new.is_changed ≡ false) }
     {
         if self.held.is_some() {
             return Ok(());
@@ -63,6 +68,8 @@ impl<S: Alter> Keeper<S> {
         ensures whole { IsWhole S.Store self.new }
         ensures value { (keeps S.Store self.new).is_clean → IfOk result (λ found. found ≡ file_of (keeps S.Store self.old).contest team number) }
         ensures leaves { Reads result (keeps S.Store self.old) (keeps S.Store self.new) }
+        ensures unchanged { OnOk result (self.new.is_changed ≡ self.old.is_changed) }
+        ensures undone { OnErr result (self.new.is_changed ≡ false) }
     {
         match load_file(&mut self.tables, alloc, team, number) {
             Ok(file) => Ok(file),
@@ -76,6 +83,7 @@ impl<S: Alter> Keeper<S> {
         requires addable { (keeps S.Store self.old).is_clean → is_addable (keeps S.Store self.old).contest entry.now ≡ true }
         ensures whole { IsWhole S.Store self.new }
         ensures leaves { Adds result (keeps S.Store self.old) (keeps S.Store self.new) (add (keeps S.Store self.old).contest entry.now) }
+        ensures changed { self.new.is_changed ≡ is_ok result }
     {
         match self.held.take() {
             Some(lists) => self.add(alloc, lists, entry),
@@ -90,25 +98,45 @@ impl<S: Alter> Keeper<S> {
         requires addable { (keeps S.Store self.old).is_clean → is_addable (keeps S.Store self.old).contest entry.now ≡ true }
         ensures whole { IsWhole S.Store self.new }
         ensures leaves { Adds result (keeps S.Store (record self.old { held = Some lists })) (keeps S.Store self.new) (add (keeps S.Store self.old).contest entry.now) }
+        ensures changed { self.new.is_changed ≡ is_ok result }
     {
         is_of_kinds(entry);
         match add(&mut self.tables, alloc, lists, entry) {
             Ok(changed) => {
                 self.held = Some(changed);
+                self.is_changed = true;
                 Ok(())
             }
-            Err(error) => Err(error),
+            Err(error) => Err(self.fail(error)),
         }
     }
 
+    /// Commits the changes. Where there is none, nothing is asked of the connection.
     pub(crate) fn commit(&mut self) -> Result<(), StoreError>
         requires whole { IsWhole S.Store self.old }
         requires loaded { IsTrue (is_some self.old.held) }
         ensures whole { IsWhole S.Store self.new }
         ensures leaves { Commits result (keeps S.Store self.old) (keeps S.Store self.new) (keeps S.Store self.old).contest }
+        ensures committed { self.new.is_changed ≡ false }
+        ensures nothing { self.old.is_changed ≡ false → (result ≡ Ok tt) × (self.new ≡ record self.old { commits = one_more self.old.commits }) }
+    {
+        if self.is_changed {
+            return self.commit_changes();
+        }
+        self.commits = one_more(self.commits);
+        Ok(())
+    }
+
+    fn commit_changes(&mut self) -> Result<(), StoreError>
+        requires whole { IsWhole S.Store self.old }
+        requires loaded { IsTrue (is_some self.old.held) }
+        ensures whole { IsWhole S.Store self.new }
+        ensures leaves { Commits result (keeps S.Store self.old) (keeps S.Store self.new) (keeps S.Store self.old).contest }
+        ensures committed { self.new.is_changed ≡ false }
     {
         match self.tables.commit() {
             Ok(()) => {
+                self.is_changed = false;
                 self.commits = one_more(self.commits);
                 Ok(())
             }

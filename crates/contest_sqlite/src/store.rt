@@ -35,6 +35,7 @@ impl<S: Alter> Model for Store<S> {
       refusals = (counts_of s.keeper.tables).refusals;
       commits = s.keeper.commits;
       is_loaded = is_some s.keeper.held;
+      is_changed = s.keeper.is_changed;
     } };
 
     ghost invariant = { λ s. IsWhole S.Store s.keeper };
@@ -49,7 +50,7 @@ impl<S: Alter> Store<S> {
     ghost use Rattle.contest_tables.specs.Connected.{IsBare};
     ghost use Rattle.contest_store.specs.Keeping.{LeavesOnly};
     ghost use Rattle.contest_sqlite.specs.Contests.{committed_of, contest_in_trees, contest_of, may_leave_of};
-    ghost use Rattle.contest_sqlite.specs.Creation.{Created, IsOfStore, StoodEqual, StoodOther};
+    ghost use Rattle.contest_sqlite.specs.Creation.{Created, IsOfStore, KeepsAll, StoodEqual, StoodOther};
     ghost use Rattle.contest_sqlite.specs.Keeping.{IsTrusted};
     ghost use Rattle.contest_sqlite.specs.Opening.{IsNew, IsNumbered, Opened, ShowsValid};
     ghost use Rattle.contest_sqlite.specs.Value.{shown_in, stored};
@@ -76,6 +77,7 @@ impl<S: Alter> Store<S> {
                 keeper: Keeper {
                     tables,
                     held: Some(lists),
+                    is_changed: false,
                     commits: 0,
                 },
             }),
@@ -92,7 +94,8 @@ impl<S: Alter> Store<S> {
     /// `Malformed` where a number of the head is off its range or the end is no moment: nothing is
     /// touched. `KeyReused` where a contest with another head stands. `StoreFault` where other tables
     /// stand or show no valid contest, where a transaction stands, or where the connection failed;
-    /// `Memory` where a growth was refused. The connection is handed back.
+    /// `Memory` where a growth was refused. The connection is handed back. Nothing is committed, but
+    /// that a crash may leave the contest where no table stood and the commit failed.
     pub fn create(
         alloc: Global,
         conn: Connection<S>,
@@ -109,6 +112,8 @@ impl<S: Alter> Store<S> {
         ensures malformed { IfErr result (λ e. e.0 ≡ Refusal.Malformed → (is_valid (new_contest contest) ≡ false) × (e.1 ≡ conn)) }
         ensures survives { IfOk result (λ store. Survives (state S.Store conn) (shown_in S.Store store) (λ db. contest_in_trees db ≡ Some (new_contest contest))) }
         ensures refused { IfErr result (λ e. Survives (state S.Store conn) (state S.Store e.1) (λ db. contest_in_trees db ≡ Some (new_contest contest))) }
+        ensures unmade { IfErr result (λ e. ¬ IsBare (state S.Store conn) → KeepsAll (state S.Store conn) (state S.Store e.1)) }
+        ensures unchanged { IfErr result (λ e. (e.0 ≡ Refusal.KeyReused) ⊎ (e.0 ≡ Refusal.Malformed) → KeepsAll (state S.Store conn) (state S.Store e.1)) }
     {
         let fixed = match new_fixed(alloc, contest) {
             Ok(fixed) => fixed,
@@ -120,6 +125,7 @@ impl<S: Alter> Store<S> {
                 keeper: Keeper {
                     tables,
                     held: Some(lists),
+                    is_changed: false,
                     commits: 0,
                 },
             }),
@@ -128,7 +134,7 @@ impl<S: Alter> Store<S> {
     }
 
     /// The connection alone, where no change stands that wasn't committed. A transaction stands in it
-    /// where the lists were read since the last commit. While it is open a crash leaves the last commit,
+    /// where something was read since the last commit of a change. While it is open a crash leaves the last commit,
     /// and no other.
     pub fn into_connection(self) -> Connection<S>
         requires { IsTrusted (shown_in S.Store self) → IsTrue (shown_in S.Store self).is_open → contest_of (shown_in S.Store self) ≡ committed_of (shown_in S.Store self) }
@@ -164,6 +170,9 @@ impl<S: Alter> Store<S> {
 }
 
 impl<S: Alter> ContestStore for Store<S> {
+    ghost use Rattle.std.specs.Prelude.{false, IsTrue, Ok};
+    ghost use Rattle.contest_types.specs.Streams.{one_more};
+    ghost use Rattle.contest_store.specs.Keeping.{Commits};
     ghost use Rattle.contest_sqlite.specs.Laws.{settled_at, survives_at};
     ghost use Rattle.contest_sqlite.specs.Value.{stored};
 
@@ -197,7 +206,14 @@ impl<S: Alter> ContestStore for Store<S> {
         self.keeper.append(alloc, &entry)
     }
 
-    fn commit(&mut self) -> Result<(), StoreError> {
+    // Beyond what any store promises: where no change was made since the last commit, it is answered
+    // and only counted.
+    fn commit(&mut self) -> Result<(), StoreError>
+        requires { IsTrue self.old.is_loaded }
+        ensures leaves { Commits result (stored S.Store self.old) (stored S.Store self.new) (stored S.Store self.old).contest }
+        ensures committed { self.new.is_changed ≡ false }
+        ensures nothing { self.old.is_changed ≡ false → (result ≡ Ok tt) × (self.new ≡ record self.old { commits = one_more self.old.commits }) }
+    {
         self.keeper.commit()
     }
 }

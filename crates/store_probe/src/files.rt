@@ -3,11 +3,13 @@ ghost use Rattle.std.specs.Prelude.{◌≡◌, ◌≢◌, IfOk};
 ghost use Rattle.sqlite.specs.Files.{AreFoundIn, file_state, over_files};
 ghost use Rattle.sqlite.specs.State.{HasCleanDisk};
 ghost use Rattle.sqlite.specs.WalFiles.{image_at};
+ghost use Rattle.contest_tables.specs.Connected.{IsBare};
 ghost use Rattle.contest_sqlite.specs.Opening.{IsNew, IsNumbered};
 ghost use Rattle.contest_sqlite.specs.Value.{shown_in, stored};
 ghost use Rattle.store_probe.specs.Found.{OpensOver};
 
 use contest_sqlite::Store;
+use contest_tables::{Standing, Tables};
 use contest_types::Refusal;
 use sqlite::{Connection, Error, ErrorCode, FileFrom, FileStore, Start};
 
@@ -29,6 +31,25 @@ pub(crate) fn open_store<S: Start>(
     match Store::open(rt.alloc(), conn) {
         Ok(store) => Ok(store),
         Err((refusal, _)) => Err(refusal),
+    }
+}
+
+/// A connection to files that hold no table.
+///
+/// # Errors
+///
+/// `KeyReused` where tables stand; else as `open_store`.
+pub(crate) fn open_bare<S: Start>(
+    rt: &HostRuntime,
+    path: &str,
+    start: S,
+) -> Result<Connection<FileStore<FileFrom<S>>>, Refusal>
+    ensures { IfOk result (λ conn. IsBare (file_state conn)) }
+{
+    let tables = Tables::new(open_files(rt, path, start)?);
+    match tables.standing() {
+        Standing::Bare => Ok(tables.into_connection()),
+        Standing::Desk | Standing::Foreign => Err(Refusal::KeyReused),
     }
 }
 

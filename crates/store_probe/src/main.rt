@@ -3,14 +3,21 @@
 //!
 //! - `store_probe open FILE` prints how many rows there are of each kind.
 //! - `store_probe thaw FILE MILLISECONDS` sets the thaw, so long after 1970, and commits it.
+//! - `store_probe walk FILE MILLISECONDS MILLISECONDS` reads the lists and a file, sets the thaw and
+//!   commits it, several times, and prints what came of each call and how many failed by then.
+//! - `store_probe demo FILE TEAMS PROBLEMS` makes the demo contest with the first so many of each.
 #![tactic(auto)]
 
+mod demo_file;
 mod files;
 mod tasks;
+mod walk;
 mod words;
 
-use crate::files::open_store;
+use crate::demo_file::make_demo;
+use crate::files::{open_bare, open_store};
 use crate::tasks::{counts_of, thaw};
+use crate::walk::walk;
 use crate::words::{Task, task_of};
 use contest_store::ContestStore;
 use contest_types::Refusal;
@@ -24,8 +31,8 @@ use std::{env, io};
 enum Done {
     /// The file is a contest's, with so many rows of each kind.
     Opened([usize; 11]),
-    /// The thaw is committed.
-    Thawed,
+    /// What was asked for is committed, or was told of step by step.
+    All,
 }
 
 fn main(rt: HostRuntime) -> ExitCode {
@@ -59,7 +66,16 @@ fn answer(rt: &HostRuntime, task: Task<'_>) -> Result<Done, Refusal> {
         Task::Thaw(path, moment) => {
             let mut store = open_store(rt, path, Unknown)?;
             thaw(rt.alloc(), &mut store, moment)?;
-            Ok(Done::Thawed)
+            Ok(Done::All)
+        }
+        Task::Walk(path, first, second) => {
+            let mut store = open_store(rt, path, Unknown)?;
+            walk(rt, &mut store, first, second);
+            Ok(Done::All)
+        }
+        Task::Demo(path, teams, problems) => {
+            make_demo(rt.alloc(), open_bare(rt, path, Unknown)?, teams, problems)?;
+            Ok(Done::All)
         }
     }
 }
@@ -74,7 +90,7 @@ fn tell(rt: &HostRuntime, done: &Result<Done, Refusal>) -> io::Result<u8> {
             println!(rt; "")?;
             Ok(0)
         }
-        Ok(Done::Thawed) => {
+        Ok(Done::All) => {
             println!(rt; "done")?;
             Ok(0)
         }
@@ -87,6 +103,8 @@ fn tell(rt: &HostRuntime, done: &Result<Done, Refusal>) -> io::Result<u8> {
 }
 
 fn tell_usage(rt: &HostRuntime) -> io::Result<u8> {
-    eprintln!(rt; "usage: store_probe open FILE | thaw FILE MILLISECONDS")?;
+    eprintln!(rt;
+        "usage: store_probe open FILE | thaw FILE MILLISECONDS | walk FILE MILLISECONDS MILLISECONDS | demo FILE TEAMS PROBLEMS"
+    )?;
     Ok(2)
 }

@@ -9,6 +9,10 @@ pub(crate) enum Task<'a> {
     Open(&'a str),
     /// To open it, and to set the thaw.
     Thaw(&'a str, Moment),
+    /// To open it, and to go through calls of the store, which set the thaw to these in turn.
+    Walk(&'a str, Moment, Moment),
+    /// To make the demo contest in it, with the first so many teams and problems.
+    Demo(&'a str, usize, usize),
 }
 
 /// What the words ask for, if they ask for something.
@@ -19,7 +23,23 @@ pub(crate) fn task_of(words: &[String]) -> Option<Task<'_>> {
             Some(moment) => Some(Task::Thaw(path.as_str(), moment)),
             None => None,
         },
+        [name, path, first, second] => task_of_two(name.as_str(), path.as_str(), first, second),
         _ => None,
+    }
+}
+
+fn task_of_two<'a>(name: &str, path: &'a str, first: &str, second: &str) -> Option<Task<'a>> {
+    match name {
+        "walk" => Some(Task::Walk(path, moment_of(first)?, moment_of(second)?)),
+        "demo" => Some(Task::Demo(path, number_of(first)?, number_of(second)?)),
+        _ => None,
+    }
+}
+
+fn number_of(text: &str) -> Option<usize> {
+    match text.parse::<usize>() {
+        Ok(number) => Some(number),
+        Err(_) => None,
     }
 }
 

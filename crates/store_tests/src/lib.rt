@@ -3,6 +3,8 @@
 #![tactic(auto)]
 
 #[cfg(test)]
+mod demo_contest;
+#[cfg(test)]
 mod first_changes;
 #[cfg(test)]
 mod memory_changes;

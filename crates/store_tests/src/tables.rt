@@ -20,7 +20,7 @@ use sqlite::{Connection, MemStore};
 use std::alloc::Global;
 use std::test::Fail;
 
-fn no_tables(alloc: Global) -> Result<Connection<MemStore>, Fail>
+pub fn no_tables(alloc: Global) -> Result<Connection<MemStore>, Fail>
     ensures { IfOk result (λ conn. HasNoTable (state over_memory conn)) }
 {
     Ok(Connection::open_in_memory(alloc)?)
@@ -33,7 +33,7 @@ fn contest(alloc: Global) -> Result<Contest, Fail> {
     })
 }
 
-fn refused<T: Drop>(_of: (Refusal, T)) -> Fail {
+pub fn refused<T: Drop>(_of: (Refusal, T)) -> Fail {
     Fail::from("the store was refused")
 }
 

@@ -15,10 +15,12 @@ returns-in-Ok-clause-leaves g c =
 
 pub returns-in-Err-clause-whole : goal.returns-in-Err-clause-whole
 returns-in-Err-clause-whole g c =
+    rw c.fail.ensures.dropped
     (add_err (shown_by g.S.Store c.args.self.now.tables) (shown_by g.S.Store c.add.new.tables) _ _ c.args.self.now.commits true c.requires.whole.0 c.args.lists c.args.entry.now c.requires.whole.1 c.requires.addable c.is_of_kinds.ensures
-    c.in-Err.error c.args.self.now.held c.requires.taken c.in-Err.ensures.call).0
+    c.in-Err.error c.in-Err.ensures.call).0
 
 pub returns-in-Err-clause-leaves : goal.returns-in-Err-clause-leaves
 returns-in-Err-clause-leaves g c =
+    rw (c.fail.ensures.dropped, c.fail.ensures.error)
     (add_err (shown_by g.S.Store c.args.self.now.tables) (shown_by g.S.Store c.add.new.tables) _ _ c.args.self.now.commits true c.requires.whole.0 c.args.lists c.args.entry.now c.requires.whole.1 c.requires.addable c.is_of_kinds.ensures
-    c.in-Err.error c.args.self.now.held c.requires.taken c.in-Err.ensures.call).1
+    c.in-Err.error c.in-Err.ensures.call).1

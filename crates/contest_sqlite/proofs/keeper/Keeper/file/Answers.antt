@@ -7,7 +7,7 @@ use Rattle.contest_sqlite.proofs.keeper.Keeper.file.Goals as goal
 pub returns-in-Ok-clause-whole : goal.returns-in-Ok-clause-whole
 returns-in-Ok-clause-whole g c =
     (file_ok (shown_by g.S.Store c.args.self.now.tables) (shown_by g.S.Store c.load_file.new.tables) _ _ c.args.self.now.commits (is_some c.args.self.now.held) c.requires.0
-    _ c.in-Ok.file c.args.self.now.held refl c.in-Ok.ensures.call c.requires.1).0
+    _ c.in-Ok.file c.args.self.now.held c.args.self.now.is_changed refl c.in-Ok.ensures.call c.requires.1 c.requires.2).0
 
 pub returns-in-Ok-clause-value : goal.returns-in-Ok-clause-value
 returns-in-Ok-clause-value g c =
@@ -17,7 +17,7 @@ returns-in-Ok-clause-value g c =
 pub returns-in-Ok-clause-leaves : goal.returns-in-Ok-clause-leaves
 returns-in-Ok-clause-leaves g c =
     (file_ok (shown_by g.S.Store c.args.self.now.tables) (shown_by g.S.Store c.load_file.new.tables) _ _ c.args.self.now.commits (is_some c.args.self.now.held) c.requires.0
-    _ c.in-Ok.file c.args.self.now.held refl c.in-Ok.ensures.call c.requires.1).1
+    _ c.in-Ok.file c.args.self.now.held c.args.self.now.is_changed refl c.in-Ok.ensures.call c.requires.1 c.requires.2).1
 
 pub returns-in-Err-clause-whole : goal.returns-in-Err-clause-whole
 returns-in-Err-clause-whole g c =

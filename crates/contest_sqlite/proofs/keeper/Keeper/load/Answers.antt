@@ -7,12 +7,12 @@ use Rattle.contest_sqlite.proofs.keeper.Keeper.load.Goals as goal
 pub returns-in-Ok-clause-whole : goal.returns-in-Ok-clause-whole
 returns-in-Ok-clause-whole g c =
     (load_ok (shown_by g.S.Store c.args.self.now.tables) (shown_by g.S.Store c.load_lists.new.tables) _ _ c.args.self.now.commits (is_some c.args.self.now.held) c.requires.0
-    _ c.in-Ok.lists c.in-Ok.ensures.call (λ clean. read_sound (shown_by g.S.Store c.args.self.now.tables) c.in-Ok.lists (c.in-Ok.ensures.lists clean))).0
+    _ c.in-Ok.lists c.args.self.now.is_changed c.in-Ok.ensures.call (λ clean. read_sound (shown_by g.S.Store c.args.self.now.tables) c.in-Ok.lists (c.in-Ok.ensures.lists clean)) c.requires.2).0
 
 pub returns-in-Ok-clause-leaves : goal.returns-in-Ok-clause-leaves
 returns-in-Ok-clause-leaves g c =
     (load_ok (shown_by g.S.Store c.args.self.now.tables) (shown_by g.S.Store c.load_lists.new.tables) _ _ c.args.self.now.commits (is_some c.args.self.now.held) c.requires.0
-    _ c.in-Ok.lists c.in-Ok.ensures.call (λ clean. read_sound (shown_by g.S.Store c.args.self.now.tables) c.in-Ok.lists (c.in-Ok.ensures.lists clean))).1
+    _ c.in-Ok.lists c.args.self.now.is_changed c.in-Ok.ensures.call (λ clean. read_sound (shown_by g.S.Store c.args.self.now.tables) c.in-Ok.lists (c.in-Ok.ensures.lists clean)) c.requires.2).1
 
 pub returns-in-Err-clause-whole : goal.returns-in-Err-clause-whole
 returns-in-Err-clause-whole g c =

@@ -4,9 +4,9 @@ use Rattle.sqlite.specs.Held.{state}
 use Rattle.contest_types.specs.State.{ContestState}
 use Rattle.contest_spelling.specs.Spelling.{without_rows}
 use Rattle.contest_tables.specs.Connected.{IsBare, counts_of, shown_by}
-use Rattle.contest_sqlite.specs.Creation.{Created, StoodEqual, StoodOther}
+use Rattle.contest_sqlite.specs.Creation.{Created, KeepsAll, StoodEqual, StoodOther}
 use Rattle.contest_sqlite.specs.Keeping.{kept_of}
-use Rattle.contest_sqlite.proofs.CreatedStores.{created, created_whole, either_valid, not_set_up, stood_equal, stood_other}
+use Rattle.contest_sqlite.proofs.CreatedStores.{created, created_whole, either_valid, keeps_all, not_set_up, stood_equal, stood_other, told}
 use Rattle.contest_sqlite.proofs.store.Store.create.Goals as goal
 
 pub invariant_of-result : goal.invariant_of-result
@@ -49,3 +49,12 @@ returns-in-Err-make_or_read-clause-differs g c clean is =
 
 pub returns-in-Err-clause-kinds : goal.returns-in-Err-clause-kinds
 returns-in-Err-clause-kinds g c = not_set_up c.in-Err.refusal _ c.in-Err.ensures.refused
+
+pub returns-in-Err-make_or_read-clause-kinds : goal.returns-in-Err-make_or_read-clause-kinds
+returns-in-Err-make_or_read-clause-kinds g c = told c.in-Err-make_or_read.refusal c.in-Err-make_or_read.ensures.kinds
+
+pub returns-in-Err-make_or_read-clause-unchanged : goal.returns-in-Err-make_or_read-clause-unchanged
+returns-in-Err-make_or_read-clause-unchanged g c is =
+    subst₂ (λ before after. KeepsAll (state g.S.Store before) (state g.S.Store after)) c.new-tables.ensures.connection (sym c.into_connection.ensures)
+    (keeps_all (shown_by g.S.Store c.new-tables.result) (shown_by g.S.Store c.make_or_read.new.tables) c.in-Err-make_or_read.refusal c.in-Err-make_or_read.ensures.kinds
+    c.in-Err-make_or_read.ensures.reused is)

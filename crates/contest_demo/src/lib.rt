@@ -1,0 +1,7 @@
+//! The demo contest, on which tests and examples stand, for any store.
+#![tactic(auto)]
+
+pub mod demo;
+mod entries;
+mod filling;
+mod rows;
