@@ -1,5 +1,5 @@
 -- Worked examples: where a head ends.
-use Rattle.std.proofs.Common.{◌≡◌, ℕ, true, false, [], refl}
+use Rattle.std.proofs.Common.{◌≡◌, true, false, [], refl}
 use Rattle.std.specs.Prelude.{codes}
 use Rattle.contest_types.specs.declared.limits.TheConstants.{REQUEST_HEAD}
 use Rattle.contest_types.specs.declared.refusal.Refusal.TheVariants.{HeadTooLarge, Malformed}

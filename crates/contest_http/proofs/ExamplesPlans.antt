@@ -1,5 +1,5 @@
 -- Worked examples: what the fields of a head ask for, and which fault is told first.
-use Rattle.std.proofs.Common.{◌≡◌, ℕ, true, false, List, [], ◌∷◌, refl, Some, None, Result, Ok, Err}
+use Rattle.std.proofs.Common.{◌≡◌, ℕ, true, false, List, [], ◌∷◌, refl, Ok, Err}
 use Rattle.std.specs.Prelude.{codes}
 use Rattle.contest_types.specs.declared.refusal.Refusal.TheVariants.{BodyTooLarge, Encoding, Malformed}
 use Rattle.contest_desk.specs.declared.request.Credential.TheVariants as credential

@@ -1,10 +1,9 @@
 -- Worked examples: the texts of a reply, and a request with the bytes that follow its head.
-use Rattle.std.proofs.Common.{◌≡◌, ℕ, true, false, List, [], ◌∷◌, refl}
+use Rattle.std.proofs.Common.{◌≡◌, ℕ, true, false, List, [], refl}
 use Rattle.std.specs.Prelude.{codes, ◌++◌}
 use Rattle.std.specs.Fmt.{digits}
 use Rattle.contest_types.specs.declared.refusal.Refusal.TheVariants.{BodyTooLarge, Malformed}
 use Rattle.contest_desk.specs.declared.reply.ContentType.TheVariants.{Json}
-use Rattle.contest_desk.specs.declared.reply.ExtraField.{ExtraField}
 use Rattle.contest_desk.specs.declared.reply.ExtraField.TheVariants.{Allow, Nothing, WwwAuthenticate}
 use Rattle.contest_desk.specs.declared.reply.Reply.{Reply}
 use Rattle.contest_desk.specs.declared.request.Credential.TheVariants as credential
