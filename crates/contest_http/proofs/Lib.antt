@@ -7,3 +7,8 @@ pub mod FrameLemmas
 pub mod RestLemmas
 pub mod ServeLemmas
 pub mod HeadLaws
+mod ExamplesHeads
+mod ExamplesTargets
+mod ExamplesCredentials
+mod ExamplesPlans
+mod ExamplesReplies

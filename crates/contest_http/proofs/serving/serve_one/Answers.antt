@@ -38,19 +38,24 @@ returns-in-Asked-clause-bytes g c input left p q =
 pub returns-in-Asked-clause-handled : goal.returns-in-Asked-clause-handled
 returns-in-Asked-clause-handled g c =
     let e = c.handle-reply.ensures in
-    inr (c.in-Asked.credential, c.in-Asked.request, c.handle-reply.result, record {
-      answered = e.reply;
-      contest = e.contest;
-      unchanged = e.unchanged;
-      lasts = e.kept;
-      opens = e.open;
-      up = e.up;
-      shut = e.shut;
-      crash = e.crash;
-      fault = e.fault;
-      no_fault = e.no_fault;
-      isolated = e.isolated;
-    })
+    inr (
+      c.in-Asked.credential,
+      c.in-Asked.request,
+      c.handle-reply.result,
+      record {
+        answered = e.reply;
+        contest = e.contest;
+        unchanged = e.unchanged;
+        lasts = e.kept;
+        opens = e.open;
+        up = e.up;
+        shut = e.shut;
+        crash = e.crash;
+        fault = e.fault;
+        no_fault = e.no_fault;
+        isolated = e.isolated;
+      },
+    )
 
 pub returns-in-Asked-clause-isolated : goal.returns-in-Asked-clause-isolated
 returns-in-Asked-clause-isolated g c input left p q clean =
