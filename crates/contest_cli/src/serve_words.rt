@@ -55,10 +55,9 @@ fn port_option<'a>(alloc: Global) -> Arg<'a>
     ensures rule { rule_of result ≡ option (codes "port") }
     ensures local { result.global ≡ false }
 {
-    Arg::new(alloc, "port")
-        .long("port")
-        .value_name("P")
-        .help("Listens on this port [default: one that the system chooses]")
+    Arg::new(alloc, "port").long("port").value_name("P").help(
+        "Listens on this port [default: one that the system chooses]",
+    )
 }
 
 /// What the words of `serve` name; the first word is the command's own. The error is what is said of
