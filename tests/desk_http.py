@@ -86,10 +86,13 @@ class Server:
     def ask(self, data, ends=True):
         """What comes back for these bytes; the client says that no more comes, unless it waits for the reply first."""
         with socket.create_connection(("127.0.0.1", self.port), timeout=60) as client:
-            client.sendall(data)
-            if ends:
-                client.shutdown(socket.SHUT_WR)
-            return read_all(client)
+            try:
+                client.sendall(data)
+                if ends:
+                    client.shutdown(socket.SHUT_WR)
+                return read_all(client)
+            except OSError as error:
+                return f"the connection broke: {error}".encode()
 
     def stop(self, number=signal.SIGTERM):
         self.process.send_signal(number)

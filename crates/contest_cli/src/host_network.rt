@@ -15,8 +15,11 @@ const PATIENCE: u64 = 10;
 /// How long a client that was answered may take to close its side, in seconds.
 const FAREWELL: u64 = 1;
 
-/// How many pieces of what such a client still sends are taken, so that its reply isn't lost.
+/// How many pieces of what such a client still sends are taken, so that its reply isn't lost, and the
+/// bytes of one.
 const LEFTOVERS: u32 = 64;
+
+const PIECE: usize = 65_536;
 
 /// The clock, and the loopback address.
 #[derive(Drop)]
@@ -117,7 +120,7 @@ fn connected(stream: TcpStream) -> io::Result<Connected<TcpStream, TcpStream>> {
 
 // A connection that is closed while bytes of the client are unread takes back what it was sent.
 fn take_leftovers(reader: &mut TcpStream) {
-    let mut piece = [0u8; 4096];
+    let mut piece = [0u8; PIECE];
     for _ in 0..LEFTOVERS {
         match reader.read(&mut piece) {
             Ok(0) => return,
