@@ -74,6 +74,7 @@ class Server:
         self.process = subprocess.Popen(
             [test.program, "serve", "cup.db", "--requests", str(requests), "--port", port],
             cwd=folder, env=env, stdout=subprocess.PIPE, stderr=subprocess.PIPE)
+        test.processes.append(self.process)
         line = self.process.stdout.readline().decode()
         found = re.fullmatch(r"listening on 127\.0\.0\.1:(\d+)\n", line)
         test.note(found is not None, f"the line of the port: {line!r}")
@@ -115,6 +116,7 @@ class Test(desk_files.Desk):
     def __init__(self, program, folder, requests):
         super().__init__(program, program, folder, 0)
         self.requests = requests
+        self.processes = []
 
     def is_reply(self, what, given, wanted):
         self.note(given == wanted, f"{what}: {given!r}, wanted {wanted!r}")
@@ -313,10 +315,14 @@ def main():
         parser.error(f"there is no program {options.program}: build it, or name one by --program")
     with tempfile.TemporaryDirectory() as folder:
         test = Test(options.program, folder, options.requests)
-        for part in (try_replies, try_sizes, try_cuts, try_many, try_clients, try_ends, try_words, try_curl):
-            before = test.passed
-            part(test)
-            print(f"{part.__name__[4:]}: {test.passed - before} held", flush=True)
+        try:
+            for part in (try_replies, try_sizes, try_cuts, try_many, try_clients, try_ends, try_words, try_curl):
+                before = test.passed
+                part(test)
+                print(f"{part.__name__[4:]}: {test.passed - before} held", flush=True)
+        finally:
+            for process in test.processes:
+                process.kill()
         print(f"{test.passed} passed, {test.failed} failed")
     return 1 if test.failed else 0
 
