@@ -6,7 +6,8 @@
 tables/desk_commands.txt has calls with their answers. Then come files that can't be read or written, a full disk, a
 moment at which the clock is no moment, the session of README.md, a contest whose rows are counted one by one, and
 imports that are killed. What is in a file afterwards is asked of sqlite3, and of store_probe, which opens a file as the
-desk does. A call that is refused leaves what the file shows as it was.
+desk does. A call that is refused leaves what the file shows as it was, and one that is done leaves all of it in the file
+alone, without its log.
 
 Takes sqlite3, faketime and setpriv, and runs as root, which may mount a small disk and be another user. Ends with the line
 `N passed, M failed`; the exit status is 0 where M is 0.
@@ -76,11 +77,14 @@ class Desk:
             print(f"FAILED: {what}", flush=True)
 
     def answers(self, what, wanted, folder, *words, **options):
-        """The call has this answer; where it is refused, each database in the folder shows what it did."""
+        """The call has this answer. Where it is refused, each database in the folder shows what it did; where it is done, each
+        shows all that it does without its log too."""
         was = shown(folder)
         given = self.run(folder, *words, **options)
-        same = given[0] == 0 or shown(folder) == was
-        self.note(given == wanted and same, f"{what}: {given}, wanted {wanted}, {'' if same else 'and a file has changed'}")
+        is_done = given[0] == 0
+        right = shown(folder, with_logs=False) == shown(folder) if is_done else shown(folder) == was
+        wrong = "and FILE alone shows less" if is_done else "and a file has changed"
+        self.note(given == wanted and right, f"{what}: {given}, wanted {wanted}, {'' if right else wrong}")
 
     def opens(self, what, folder, counts):
         """The contest in cup.db has so many rows of each kind."""
@@ -89,17 +93,17 @@ class Desk:
         self.note(given == f"open: {counts}\n", f"{what}: {given!r}, wanted {counts}")
 
 
-def shown(folder):
+def shown(folder, with_logs=True):
     """What sqlite3 shows of each database in a folder; of one without tables, as of none, nothing."""
     databases = [path for path in sorted(folder.glob("**/*.db")) if path.is_file()]
-    dumps = {path.name: dump(path) for path in databases}
+    dumps = {path.name: dump(path, with_logs) for path in databases}
     return {name: text for name, text in dumps.items() if "CREATE" in text}
 
 
-def dump(path):
+def dump(path, with_log=True):
     """All that sqlite3 shows of a file. It reads a copy elsewhere, since there may be no room beside it."""
     with tempfile.TemporaryDirectory() as folder:
-        for name in (path.name, f"{path.name}-wal"):
+        for name in (path.name, f"{path.name}-wal") if with_log else (path.name,):
             if (path.parent / name).is_file():
                 shutil.copy(path.parent / name, folder)
         return store_files.sqlite(pathlib.Path(folder, path.name), ".dump")
@@ -187,6 +191,16 @@ def try_paths(desk):
     folder.chmod(0o755)
     desk.answers("another's folder", FAULT, folder, "init", "new.db", "contest.json", before=NOBODY)
     desk.opens("after all of these", folder, "0 0 0 0 0 0 0 0 0 0 0")
+
+
+def try_alone(desk):
+    """A file that is copied alone is the contest."""
+    folder, other = desk.new_folder(), desk.new_folder()
+    desk.run(folder, "init", "cup.db", "contest.json")
+    desk.run(folder, "import", "cup.db", "teams-csv", "teams.csv")
+    shutil.copy(folder / "cup.db", other)
+    desk.answers("a copy", (0, "added 0\n", ""), other, "import", "cup.db", "teams-csv", "teams.csv")
+    desk.opens("a copy", other, "0 0 0 0 500 0 0 0 0 0 0")
 
 
 def try_streams(desk):
@@ -358,7 +372,7 @@ def main():
         for program in programs:
             os.chmod(program, 0o755)
         desk = Desk(*programs, folder, options.kills)
-        for part in (try_commands, try_limits, try_bytes, try_paths, try_streams, try_full_disk, try_clock, try_rows, try_readme, try_kills):
+        for part in (try_commands, try_limits, try_bytes, try_paths, try_alone, try_streams, try_full_disk, try_clock, try_rows, try_readme, try_kills):
             before = desk.passed
             part(desk)
             print(f"{part.__name__[4:].replace('_', ' ')}: {desk.passed - before} held", flush=True)

@@ -24,6 +24,7 @@ NUMBERS = {"Malformed": 1, "BodyTooLarge": 6, "SettingsClosed": 23}
 STATUSES = {
     "Malformed": 400, "UnknownToken": 401, "RoleForbids": 403, "NotFound": 404, "Method": 405, "BodyTooLarge": 413,
     "NotOpen": 409, "UnknownReference": 400, "EntryPointMissing": 400, "TeamLimit": 409, "KeyReused": 409, "AlreadyReleased": 409,
+    "NothingToVerify": 409, "SameJudge": 403, "TypeDiffers": 409,
 }  # fmt: skip
 COLLECTIONS = {"judgement-types": "types", "languages": "languages", "problems": "problems", "groups": "groups", "teams": "teams"}
 HEADERS = {"teams-csv": b"id,name,group_ids,hidden", "accounts-csv": b"id,role,team_id,token"}
@@ -177,7 +178,8 @@ def imported(contest, now, kind, data):
 
 
 def new_contest(head, start, thaw, finalized):
-    """A contest with nothing in it: its head has id, name, duration, freeze and penalty; each mark is set or None."""
+    """A contest with nothing in it: its head has id, name, duration, freeze, penalty and whether verdicts are verified; each
+    mark is set or None."""
     lists = ("types", "languages", "problems", "groups", "teams", "accounts", "submissions", "proposals", "releases")
     return {**head, "start": start, "thaw": thaw, "finalized": finalized, **{name: [] for name in lists}}
 
@@ -216,18 +218,30 @@ def state_object(contest, now):
     return {name: moment(one) for name, one in state.items()}
 
 
+def is_jury(caller):
+    return caller is not None and caller["role"] != "team"
+
+
+def owns(caller, team):
+    return caller is not None and caller["role"] == "team" and caller["team"] == team
+
+
+def submission_id(contest, submission):
+    place = [team["id"] for team in contest["teams"]].index(submission["team"]) + 1
+    return f"s{place}-{submission['number']}"
+
+
 def submission_object(contest, submission, caller):
     """A submission as the caller is served it."""
-    place = [team["id"] for team in contest["teams"]].index(submission["team"]) + 1
     shown = {
         "contest_time": relative(submission["time"] - contest["start"]),
-        "id": f"s{place}-{submission['number']}",
+        "id": submission_id(contest, submission),
         "language_id": submission["language"],
         "problem_id": submission["problem"],
         "team_id": submission["team"],
         "time": moment(submission["time"]),
     }
-    if caller is not None and (caller["role"] != "team" or caller["team"] == submission["team"]):
+    if is_jury(caller) or owns(caller, submission["team"]):
         href = f"contests/{contest['id']}/submissions/{shown['id']}/files"
         shown["files"] = [{"href": href, "mime": "application/zip"}]
         if submission["entry"] is not None:
@@ -247,15 +261,99 @@ def seen_submissions(contest, caller):
 
     def is_seen(submission):
         hidden = next(team["hidden"] for team in contest["teams"] if team["id"] == submission["team"])
-        return not hidden or (caller is not None and (caller["role"] != "team" or caller["team"] == submission["team"]))
+        return not hidden or is_jury(caller) or owns(caller, submission["team"])
 
     seen = [submission for submission in contest["submissions"] if is_seen(submission)]
     return sorted(seen, key=lambda one: (one["time"], one["team"].encode(), one["number"]))
 
 
-def collection(contest, name, caller):
+def seen_release(contest, now, submission, caller):
+    """The last release on a submission, unless it is held back from the caller; None where there is none to see."""
+    which = submission_id(contest, submission)
+    released = [one for one in contest["releases"] if one["submission"] == which]
+    freeze = contest["start"] + contest["duration"] - contest["freeze"]
+    is_held = submission["time"] >= freeze and not has_come(contest["thaw"], now)
+    if not released or (is_held and not is_jury(caller) and not owns(caller, submission["team"])):
+        return None
+    return released[-1]
+
+
+def judgement_object(contest, release):
+    at = {"time": moment(release["time"]), "contest_time": relative(release["time"] - contest["start"])}
+    times = {f"{side}_{name}": value for side in ("start", "end") for name, value in at.items()}
+    which = release["submission"]
+    return {"id": f"{which}.{release['round']}", "judgement_type_id": release["type"], "submission_id": which, **times}
+
+
+def judgements(contest, now, caller):
+    seen = [seen_release(contest, now, one, caller) for one in seen_submissions(contest, caller)]
+    return [judgement_object(contest, release) for release in seen if release is not None]
+
+
+def proposal_object(proposal, is_released):
+    names = {"account_id": proposal["account"], "judgement_type_id": proposal["type"], "submission_id": proposal["submission"]}
+    return {**names, "released": is_released, "time": moment(proposal["time"])}
+
+
+def open_proposals(contest, caller):
+    """The last proposal of each submission that has no release, in the order of the submissions."""
+    found = []
+    for submission in seen_submissions(contest, caller):
+        which = submission_id(contest, submission)
+        made = [one for one in contest["proposals"] if one["submission"] == which]
+        if made and all(one["submission"] != which for one in contest["releases"]):
+            found.append(proposal_object(made[-1], False))
+    return found
+
+
+def cell(contest, now, team, problem, caller):
+    """What a team's attempts at a problem come to, under what the caller sees of it."""
+    types, start = {row["id"]: row for row in contest["types"]}, contest["start"]
+    counted = {"num_judged": 0, "num_pending": 0, "problem_id": problem["id"], "solved": False}
+    penalties = 0
+    attempts = [one for one in contest["submissions"] if (one["team"], one["problem"]) == (team["id"], problem["id"])]
+    for attempt in sorted(attempts, key=lambda one: (one["time"], one["number"])):
+        release = seen_release(contest, now, attempt, caller)
+        if release is None:
+            counted["num_pending"] += 1
+            continue
+        counted["num_judged"] += 1
+        if types[release["type"]]["solved"]:
+            return {**counted, "solved": True, "time": (attempt["time"] - start) // 60_000}, penalties
+        penalties += types[release["type"]]["penalty"]
+    return counted, penalties
+
+
+def scoreboard(contest, now, caller):
+    """The teams that aren't hidden: more solved first, then less time, then an earlier last minute; ranks count who is better."""
+    rows = []
+    problems = sorted(contest["problems"], key=lambda row: (row["ordinal"], row["id"].encode()))
+    for team in contest["teams"]:
+        if team["hidden"]:
+            continue
+        cells = [cell(contest, now, team, problem, caller) for problem in problems]
+        solved = [(one["time"], penalties) for one, penalties in cells if one["solved"]]
+        total = sum(minute + contest["penalty"] * penalties for minute, penalties in solved)
+        last = max((minute for minute, _ in solved), default=None)
+        score = {"num_solved": len(solved), "time": last, "total_time": total}
+        key = (-len(solved), total, 0 if last is None else last)
+        rows.append((key, team, {"problems": [one for one, _ in cells], "score": score, "team_id": team["id"]}))
+    shown = []
+    for key, _, row in sorted(rows, key=lambda one: (one[0], one[1]["name"].encode(), one[1]["id"].encode())):
+        shown.append({**row, "rank": 1 + sum(other < key for other, _, _ in rows)})
+    time = None if contest["start"] is None else signed(now - contest["start"])
+    return {"contest_time": time, "rows": shown, "state": state_object(contest, now), "time": moment(now)}
+
+
+def signed(milliseconds):
+    return relative(milliseconds) if milliseconds >= 0 else "-" + relative(-milliseconds)
+
+
+def collection(contest, now, name, caller):
     if name == "submissions":
         return [submission_object(contest, one, caller) for one in seen_submissions(contest, caller)]
+    if name == "judgements":
+        return judgements(contest, now, caller)
     rows = contest[COLLECTIONS[name]]
     return sorted(rows, key=lambda row: (row["ordinal"], row["id"].encode())) if name == "problems" else rows
 
@@ -307,35 +405,66 @@ def submit(contest, now, caller, key, body):
     return new
 
 
-def propose(contest, now, caller, body):
-    """The proposal that a judge's post is; nobody verifies it, so its verdict is released."""
-    if caller is None or caller["role"] == "team":
+def judged(contest, caller, body):
+    """The submission and the judgement type that a judge's post names; what is released already is refused."""
+    if not is_jury(caller):
         raise Refused("RoleForbids")
     try:
         row = json.loads(body)
         which, verdict = member(row, "submission_id", is_id), member(row, "judgement_type_id", is_id)
     except (Fault, json.JSONDecodeError):
         raise Refused("Malformed")
-    if all(submission_object(contest, one, caller)["id"] != which for one in contest["submissions"]):
+    if all(submission_id(contest, one) != which for one in contest["submissions"]):
         raise Refused("UnknownReference")
     if all(row["id"] != verdict for row in contest["types"]):
         raise Refused("UnknownReference")
-    if which in contest["releases"]:
+    if any(one["submission"] == which for one in contest["releases"]):
         raise Refused("AlreadyReleased")
-    contest["releases"].append(which)
-    return {"account_id": caller["id"], "judgement_type_id": verdict, "released": True, "submission_id": which, "time": moment(now)}
+    return which, verdict
+
+
+def first_release(now, which, verdict):
+    return {"submission": which, "round": 1, "type": verdict, "time": now}
+
+
+def propose(contest, now, caller, body):
+    """The proposal that a judge's post is; where nobody verifies it, its verdict is released."""
+    which, verdict = judged(contest, caller, body)
+    if sum(one["submission"] == which for one in contest["proposals"]) >= PROPOSAL_LIMIT:
+        raise Refused("TeamLimit")
+    proposal = {"account": caller["id"], "submission": which, "type": verdict, "time": now}
+    contest["proposals"].append(proposal)
+    if not contest["verification"]:
+        contest["releases"].append(first_release(now, which, verdict))
+    return proposal_object(proposal, not contest["verification"])
+
+
+def verify(contest, now, caller, body):
+    """The judgement that comes of another judge's naming the type of the last proposal."""
+    which, verdict = judged(contest, caller, body)
+    made = [one for one in contest["proposals"] if one["submission"] == which]
+    if not made:
+        raise Refused("NothingToVerify")
+    if made[-1]["account"] == caller["id"]:
+        raise Refused("SameJudge")
+    if made[-1]["type"] != verdict:
+        raise Refused("TypeDiffers")
+    contest["releases"].append(first_release(now, which, verdict))
+    return judgement_object(contest, contest["releases"][-1])
 
 
 def offered(contest, path):
     """What a path offers: the methods, the collection and the id in it."""
     pieces = path.split("/")
-    if path == "/jury/proposals":
-        return ["POST"], "proposals", None
-    if path == "/contests" or pieces in (["", "contests", contest["id"]], ["", "contests", contest["id"], "state"]):
-        return ["GET", "HEAD"], {2: "contests", 3: "contest", 4: "state"}[len(pieces)], None
+    if path in ("/jury/proposals", "/jury/verifications"):
+        return ["GET", "HEAD", "POST"] if pieces[2] == "proposals" else ["POST"], pieces[2], None
+    if pieces in (["", "contests", contest["id"], "state"], ["", "contests", contest["id"], "scoreboard"]):
+        return ["GET", "HEAD"], pieces[3], None
+    if path == "/contests" or pieces == ["", "contests", contest["id"]]:
+        return ["GET", "HEAD"], {2: "contests", 3: "contest"}[len(pieces)], None
     if len(pieces) == 6 and all(pieces[1:]) and pieces[:4] + pieces[5:] == ["", "contests", contest["id"], "submissions", "files"]:
         return ["GET", "HEAD"], "files", pieces[4]
-    names = ["submissions", *COLLECTIONS]
+    names = ["submissions", "judgements", *COLLECTIONS]
     if len(pieces) not in (4, 5) or pieces[:3] != ["", "contests", contest["id"]] or pieces[3] not in names or not all(pieces[1:]):
         raise Refused("NotFound")
     methods = ["GET", "HEAD"] + (["POST"] if pieces[3:] == ["submissions"] else [])
@@ -367,15 +496,21 @@ def value_of(contest, now, who, key, method, path, body):
     if method not in methods:
         raise Refused("Method", " Allow: " + ", ".join(methods))
     caller = caller_of(contest, who)
-    if method == "POST" and name == "proposals":
-        return propose(contest, now, caller, body)
+    if method == "POST" and name in ("proposals", "verifications"):
+        return {"proposals": propose, "verifications": verify}[name](contest, now, caller, body)
     if method == "POST":
         return submission_object(contest, submit(contest, now, caller, key, body), caller)
     if name == "files":
         return file_of(contest, which, caller)
     if name in ("contests", "contest", "state"):
         return {"contests": [contest_object(contest)], "contest": contest_object(contest), "state": state_object(contest, now)}[name]
-    rows = collection(contest, name, caller)
+    if name == "scoreboard":
+        return scoreboard(contest, now, caller)
+    if name == "proposals":
+        if not is_jury(caller):
+            raise Refused("RoleForbids")
+        return open_proposals(contest, caller)
+    rows = collection(contest, now, name, caller)
     if which is None:
         return rows
     for row in rows:

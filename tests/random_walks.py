@@ -29,7 +29,7 @@ SETTINGS = ["judgement-types", "languages", "groups", "problems", "teams"]
 NAMES = ["Alpha", "Beta", "Gamma, the third", 'The "Deltas"', "Łódź", "東京", ""]
 IDS = {"judgement-types": ["AC", "WA", "CE"], "languages": ["cpp", "java"], "groups": ["north", "south"],
        "problems": ["a", "b", "c"], "teams": ["t1", "t2", "t3", "t9"]}  # fmt: skip
-ACCOUNTS = ["a1", "a2", "a3", "a9", "j1", "adm"]
+ACCOUNTS = ["a1", "a2", "a3", "a9", "j1", "j2", "adm"]
 KEYS = [None, None, "k1", "k2", "k3", "?"]
 FILES = [b"abc", b"", b"abd", bytes(7)]
 
@@ -110,7 +110,13 @@ class Chance:
         if self.random.random() < 0.5:
             return "POST", self.often("/contests/demo/submissions", ["/contests/cup/submissions"], 0.98), self.post()
         if self.random.random() < 0.4:
-            return "POST", "/jury/proposals", self.proposal()
+            path = self.often("/jury/proposals", ["/jury/verifications"], 0.6)
+            return self.often("POST", ["GET", "HEAD", "PATCH"], 0.9), path, self.proposal()
+        if self.random.random() < 0.4:
+            path = self.often("/contests/demo/scoreboard", ["/contests/demo/judgements"], 0.5)
+            ids = [f"/s{team}-{number}.{n}" for team in (1, 2, 3) for number in (1, 2) for n in (1, 1, 2)]
+            path += self.often("", ids, 0.6) if path.endswith("judgements") else self.often("", ["/", "/x"], 0.95)
+            return self.often("GET", ["HEAD", "POST"], 0.95), path, ""
         if self.random.random() < 0.4:
             which = f"s{self.often(1, [2, 3, 4])}-{self.often('1', ['2', '3', '01'], 0.6)}"
             path = self.often(f"/contests/demo/submissions/{which}/files", ["/contests", "/contests/demo", "/contests/demo/state"], 0.5)
@@ -141,11 +147,12 @@ def walk(number, seed, steps):
     """A walk with the answers that it must get, and how often each kind of answer came."""
     chance, kinds = Chance(seed), collections.Counter()
     text, now = f"\n== Walk {number}\n", START - 4_000_000
-    start = chance.often(START, [None], 0.9)
+    start, head = chance.often(START, [None], 0.9), {**HEAD, "verification": chance.one([False, True])}
     marks = [chance.often(None, [START + chance.random.randint(-2_000_000, 26_000_000)], part) for part in (0.5, 0.8)]
-    contest = desk_opinion.new_contest(HEAD, start, *marks)
+    contest = desk_opinion.new_contest(head, start, *marks)
     for words, mark in zip(("thawed from", "final from"), marks):
         text += f"{words}: {desk_opinion.moment(mark).replace('+00:00', 'Z')}\n" if mark is not None else ""
+    text += "verdicts are verified\n" if head["verification"] else ""
     text += ("" if start else "no start is set\n") + "nothing is set up\n"
     for step in range(steps):
         lines, answers = "", ""

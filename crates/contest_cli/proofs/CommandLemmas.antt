@@ -14,14 +14,14 @@ use Rattle.contest_words.proofs.StreamLemmas.{keeps_same}
 use Rattle.contest_replay_cli.proofs.ReplayLemmas.{stopped}
 
 -- memory for its words was refused
-pub out_of_memory : {S : Type 0} (g : Ghosts S) (Found : Held S → Type 0) (command : CommandName) (words : List Text) (in_old in_new out err_old err_new : Stream) (status : ℕ)
+pub out_of_memory : {S : Type 0} (g : Ghosts S) (Found : Held S → Type 0) (All : (asked requests : ℕ) → (out_old out_new : Stream) → (old new : Held S) → Type 0) (command : CommandName) (words : List Text) (in_old in_new out err_old err_new : Stream) (status : ℕ)
     → status ≡ exit_status_of (Refused Memory) → Tells err_old err_new (line_of (Refused Memory))
-    → Runs g Found command words in_old in_new out out err_old err_new status
-out_of_memory g Found Replay words in_old in_new out err_old err_new status is told =
+    → Runs g Found All command words in_old in_new out out err_old err_new status
+out_of_memory g Found All Replay words in_old in_new out err_old err_new status is told =
     stopped words in_old in_new out err_old err_new (Refused Memory) status (inl refl) is told
-out_of_memory g Found Init words in_old in_new out err_old err_new status is told =
+out_of_memory g Found All Init words in_old in_new out err_old err_new status is told =
     (inl (Refused Memory, inr (inl refl), is, told), keeps_same out.bytes)
-out_of_memory g Found Import words in_old in_new out err_old err_new status is told =
+out_of_memory g Found All Import words in_old in_new out err_old err_new status is told =
     inl ((Refused Memory, inr (inl refl), is, told), keeps_same out.bytes)
-out_of_memory g Found Serve words in_old in_new out err_old err_new status is told =
+out_of_memory g Found All Serve words in_old in_new out err_old err_new status is told =
     inl ((Refused Memory, inr (inl refl), is, told), keeps_same out.bytes)

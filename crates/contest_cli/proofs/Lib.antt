@@ -5,6 +5,8 @@ mod OpeningLemmas
 mod ImportLemmas
 mod HostLemmas
 mod CommandLemmas
+mod ClientLemmas
 mod ServingLemmas
 mod NumberLemmas
 mod ServeEndings
+mod TableLemmas

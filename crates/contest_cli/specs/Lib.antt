@@ -5,6 +5,7 @@ pub mod Inputs
 pub mod Init
 pub mod Import
 pub mod FileCommands
+pub mod Clients
 pub mod Served
 pub mod ServeWords
 pub mod Serve

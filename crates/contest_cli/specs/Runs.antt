@@ -11,14 +11,15 @@ use Rattle.contest_replay_cli.specs.Replay.{Replays}
 use Rattle.contest_cli.specs.declared.invocation.CommandName.{CommandName}
 use Rattle.contest_cli.specs.declared.invocation.CommandName.TheVariants.{Replay, Init, Import, Serve}
 
--- on a machine whose stores are of some type S, of which this is known of one that was opened
-abbrev pub Runs : {S : Type 0} → Ghosts S → (Held S → Type 0) → CommandName → List Text
+-- on a machine whose stores are of some type S, of which this is known of one that was opened, and on which it is this to
+-- serve so many clients
+abbrev pub Runs : {S : Type 0} → Ghosts S → (Held S → Type 0) → ((asked requests : ℕ) → (out_old out_new : Stream) → (old new : Held S) → Type 0) → CommandName → List Text
     → (in_old in_new out_old out_new err_old err_new : Stream) → (status : ℕ) → Type 0
-Runs g Found Replay words in_old in_new out_old out_new err_old err_new status =
+Runs g Found All Replay words in_old in_new out_old out_new err_old err_new status =
     Replays words in_old in_new out_old out_new err_old err_new status
-Runs g Found Init words in_old in_new out_old out_new err_old err_new status =
+Runs g Found All Init words in_old in_new out_old out_new err_old err_new status =
     InitsByWords g Found words err_old err_new status × Keeps out_old.bytes out_new.bytes
-Runs g Found Import words in_old in_new out_old out_new err_old err_new status =
+Runs g Found All Import words in_old in_new out_old out_new err_old err_new status =
     ImportsByWords g Found words out_old out_new err_old err_new status
-Runs g Found Serve words in_old in_new out_old out_new err_old err_new status =
-    ServesByWords words out_old out_new err_old err_new status
+Runs g Found All Serve words in_old in_new out_old out_new err_old err_new status =
+    ServesByWords g Found All words out_old out_new err_old err_new status

@@ -1,14 +1,26 @@
 -- How `serve` ends (own).
-use Rattle.std.specs.Prelude.{◌≡◌, ◌≤◌, ◌<◌, ◌⊎◌, ◌++◌, ◌^◌, ℕ, List, codes}
+use Rattle.std.specs.Prelude.{◌≡◌, ◌≤◌, ◌⊎◌, ◌++◌, ℕ, List, Option, Some, codes, length}
 use Rattle.std.specs.Fmt.{decimal}
 use Rattle.std.specs.Io.KnownBytes.{Appends, Keeps}
 use Rattle.clap.specs.Walk.{Text}
+use Rattle.sqlite_trees.specs.declared.store.Store.{Ghosts}
+use Rattle.sqlite.specs.Held.{Held, state}
+use Rattle.sqlite.specs.State.{HasCleanDisk, State}
+use Rattle.contest_types.specs.State.{ContestState}
 use Rattle.contest_types.specs.Streams.{AppendsFront, Fails, Stream, Tells}
 use Rattle.contest_types.specs.declared.refusal.Refusal.TheVariants.{Memory, StoreFault}
+use Rattle.contest_desk.specs.Runs.{IsRun, LeavesAfter}
+use Rattle.contest_desk.specs.declared.item.Answer.{Answer}
+use Rattle.contest_desk.specs.declared.item.Item.{Item}
+use Rattle.contest_sqlite.specs.Contests.{contest_in_trees, may_leave_of}
+use Rattle.contest_sqlite.specs.Opening.{IsNumbered, Opened}
+use Rattle.contest_sqlite.specs.Value.{StoreValue, shown_in, stored}
 use Rattle.contest_words.specs.CommandErrors.{IsMemory, IsWords, line_of}
 use Rattle.contest_words.specs.declared.command_error.CommandError.{CommandError}
 use Rattle.contest_words.specs.declared.command_error.CommandError.TheVariants.{Clock, File, Net, Refused}
+use Rattle.contest_cli.specs.Clients.{IsPort, ServesClients}
 use Rattle.contest_cli.specs.FileCommands.{EndsEarly, IsNoStore}
+use Rattle.contest_cli.specs.Inputs.{KeepsAll}
 use Rattle.contest_cli.specs.ServeWords.{HasServeFault, NamesServe}
 
 -- what is told of a port that clients can connect to
@@ -23,19 +35,61 @@ StopsBefore stop = (stop ≡ Refused StoreFault) ⊎ ((stop ≡ Refused Memory) 
 abbrev pub StopsAfter : CommandError → Type 0
 StopsAfter stop = (stop ≡ Net) ⊎ (stop ≡ Clock)
 
--- a port was told, or a front of it is out since `out` failed
-abbrev pub TellsPort : (out_old out_new : Stream) → CommandError → Type 0
-TellsPort out_old out_new stop =
-    (port : ℕ) × ((StopsAfter stop × Appends out_old.bytes out_new.bytes (listening_line port))
+-- the port was told, or a front of it is out since `out` failed
+abbrev pub TellsPort : (asked : ℕ) → (out_old out_new : Stream) → CommandError → Type 0
+TellsPort asked out_old out_new stop =
+    (port : ℕ) × IsPort asked port × ((StopsAfter stop × Appends out_old.bytes out_new.bytes (listening_line port))
     ⊎ ((stop ≡ File) × Fails out_old out_new × AppendsFront out_old.bytes out_new.bytes (listening_line port)))
 
--- how it ends, by its status: 0 once so many clients were served, with the port on `out`; 1 with a line on `err` of the
--- first fault
-pub record Serves (out_old out_new err_old err_new : Stream) (status : ℕ) : Type 0 where
+-- what is told, by the status: with 0 the port on `out`; with 1 a line on `err` of the first fault
+pub record TellsServing (asked : ℕ) (out_old out_new err_old err_new : Stream) (status : ℕ) : Type 0 where
   pub statuses : status ≤ 1
-  pub done : status ≡ 0 → (port : ℕ) × Appends out_old.bytes out_new.bytes (listening_line port) × Keeps err_old.bytes err_new.bytes
+  pub done : status ≡ 0 → (port : ℕ) × IsPort asked port × Appends out_old.bytes out_new.bytes (listening_line port) × Keeps err_old.bytes err_new.bytes
   pub refused : status ≡ 1 → (stop : CommandError) × Tells err_old err_new (line_of stop)
-      × ((StopsBefore stop × Keeps out_old.bytes out_new.bytes) ⊎ TellsPort out_old out_new stop)
+      × ((StopsBefore stop × Keeps out_old.bytes out_new.bytes) ⊎ TellsPort asked out_old out_new stop)
+
+-- the tables showed a valid contest, and from it there is a run of the machine by one request at most of each of so many
+-- clients; a crash leaves what it may leave after that run
+pub record ServesTables (clients : ℕ) (old new : State) : Type 0 where
+  pub contest : ContestState
+  pub found : contest_in_trees old.now.trees ≡ Some contest
+  pub items : List Item
+  pub answers : List Answer
+  pub each : length items ≤ clients
+  pub last : ContestState
+  pub runs : IsRun contest items answers last
+  pub leaves : (c : Option ContestState) → may_leave_of new c → LeavesAfter (may_leave_of old) contest items answers c
+
+-- how it ends: what is told of it, and what becomes of the tables, which stay as they were where no desk can be made of
+-- them. With status 0 one was
+pub record Serves (asked requests : ℕ) (out_old out_new err_old err_new : Stream) (old new : State) (status : ℕ) : Type 0 where
+  pub told : TellsServing asked out_old out_new err_old err_new status
+  pub done : status ≡ 0 → HasCleanDisk new → ServesTables requests old new
+  pub leaves : HasCleanDisk new → KeepsAll old new ⊎ ServesTables requests old new
+
+-- something listens on the port that was asked for, its port is told, and so many of its clients are served (Clients)
+pub record ServesHere {D L : Type 0} (port_of : L → ℕ) (Clients : ℕ → (old new : L) → (before after : D) → Type 0)
+    (asked requests : ℕ) (out_old out_new : Stream) (before after : D) : Type 0 where
+  pub first : L
+  pub last : L
+  pub listens : IsPort asked (port_of first)
+  pub told : Appends out_old.bytes out_new.bytes (listening_line (port_of first))
+  pub served : Clients requests first last before after
+
+-- that is done by a desk of the contest that a connection shows, and the connection is the desk's after it
+pub record ServesAll {S L : Type 0} (g : Ghosts S) (port_of : L → ℕ) (Clients : ℕ → (old new : L) → (before after : StoreValue S) → Type 0)
+    (asked requests : ℕ) (out_old out_new : Stream) (old new : Held S) : Type 0 where
+  pub before : StoreValue S
+  pub after : StoreValue S
+  pub opened : HasCleanDisk (shown_in g before) → Opened (state g old) (stored g before)
+  pub here : ServesHere port_of Clients asked requests out_old out_new before after
+  pub kept : new ≡ after.conn
+
+-- the same at the moments that the clock of some network shows
+abbrev pub ServesOn : {S L N R W : Type 0} → Ghosts S → (L → ℕ) → (L → Option (R × W) → L → Type 0) → (L → R → W → Type 0) → (N → ℕ → Type 0)
+    → (R → Option (List ℕ)) → (W → Option (List ℕ)) → (asked requests : ℕ) → (out_old out_new : Stream) → (old new : Held S) → Type 0
+ServesOn {N = N} g port_of gives parts shows remaining contents asked requests out_old out_new old new =
+    (network : N) × ServesAll g port_of (ServesClients gives parts (shows network) remaining contents (stored g)) asked requests out_old out_new old new
 
 -- the words of `serve` name a file, so many requests and this port
 abbrev pub NamesServed : List Text → (requests port : ℕ) → Type 0
@@ -48,8 +102,18 @@ StopsServeEarly words stop =
     (IsWords stop × HasServeFault words)
     ⊎ (IsMemory stop ⊎ ((requests : ℕ) × (port : ℕ) × NamesServed words requests port × ((stop ≡ Clock) ⊎ IsNoStore stop)))
 
--- how `serve` ends by its words; where it isn't begun, `out` keeps what it had
-abbrev pub ServesByWords : List Text → (out_old out_new err_old err_new : Stream) → (status : ℕ) → Type 0
-ServesByWords words out_old out_new err_old err_new status =
-    (EndsEarly (StopsServeEarly words) err_old err_new status × Keeps out_old.bytes out_new.bytes)
-    ⊎ ((requests : ℕ) × (port : ℕ) × NamesServed words requests port × Serves out_old out_new err_old err_new status)
+-- stores of some type S, of which this is known of one that was opened, and what it is to serve so many clients there
+module _ {S : Type 0} (g : Ghosts S) (Found : Held S → Type 0)
+    (All : (asked requests : ℕ) → (out_old out_new : Stream) → (old new : Held S) → Type 0) where
+  -- `serve` is begun, and ends as it says of the file that was opened
+  abbrev pub ServesOpened : List Text → (out_old out_new err_old err_new : Stream) → (status : ℕ) → Type 0
+  ServesOpened words out_old out_new err_old err_new status =
+      (requests : ℕ) × (port : ℕ) × NamesServed words requests port × (old new : Held S) × Found old × IsNumbered (state g old)
+      × Serves port requests out_old out_new err_old err_new (state g old) (state g new) status
+      × (status ≡ 0 → All port requests out_old out_new old new)
+
+  -- how `serve` ends by its words; where it isn't begun, `out` keeps what it had
+  abbrev pub ServesByWords : List Text → (out_old out_new err_old err_new : Stream) → (status : ℕ) → Type 0
+  ServesByWords words out_old out_new err_old err_new status =
+      (EndsEarly (StopsServeEarly words) err_old err_new status × Keeps out_old.bytes out_new.bytes)
+      ⊎ ServesOpened words out_old out_new err_old err_new status

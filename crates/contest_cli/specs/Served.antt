@@ -1,5 +1,5 @@
 -- What serving clients does to a kept contest: some requests are handled, one after another (own).
-use Rattle.std.specs.Prelude.{◌≡◌, ◌⊎◌, ℕ, List, Option}
+use Rattle.std.specs.Prelude.{◌≡◌, ◌≤◌, ◌⊎◌, ℕ, List, Option, length}
 use Rattle.contest_types.specs.State.{ContestState}
 use Rattle.contest_store.specs.Keeping.{Kept}
 use Rattle.contest_desk.specs.Runs.{LeavesAfter, RunsTo}
@@ -9,10 +9,12 @@ use Rattle.contest_http.specs.Serving.{HandlesOne}
 use Rattle.contest_words.specs.declared.command_error.CommandError.{CommandError}
 use Rattle.contest_words.specs.declared.command_error.CommandError.TheVariants.{Clock, Net}
 
--- the contest is that of a run of the machine, and a crash leaves what it may leave after that run
-pub record ServesSome (old new : Kept) : Type 0 where
+-- the contest is that of a run of the machine, by one request at most of each of so many clients, and a crash leaves what
+-- it may leave after that run
+pub record ServesSome (clients : ℕ) (old new : Kept) : Type 0 where
   pub items : List Item
   pub answers : List Answer
+  pub each : length items ≤ clients
   pub runs : RunsTo old new items answers
   pub leaves : (c : Option ContestState) → new.may_leave c → LeavesAfter old.may_leave old.contest items answers c
 

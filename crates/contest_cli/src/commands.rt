@@ -5,13 +5,16 @@ ghost use Rattle.contest_types.specs.Streams.{stream};
 ghost use Rattle.contest_words.specs.Endings.{ShowsSome, TellsWords};
 ghost use Rattle.contest_cli.specs.Commands.{AsksHelp, NamesNone, TellsNone, TellsUnknown, first_word, invocation_of, unknown_command};
 ghost use Rattle.contest_cli.specs.Runs.{Runs};
+ghost use Rattle.contest_cli.specs.Serve.{ServesOn};
 ghost use Rattle.contest_cli.specs.declared.invocation.CommandName.{CommandName};
 
 use crate::file_commands::{import_by_words, init_by_words, serve_by_words};
 use crate::help::{HELP, show_help_of};
 use crate::host::Host;
+use crate::host_network::{HostListener, HostNetwork};
 use crate::invocation::{CommandName, Invocation, invocation_of};
 use crate::machine::Machine;
+use crate::network::{Listen, Network};
 use contest_replay_cli::replay;
 use contest_types::Refusal;
 use contest_types::streams::Counted;
@@ -20,6 +23,7 @@ use sqlite::{Start, Unknown};
 use std::alloc::{AllocError, Global};
 use std::env::Args;
 use std::io::{self, Read, Write};
+use std::net::TcpStream;
 
 /// Runs the program by its arguments, of which the first is its own name. Answers the exit status.
 pub fn start<R: Read + Drop, O: Write + Drop, E: Write + Drop>(
@@ -55,7 +59,7 @@ fn run_on_host<D: Start, R: Read, O: Write, E: Write>(
 ) -> u8
     ensures statuses { result ≤ 2 }
     ensures command { (command : CommandName) → invocation_of (map string_bytes words.now) ≡ Invocation.To command
-        → Runs over_files ⟦<Host<'static, D> as Machine>⟧.found command (map string_bytes words.now)
+        → Runs over_files ⟦<Host<'static, D> as Machine>⟧.found (ServesOn over_files ⟦<HostListener as Listen>⟧.port_of ⟦<HostListener as Listen>⟧.gives ⟦<HostListener as Listen>⟧.parts ⟦<HostNetwork<'static> as Network>⟧.shows ⟦<TcpStream as Read>⟧.remaining ⟦<TcpStream as Write>⟧.contents) command (map string_bytes words.now)
         (stream R.remaining reader.old) (stream R.remaining reader.new)
         (stream O.contents out.old) (stream O.contents out.new)
         (stream E.contents err.old) (stream E.contents err.new) result }
@@ -75,7 +79,7 @@ fn run_owned<M: Machine, R: Read, O: Write, E: Write>(
 ) -> u8
     ensures statuses { result ≤ 2 }
     ensures command { (command : CommandName) → invocation_of (map string_bytes words.now) ≡ Invocation.To command
-        → Runs M.Disk.Store M.found command (map string_bytes words.now)
+        → Runs M.Disk.Store M.found (ServesOn M.Disk.Store M.Network.Listener.port_of M.Network.Listener.gives M.Network.Listener.parts M.Network.shows M.Network.Listener.Reader.remaining M.Network.Listener.Writer.contents) command (map string_bytes words.now)
         (stream R.remaining reader.old) (stream R.remaining reader.new)
         (stream O.contents out.old) (stream O.contents out.new)
         (stream E.contents err.old) (stream E.contents err.new) result }
@@ -100,7 +104,7 @@ pub fn run<M: Machine, R: Read, O: Write, E: Write>(
 ) -> u8
     ensures statuses { result ≤ 2 }
     ensures command { (command : CommandName) → invocation_of (map (λ s. s.now) words.now) ≡ Invocation.To command
-        → Runs M.Disk.Store M.found command (map (λ s. s.now) words.now)
+        → Runs M.Disk.Store M.found (ServesOn M.Disk.Store M.Network.Listener.port_of M.Network.Listener.gives M.Network.Listener.parts M.Network.shows M.Network.Listener.Reader.remaining M.Network.Listener.Writer.contents) command (map (λ s. s.now) words.now)
         (stream R.remaining reader.old) (stream R.remaining reader.new)
         (stream O.contents out.old) (stream O.contents out.new)
         (stream E.contents err.old) (stream E.contents err.new) result }
@@ -138,7 +142,7 @@ fn run_command<M: Machine, R: Read, O: Write, E: Write>(
     err: &mut Counted<E>,
 ) -> u8
     ensures statuses { result ≤ 2 }
-    ensures runs { Runs M.Disk.Store M.found command (map (λ s. s.now) words.now)
+    ensures runs { Runs M.Disk.Store M.found (ServesOn M.Disk.Store M.Network.Listener.port_of M.Network.Listener.gives M.Network.Listener.parts M.Network.shows M.Network.Listener.Reader.remaining M.Network.Listener.Writer.contents) command (map (λ s. s.now) words.now)
         (stream R.remaining reader.old) (stream R.remaining reader.new)
         (stream O.contents out.old) (stream O.contents out.new)
         (stream E.contents err.old) (stream E.contents err.new) result }

@@ -1,12 +1,13 @@
 //! The commands that keep a contest in a file: their words, what these name on the machine, then the
 //! command. Faults are found in this order: the words, the clock, the file that keeps the contest, the
-//! file that is read or the port.
+//! file that is read or the port. At its end a command parts from the file that keeps the contest; what it
+//! did stands whether or not that succeeds.
 ghost use Rattle.std.specs.Prelude.{◌≡◌, ◌≤◌, IfOk, IfErr, map};
 ghost use Rattle.sqlite.specs.Held.{state};
 ghost use Rattle.contest_types.specs.Streams.{stream};
 ghost use Rattle.contest_sqlite.specs.Opening.{IsNumbered};
 ghost use Rattle.contest_cli.specs.FileCommands.{ImportsByWords, InitsByWords, NamesFiles, NamesKind, StopsImportEarly, StopsInitEarly};
-ghost use Rattle.contest_cli.specs.Serve.{NamesServed, ServesByWords, StopsServeEarly};
+ghost use Rattle.contest_cli.specs.Serve.{NamesServed, ServesByWords, ServesOn, StopsServeEarly};
 
 use crate::import_command::run_import;
 use crate::import_words::read_import_words;
@@ -36,7 +37,9 @@ pub(crate) fn init_by_words<M: Machine, E: Write>(
     match open_init(alloc, machine, words) {
         Ok(opened) => {
             let Opened { conn, mut reader } = opened;
-            run_init(alloc, conn, &mut reader, err).0
+            let (status, conn) = run_init(alloc, conn, &mut reader, err);
+            M::close(conn.into_store());
+            status
         }
         Err(stop) => stop.refuse(err),
     }
@@ -82,7 +85,9 @@ pub(crate) fn import_by_words<M: Machine, O: Write, E: Write>(
     match open_import(alloc, machine, words) {
         Ok(it) => {
             let Opened { conn, mut reader } = it.files;
-            run_import(alloc, conn, it.now, it.kind, &mut reader, out, err).0
+            let (status, conn) = run_import(alloc, conn, it.now, it.kind, &mut reader, out, err);
+            M::close(conn.into_store());
+            status
         }
         Err(stop) => stop.refuse(err),
     }
@@ -127,14 +132,16 @@ pub(crate) fn serve_by_words<M: Machine, O: Write, E: Write>(
     out: &mut Counted<O>,
     err: &mut Counted<E>,
 ) -> u8
-    ensures { ServesByWords (map (λ s. s.now) words.now)
+    ensures { ServesByWords M.Disk.Store M.found (ServesOn M.Disk.Store M.Network.Listener.port_of M.Network.Listener.gives M.Network.Listener.parts M.Network.shows M.Network.Listener.Reader.remaining M.Network.Listener.Writer.contents) (map (λ s. s.now) words.now)
         (stream O.contents out.old) (stream O.contents out.new)
         (stream E.contents err.old) (stream E.contents err.new) result }
 {
     match open_serve(alloc, machine, words) {
         Ok(it) => {
             let ServedFile { conn, network } = it.served;
-            run_serve(alloc, conn, &network, it.port, it.requests, out, err).0
+            let (status, conn) = run_serve(alloc, conn, &network, it.port, it.requests, out, err);
+            M::close(conn.into_store());
+            status
         }
         Err(stop) => stop.refuse(err),
     }
@@ -148,6 +155,7 @@ fn open_serve<M: Machine>(
     words: &[&str],
 ) -> Result<ToServe<M>, CommandError>
     ensures named { IfOk result (λ it. NamesServed (map (λ s. s.now) words.now) it.requests it.port) }
+    ensures found { IfOk result (λ it. M.found it.served.conn) }
     ensures numbered { IfOk result (λ it. IsNumbered (state M.Disk.Store it.served.conn)) }
     ensures err { IfErr result (StopsServeEarly (map (λ s. s.now) words.now)) }
 {

@@ -62,6 +62,11 @@ impl<'a, D: Start> Machine for Host<'a, D> {
         let network = HostNetwork { rt: self.rt };
         Ok(ServedFile { conn, network })
     }
+
+    fn close(mut store: FileStore<FileFrom<D>>) {
+        let _ = store.checkpoint();
+        drop(store.close());
+    }
 }
 
 // The moment that a clock shows.

@@ -1,5 +1,7 @@
 //! The network of the program's machine: its loopback address alone.
-ghost use Rattle.std.specs.Prelude.{◌≡◌, IfErr};
+ghost use Rattle.std.specs.Prelude.{◌≡◌, IfErr, IfOk};
+ghost use Rattle.contest_cli.specs.Clients.{IsPort};
+ghost use Rattle.contest_types.specs.Streams.{one_more};
 
 use crate::host::moment_now;
 use crate::network::{Connected, Listen, Network};
@@ -30,6 +32,8 @@ pub(crate) struct HostNetwork<'a> {
 impl Network for HostNetwork<'_> {
     type Listener = HostListener;
 
+    ghost shows = { λ network now. Unit {0} };
+
     fn now(&self) -> Result<Moment, CommandError> {
         moment_now(self.rt)
     }
@@ -39,11 +43,13 @@ impl Network for HostNetwork<'_> {
     }
 }
 
-/// A port of the loopback address.
+/// A port of the loopback address, and how many clients were waited for. The count stays at `u64::MAX`
+/// once it is there.
 #[derive(Drop)]
 pub(crate) struct HostListener {
     listener: TcpListener,
     port: u16,
+    clients: u64,
 }
 
 impl Listen for HostListener {
@@ -51,11 +57,18 @@ impl Listen for HostListener {
 
     type Writer = TcpStream;
 
+    ghost port_of = { λ listener. listener.port };
+
+    ghost gives = { λ old client new. new.clients ≡ one_more old.clients };
+
+    ghost parts = { λ listener reader writer. Unit {0} };
+
     fn port(&self) -> u16 {
         self.port
     }
 
-    fn accept(&self) -> Result<Option<Connected<TcpStream, TcpStream>>, CommandError> {
+    fn accept(&mut self) -> Result<Option<Connected<TcpStream, TcpStream>>, CommandError> {
+        self.clients = self.clients.saturating_add(1);
         accept_from(&self.listener)
     }
 
@@ -71,7 +84,8 @@ impl Listen for HostListener {
 }
 
 fn listen_on(rt: &HostRuntime, port: u16) -> Result<HostListener, CommandError>
-    ensures { IfErr result (λ stop. stop ≡ CommandError.Net) }
+    ensures ok { IfOk result (λ listener. IsPort port listener.port) }
+    ensures err { IfErr result (λ stop. stop ≡ CommandError.Net) }
 {
     match bound_to(rt, port) {
         Ok(listener) => Ok(listener),
@@ -79,10 +93,20 @@ fn listen_on(rt: &HostRuntime, port: u16) -> Result<HostListener, CommandError>
     }
 }
 
-fn bound_to(rt: &HostRuntime, port: u16) -> io::Result<HostListener> {
+fn bound_to(rt: &HostRuntime, port: u16) -> io::Result<HostListener>
+    ensures { IfOk result (λ listener. IsPort port listener.port) }
+{
     let listener = TcpListener::bind(rt, (Ipv4Addr::LOCALHOST, port))?;
-    let port = listener.local_addr()?.port();
-    Ok(HostListener { listener, port })
+    let port = if port == 0 {
+        listener.local_addr()?.port()
+    } else {
+        port
+    };
+    Ok(HostListener {
+        listener,
+        port,
+        clients: 0,
+    })
 }
 
 fn accept_from(

@@ -68,4 +68,8 @@ pub trait Machine: Drop {
         ensures found { IfOk result (λ served. found served.conn) }
         ensures numbered { IfOk result (λ served. IsNumbered (state Self.Disk.Store served.conn)) }
         ensures refused { IfErr result IsNoStore };
+
+    /// Parts from an SQLite file: what its log holds goes into the file itself, where that can be done. What
+    /// was committed stands in either.
+    fn close(store: Self::Disk);
 }

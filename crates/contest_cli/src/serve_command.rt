@@ -1,10 +1,13 @@
 //! The command `serve`: the contest that a connection holds, served to clients.
-ghost use Rattle.std.specs.Prelude.{OnErr, OnOk};
+ghost use Rattle.std.specs.Prelude.{◌≡◌, OnErr, OnOk, ℕ};
 ghost use Rattle.std.specs.Io.KnownBytes.{Appends};
 ghost use Rattle.sqlite.specs.Held.{state};
 ghost use Rattle.contest_types.specs.Streams.{AppendsFront, Fails, stream};
 ghost use Rattle.contest_sqlite.specs.Opening.{IsNumbered};
-ghost use Rattle.contest_cli.specs.Serve.{Serves, listening_line};
+ghost use Rattle.contest_sqlite.specs.Value.{stored};
+ghost use Rattle.contest_cli.specs.Clients.{IsPort, ServesClients};
+ghost use Rattle.contest_cli.specs.Serve.{Serves, ServesAll, ServesHere, TellsServing, listening_line};
+ghost use Rattle.contest_cli.specs.Served.{ServesSome};
 
 use crate::listening_line::listening_line;
 use crate::network::{Listen, Network};
@@ -31,8 +34,10 @@ pub fn run_serve<S: Alter, N: Network, O: Write, E: Write>(
     err: &mut Counted<E>,
 ) -> (u8, Connection<S>)
     requires { IsNumbered (state S.Store conn) }
-    ensures { Serves (stream O.contents out.old) (stream O.contents out.new)
-        (stream E.contents err.old) (stream E.contents err.new) result.0 }
+    ensures serves { Serves port requests (stream O.contents out.old) (stream O.contents out.new)
+        (stream E.contents err.old) (stream E.contents err.new) (state S.Store conn) (state S.Store result.1) result.0 }
+    ensures clients { result.0 ≡ 0 → ServesAll S.Store N.Listener.port_of (ServesClients N.Listener.gives N.Listener.parts (N.shows network.now) N.Listener.Reader.remaining N.Listener.Writer.contents (stored S.Store))
+        port requests (stream O.contents out.old) (stream O.contents out.new) conn result.1 }
 {
     match open_desk(alloc, conn) {
         Ok(mut desk) => {
@@ -53,11 +58,15 @@ fn serve_desk<S: ContestStore, N: Network, O: Write, E: Write>(
     out: &mut Counted<O>,
     err: &mut Counted<E>,
 ) -> u8
-    ensures { Serves (stream O.contents out.old) (stream O.contents out.new)
+    ensures told { TellsServing port (stream O.contents out.old) (stream O.contents out.new)
         (stream E.contents err.old) (stream E.contents err.new) result }
+    ensures clients { result ≡ 0 → ServesHere N.Listener.port_of (ServesClients N.Listener.gives N.Listener.parts (N.shows network.now) N.Listener.Reader.remaining N.Listener.Writer.contents S.kept)
+        port requests (stream O.contents out.old) (stream O.contents out.new) desk.old desk.new }
+    ensures served { (S.kept desk.new).is_clean → ServesSome requests (S.kept desk.old) (S.kept desk.new) }
+    ensures clean { (S.kept desk.new).is_clean → (S.kept desk.old).is_clean }
 {
     match network.listen(port) {
-        Ok(listener) => serve_from(alloc, desk, network, &listener, requests, out, err),
+        Ok(mut listener) => serve_from(alloc, desk, network, &mut listener, requests, out, err),
         Err(stop) => stop.refuse(err),
     }
 }
@@ -67,13 +76,18 @@ fn serve_from<S: ContestStore, N: Network, O: Write, E: Write>(
     alloc: Global,
     desk: &mut Desk<S>,
     network: &N,
-    listener: &N::Listener,
+    listener: &mut N::Listener,
     requests: u32,
     out: &mut Counted<O>,
     err: &mut Counted<E>,
 ) -> u8
-    ensures { Serves (stream O.contents out.old) (stream O.contents out.new)
+    ensures told { (asked : ℕ) → IsPort asked (N.Listener.port_of listener.old)
+        → TellsServing asked (stream O.contents out.old) (stream O.contents out.new)
         (stream E.contents err.old) (stream E.contents err.new) result }
+    ensures line { result ≡ 0 → Appends (O.contents out.old.inner) (O.contents out.new.inner) (listening_line (N.Listener.port_of listener.old)) }
+    ensures clients { result ≡ 0 → ServesClients N.Listener.gives N.Listener.parts (N.shows network.now) N.Listener.Reader.remaining N.Listener.Writer.contents S.kept requests listener.old listener.new desk.old desk.new }
+    ensures served { (S.kept desk.new).is_clean → ServesSome requests (S.kept desk.old) (S.kept desk.new) }
+    ensures clean { (S.kept desk.new).is_clean → (S.kept desk.old).is_clean }
 {
     match tell_port(listener.port(), out) {
         Ok(()) => match serve(alloc, desk, network, listener, requests) {

@@ -1,5 +1,6 @@
 //! Clients served, one after the other.
-ghost use Rattle.std.specs.Prelude.{IfErr, IsTrue};
+ghost use Rattle.std.specs.Prelude.{◌≡◌, IfErr, IfOk, IsTrue};
+ghost use Rattle.contest_cli.specs.Clients.{ServesClients, ServesFewer, ServesNext};
 ghost use Rattle.contest_cli.specs.Served.{HandlesAny, ServesSome, StopsServing};
 
 use crate::network::{Connected, Listen, Network};
@@ -21,10 +22,12 @@ pub fn serve<S: ContestStore, N: Network>(
     alloc: Global,
     desk: &mut Desk<S>,
     network: &N,
-    listener: &N::Listener,
+    listener: &mut N::Listener,
     requests: u32,
 ) -> Result<(), CommandError>
-    ensures served { (S.kept desk.new).is_clean → ServesSome (S.kept desk.old) (S.kept desk.new) }
+    ensures clients { IfOk result (λ _. ServesClients N.Listener.gives N.Listener.parts (N.shows network.now) N.Listener.Reader.remaining N.Listener.Writer.contents S.kept requests listener.old listener.new desk.old desk.new) }
+    ensures fewer { IfErr result (λ _. ServesFewer N.Listener.gives N.Listener.parts (N.shows network.now) N.Listener.Reader.remaining N.Listener.Writer.contents S.kept requests listener.old desk.old desk.new) }
+    ensures served { (S.kept desk.new).is_clean → ServesSome requests (S.kept desk.old) (S.kept desk.new) }
     ensures clean { (S.kept desk.new).is_clean → (S.kept desk.old).is_clean }
     ensures up { (S.kept desk.new).is_clean → IsTrue (S.kept desk.new).is_open → IsTrue (S.kept desk.old).is_open }
     ensures err { IfErr result StopsServing }
@@ -40,8 +43,10 @@ fn serve_next<S: ContestStore, N: Network>(
     alloc: Global,
     desk: &mut Desk<S>,
     network: &N,
-    listener: &N::Listener,
+    listener: &mut N::Listener,
 ) -> Result<(), CommandError>
+    ensures next { IfOk result (λ _. ServesNext N.Listener.gives N.Listener.parts (N.shows network.now) N.Listener.Reader.remaining N.Listener.Writer.contents S.kept listener.old listener.new desk.old desk.new) }
+    ensures unserved { IfErr result (λ _. desk.new ≡ desk.old) }
     ensures handled { HandlesAny S.kept desk.old desk.new }
     ensures clean { (S.kept desk.new).is_clean → (S.kept desk.old).is_clean }
     ensures up { (S.kept desk.new).is_clean → IsTrue (S.kept desk.new).is_open → IsTrue (S.kept desk.old).is_open }

@@ -10,10 +10,9 @@ use Rattle.contest_store.specs.StoreErrors.{refusal_of}
 use Rattle.contest_store.specs.declared.store_error.StoreError.{StoreError}
 use Rattle.contest_store.specs.declared.store_error.StoreError.TheVariants.{Fault, Memory}
 use Rattle.contest_store.proofs.LeaveLemmas.{one_more_failed}
-use Rattle.contest_desk.specs.Replies.{refused}
-use Rattle.contest_desk.specs.Serving.{IsOrdinary, IsStoreReply}
-use Rattle.contest_desk.specs.declared.reply.Reply.{Reply}
-use Rattle.contest_desk.proofs.RefusalTexts.{fault_is_not_memory}
+use Rattle.contest_operations.specs.Replies.{refused, IsOrdinary, IsStoreReply}
+use Rattle.contest_operations.specs.declared.reply.Reply.{Reply}
+use Rattle.contest_operations.proofs.RefusalTexts.{fault_is_not_memory}
 
 pub ordinary_apart : (reply : Reply) → IsOrdinary reply → IsStoreReply reply → ⊥
 ordinary_apart reply ordinary (inl e) = false≢true (sym ordinary ∙ ap (λ (r : Reply). r.status == 503) e)

@@ -18,7 +18,7 @@ use Rattle.contest_import.specs.declared.account_row.AccountRow.{AccountRow}
 use Rattle.contest_import.specs.declared.import_kind.ImportKind.{ImportKind}
 use Rattle.contest_import.specs.declared.import_kind.ImportKind.TheVariants as kind
 use Rattle.contest_desk.specs.Imports.{are_closed, entries_of, imported}
-use Rattle.contest_desk.proofs.ContinueLemmas.{AreAccounts}
+use Rattle.contest_operations.proofs.ContinueLemmas.{AreAccounts}
 use Rattle.contest_desk.proofs.ImportLemmas.{imported_holds, imported_closed}
 
 one_more : (es : List Entry) (e : Entry) → AreAccounts es → AreAccounts (e ∷ []) → AreAccounts (es ++ e ∷ [])

@@ -13,10 +13,10 @@ use Rattle.contest_desk.specs.declared.item.Answer.{Answer}
 use Rattle.contest_desk.specs.declared.item.Answer.TheVariants as answer
 use Rattle.contest_desk.specs.declared.item.Item.{Item}
 use Rattle.contest_desk.specs.declared.item.Item.TheVariants as item
-use Rattle.contest_desk.specs.declared.reply.Reply.{Reply}
+use Rattle.contest_operations.specs.declared.reply.Reply.{Reply}
 use Rattle.contest_desk.proofs.ImportLemmas.{error_has_failed, import_addable, import_ordinary, imports_keep_valid}
-use Rattle.contest_desk.proofs.LawLemmas.{outcome_addable, steps_keep_valid}
-use Rattle.contest_desk.proofs.NeverFails.{step_ordinary}
+use Rattle.contest_operations.proofs.LawLemmas.{outcome_addable, steps_keep_valid}
+use Rattle.contest_operations.proofs.NeverFails.{step_ordinary}
 use Rattle.contest_desk.proofs.QuietSteps.{unnoticed}
 use Rattle.contest_desk.proofs.UnseenLemmas.{unseen_entries}
 

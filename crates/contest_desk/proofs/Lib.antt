@@ -1,26 +1,9 @@
-pub mod RefusalTexts
-pub mod RouteLemmas
-pub mod BodyLemmas
-pub mod OwnLemmas
-pub mod FileLemmas
-pub mod PostLemmas
 pub mod ServingLemmas
+pub mod MemoryLemmas
 pub mod KeepLemmas
-pub mod CallerLemmas
-pub mod ContinueLemmas
-pub mod PostedFacts
-pub mod ProposalLaws
-pub mod SubmitLaws
-pub mod CommandLemmas
-pub mod WishLemmas
 pub mod UnseenLemmas
 pub mod QuietSteps
-pub mod HeadLemmas
 mod ExamplesUnseen
-pub mod AddedAlike
-pub mod PostAdds
-pub mod LawLemmas
-pub mod NeverFails
 pub mod FaultLemmas
 pub mod ImportLemmas
 pub mod ImportedAccounts
@@ -30,3 +13,4 @@ pub mod SettingsAlike
 pub mod MovesAlike
 pub mod TwoRunLemmas
 pub mod RepeatLemmas
+pub mod BoardLemmas

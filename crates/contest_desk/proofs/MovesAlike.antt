@@ -23,7 +23,7 @@ use Rattle.contest_types.proofs.AddEntry.{adding}
 use Rattle.contest_types.proofs.PlaceLemmas.{and_left, and_right}
 use Rattle.contest_types.proofs.SightLemmas.{map-filter_same}
 use Rattle.contest_desk.specs.Moves.{ReleasesLike, ShowTheSame, ShowsLike, AreSame, InFirst, InSecond, InBoth, first_entries, second_entries, MovesStayAlike}
-use Rattle.contest_desk.proofs.AddedAlike.{own_more, unjudged, other_stays}
+use Rattle.contest_operations.proofs.AddedAlike.{own_more, unjudged, other_stays}
 use Rattle.contest_desk.proofs.SettingsAlike.{type_alike, language_alike, problem_alike, group_alike, team_alike, account_alike}
 use Rattle.contest_desk.proofs.UnseenLemmas.{alike_onward, unseen_entry}
 

@@ -6,27 +6,27 @@ use Rattle.std.proofs.lemmas.Bool.{false≢true}
 use Rattle.contest_types.specs.Alike.{Alike}
 use Rattle.contest_types.specs.State.{ContestState, FixedPart, add_all}
 use Rattle.contest_types.specs.declared.audience.Audience.{Audience}
-use Rattle.contest_types.specs.declared.refusal.Refusal.TheVariants.{NotFound}
-use Rattle.contest_desk.specs.Callers.{Caller, caller_of}
-use Rattle.contest_desk.specs.Offers.{is_read, is_served, operation_of}
-use Rattle.contest_desk.specs.Replies.{refused}
-use Rattle.contest_desk.specs.Routes.{offer_at}
-use Rattle.contest_desk.specs.Step.{is_here, or_not_allowed, offered, asked_there, asked, wish_or_reply_by, wish_or_reply, outcome_of, outcome, step}
-use Rattle.contest_desk.specs.Wishes.{wish_outcome}
-use Rattle.contest_desk.specs.declared.wish.Wish.{Wish}
-use Rattle.contest_desk.specs.declared.wish.Wish.TheVariants.{Read, Do}
+use Rattle.contest_types.specs.declared.refusal.Refusal.TheVariants.{NotFound, RoleForbids}
+use Rattle.contest_operations.specs.Callers.{Caller, audience_of, caller_of}
+use Rattle.contest_operations.specs.Offers.{is_read, is_served, operation_of}
+use Rattle.contest_operations.specs.Replies.{refused}
+use Rattle.contest_operations.specs.Routes.{offer_at}
+use Rattle.contest_operations.specs.Step.{is_here, or_not_allowed, offered, asked_there, asked, or_refused, wish_or_reply_by, wish_or_reply, outcome_of, outcome, step}
+use Rattle.contest_operations.specs.Wishes.{may_read, wish_outcome}
+use Rattle.contest_operations.specs.declared.wish.Wish.{Wish}
+use Rattle.contest_operations.specs.declared.wish.Wish.TheVariants.{Read, Do}
 use Rattle.contest_desk.specs.UnseenLaws.{IsUnnoticed}
-use Rattle.contest_desk.specs.declared.offer.Offer.{Offer}
-use Rattle.contest_desk.specs.declared.operation.Operation.{Operation}
-use Rattle.contest_desk.specs.declared.operation.Operation.TheVariants.{Read as ToRead, Do as ToDo}
-use Rattle.contest_desk.specs.declared.operation.Reading.{Reading}
-use Rattle.contest_desk.specs.declared.reply.Reply.{Reply}
-use Rattle.contest_desk.specs.declared.request.Credential.{Credential}
-use Rattle.contest_desk.specs.declared.request.Method.{Method}
-use Rattle.contest_desk.specs.declared.request.Method.TheVariants.{Get, Head, Post, Patch, Other}
-use Rattle.contest_desk.specs.declared.request.Request.{Request}
-use Rattle.contest_desk.proofs.CommandLemmas.{post_quiet}
-use Rattle.contest_desk.proofs.PostedFacts.{IsQuiet}
+use Rattle.contest_operations.specs.declared.offer.Offer.{Offer}
+use Rattle.contest_operations.specs.declared.operation.Operation.{Operation}
+use Rattle.contest_operations.specs.declared.operation.Operation.TheVariants.{Read as ToRead, Do as ToDo}
+use Rattle.contest_operations.specs.declared.operation.Reading.{Reading}
+use Rattle.contest_operations.specs.declared.reply.Reply.{Reply}
+use Rattle.contest_operations.specs.declared.request.Credential.{Credential}
+use Rattle.contest_operations.specs.declared.request.Method.{Method}
+use Rattle.contest_operations.specs.declared.request.Method.TheVariants.{Get, Head, Post, Patch, Other}
+use Rattle.contest_operations.specs.declared.request.Request.{Request}
+use Rattle.contest_operations.proofs.CommandLemmas.{post_quiet}
+use Rattle.contest_operations.proofs.PostedFacts.{IsQuiet}
 use Rattle.contest_desk.proofs.UnseenLemmas.{unseen_entries}
 
 come_quiet : (x : ContestState) (now : ℕ) (wish : Wish) → IsQuiet (wish_outcome now wish x)
@@ -95,7 +95,9 @@ WishesToRead (Ok (Do posted)) = ⊥
 wished_reads : (f : FixedPart) (who : Option Caller) (request : Request) (r : Result Operation Reply) → AsksToRead r → WishesToRead (wish_or_reply_by f who request r)
 wished_reads f who request (Err reply) h = tt
 wished_reads f None request (Ok operation) h = tt
-wished_reads f (Some who) request (Ok (ToRead reading)) h = tt
+wished_reads f (Some who) request (Ok (ToRead reading)) h =
+    let go : (b : Bool) → WishesToRead (or_refused (if b then Ok (Read reading (audience_of who) request.path) else Err RoleForbids)) = elim [ true ↦ tt | false ↦ tt ] in
+    go (may_read who reading)
 wished_reads f (Some who) request (Ok (ToDo command)) h = absurd h
 
 reads_add_nothing : (x : ContestState) (now : ℕ) (r : Result Wish Reply) → WishesToRead r → (outcome_of x now r).entries ≡ []

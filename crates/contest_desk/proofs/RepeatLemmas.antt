@@ -21,30 +21,32 @@ use Rattle.contest_rules.specs.declared.decision.Decision.{Decision}
 use Rattle.contest_rules.specs.declared.decision.Decision.TheVariants.{Add, Stands, Refused}
 use Rattle.contest_rules.specs.declared.submitting.WantedSubmission.{WantedSubmission}
 use Rattle.contest_rules.proofs.TakenLemmas.{taken}
-use Rattle.contest_desk.specs.Callers.{caller_of}
+use Rattle.contest_operations.specs.Callers.{caller_of}
 use Rattle.contest_desk.specs.Imports.{entries_of, imported}
 use Rattle.contest_desk.specs.Items.{item_step}
-use Rattle.contest_desk.specs.Outcomes.{Outcome, replying, refusing}
-use Rattle.contest_desk.specs.PostSubmission.{decision_outcome, repeat_outcome, submission_outcome}
-use Rattle.contest_desk.specs.Repeats.{Continues, NamesWhatIsThere, RepeatsOnce, RunsContinue}
+use Rattle.contest_operations.specs.Outcomes.{replying, refusing}
+use Rattle.contest_operations.specs.declared.outcome.Outcome.{Outcome}
+use Rattle.contest_operations.specs.PostSubmission.{decision_outcome, repeat_outcome, submission_outcome}
+use Rattle.contest_desk.specs.Repeats.{NamesWhatIsThere, RepeatsOnce, RunsContinue}
+use Rattle.contest_operations.specs.Continuing.{Continues}
 use Rattle.contest_desk.specs.Runs.{IsServed}
-use Rattle.contest_desk.specs.Step.{outcome_of, step, wish_or_reply}
-use Rattle.contest_desk.specs.Wishes.{IsSound, wish_outcome}
+use Rattle.contest_operations.specs.Step.{outcome_of, step, wish_or_reply}
+use Rattle.contest_operations.specs.Wishes.{IsSound, wish_outcome}
 use Rattle.contest_desk.specs.declared.item.Answer.{Answer}
 use Rattle.contest_desk.specs.declared.item.Item.{Item}
 use Rattle.contest_desk.specs.declared.item.Item.TheVariants as item
-use Rattle.contest_desk.specs.declared.reply.Reply.{Reply}
-use Rattle.contest_desk.specs.declared.request.Credential.{Credential}
-use Rattle.contest_desk.specs.declared.request.Request.{Request}
-use Rattle.contest_desk.specs.declared.wish.Wish.{Wish}
-use Rattle.contest_desk.specs.declared.wish.Wish.TheVariants.{Read, Do}
-use Rattle.contest_desk.proofs.AddedAlike.{own_more}
-use Rattle.contest_desk.proofs.CommandLemmas.{post_continues}
-use Rattle.contest_desk.proofs.ContinueLemmas.{accounts_continue, itself, onward, still_some}
+use Rattle.contest_operations.specs.declared.reply.Reply.{Reply}
+use Rattle.contest_operations.specs.declared.request.Credential.{Credential}
+use Rattle.contest_operations.specs.declared.request.Request.{Request}
+use Rattle.contest_operations.specs.declared.wish.Wish.{Wish}
+use Rattle.contest_operations.specs.declared.wish.Wish.TheVariants.{Read, Do}
+use Rattle.contest_operations.proofs.AddedAlike.{own_more}
+use Rattle.contest_operations.proofs.CommandLemmas.{post_continues}
+use Rattle.contest_operations.proofs.ContinueLemmas.{accounts_continue, itself, onward, still_some}
 use Rattle.contest_desk.proofs.ImportedAccounts.{only_accounts}
 use Rattle.contest_desk.proofs.ItemLemmas.{items_keep_valid}
-use Rattle.contest_desk.proofs.SubmitLaws.{submission_addable}
-use Rattle.contest_desk.proofs.WishLemmas.{IfKnown, wished_known}
+use Rattle.contest_operations.proofs.SubmitLaws.{submission_addable}
+use Rattle.contest_operations.proofs.WishLemmas.{IfKnown, wished_known}
 
 come_continues : (x : ContestState) (now : ℕ) (wish : Wish) → is_valid x ≡ true → IsSound x.fixed wish → Continues x (add_all x (wish_outcome now wish x).entries)
 come_continues x now (Read reading a path) valid sound = itself x

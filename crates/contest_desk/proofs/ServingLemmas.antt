@@ -31,12 +31,16 @@ stays_settled_by old new (Err e) settled l cleaned opened =
     (back.now_is ∙ sym back.kept_is, subst (λ x. is_valid x ≡ true) (sym (back.now_is ∙ sym before.0)) before.1)
 
 -- what is kept after the store was read is kept of the contest before
-pub read_then_kept : {S T : Type 0} (v : S) (r : Result T StoreError) (old mid new : Kept) (rows entries : List Entry) → Reads (Ok v) old mid → (mid.is_clean → rows ≡ entries) → Keeps r mid new rows ⊥ → Keeps r old new entries (Unit {0})
-read_then_kept v r old mid new rows entries l same k =
+pub then_kept : {S T : Type 0} (v : S) (r : Result T StoreError) (old mid new : Kept) (rows entries : List Entry) (own own' : Type 0) → (own → own') → Reads (Ok v) old mid → (mid.is_clean → rows ≡ entries)
+    → Keeps r mid new rows own → Keeps r old new entries own'
+then_kept v r old mid new rows entries own own' o l same k =
     let now = add_all mid.contest rows in
     let after = add_all old.contest entries in
     let are : new.is_clean → now ≡ after = λ clean.
     (let here = (l.ok (k.clean clean)).now_is in let rows_are = same (k.clean clean) in λ i. add_all (here i) (rows_are i)) in
-    restated r old new now now after after (λ c. c ≡ Some now) (λ c. c ≡ Some after) (commits_for rows) (commits_for entries) ⊥ (Unit {0})
-    are are (λ clean c is. is ∙ ap Some (are clean)) (λ clean n. ap (λ es. commits_for es n) (same (k.clean clean))) (λ none. tt)
-    (in_turn v r old mid new old.contest now now (λ c. c ≡ Some now) (commits_for rows) ⊥ l k)
+    restated r old new now now after after (λ c. c ≡ Some now) (λ c. c ≡ Some after) (commits_for rows) (commits_for entries) own own'
+    are are (λ clean c is. is ∙ ap Some (are clean)) (λ clean n. ap (λ es. commits_for es n) (same (k.clean clean))) o
+    (in_turn v r old mid new old.contest now now (λ c. c ≡ Some now) (commits_for rows) own l k)
+
+pub read_then_kept : {S T : Type 0} (v : S) (r : Result T StoreError) (old mid new : Kept) (rows entries : List Entry) → Reads (Ok v) old mid → (mid.is_clean → rows ≡ entries) → Keeps r mid new rows ⊥ → Keeps r old new entries (Unit {0})
+read_then_kept v r old mid new rows entries l same k = then_kept v r old mid new rows entries ⊥ (Unit {0}) (λ none. tt) l same k

@@ -10,16 +10,16 @@ use Rattle.contest_types.specs.declared.audience.Audience.{Audience}
 use Rattle.contest_desk.specs.Items.{has_failed, item_step}
 use Rattle.contest_desk.specs.Moves.{first_entries, second_entries}
 use Rattle.contest_desk.specs.Runs.{IsServed, IsRun}
-use Rattle.contest_desk.specs.Step.{step}
+use Rattle.contest_operations.specs.Step.{step}
 use Rattle.contest_desk.specs.TwoRuns.{FirstAlone, SecondAlone, Mine, Theirs, first_items, first_answers, second_items, second_answers, after_answer, GoesUnnoticed, AreTheirs, RunsAlike}
 use Rattle.contest_desk.specs.declared.item.Answer.{Answer}
 use Rattle.contest_desk.specs.declared.item.Answer.TheVariants as answer
 use Rattle.contest_desk.specs.declared.item.Item.{Item}
 use Rattle.contest_desk.specs.declared.item.Item.TheVariants as item
 use Rattle.contest_desk.specs.declared.item.RequestItem.{RequestItem}
-use Rattle.contest_desk.specs.declared.reply.Reply.{Reply}
+use Rattle.contest_operations.specs.declared.reply.Reply.{Reply}
 use Rattle.contest_desk.proofs.ItemLemmas.{failure_is, item_addable, item_adds, item_ordinary, item_unnoticed, items_keep_valid}
-use Rattle.contest_desk.proofs.LawLemmas.{steps_alike}
+use Rattle.contest_operations.proofs.LawLemmas.{steps_alike}
 use Rattle.contest_desk.proofs.MovesAlike.{moves_stay_alike, turned}
 use Rattle.contest_desk.proofs.UnseenLemmas.{alike_onward}
 

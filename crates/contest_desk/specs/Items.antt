@@ -6,9 +6,8 @@ use Rattle.contest_types.specs.declared.entry.Entry.{Entry}
 use Rattle.contest_types.specs.declared.refusal.Refusal.{Refusal}
 use Rattle.contest_types.specs.declared.refusal.Refusal.TheVariants.{StoreFault, Memory}
 use Rattle.contest_desk.specs.Imports.{entries_of, import_step, imported}
-use Rattle.contest_desk.specs.Replies.{refused}
-use Rattle.contest_desk.specs.Serving.{IsStoreReply}
-use Rattle.contest_desk.specs.Step.{outcome, step}
+use Rattle.contest_operations.specs.Replies.{refused, IsStoreReply}
+use Rattle.contest_operations.specs.Step.{outcome, step}
 use Rattle.contest_desk.specs.declared.item.Answer.{Answer}
 use Rattle.contest_desk.specs.declared.item.Answer.TheVariants as answer
 use Rattle.contest_desk.specs.declared.item.Item.{Item}

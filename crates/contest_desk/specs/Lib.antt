@@ -1,17 +1,3 @@
-pub mod Replies
-pub mod Routes
-pub mod Paths
-pub mod Offers
-pub mod Callers
-pub mod SubmissionBodies
-pub mod Outcomes
-pub mod PostProposal
-pub mod PostSubmission
-pub mod Readings
-pub mod Commands
-pub mod Wishes
-pub mod OwnSubmissions
-pub mod Step
 pub mod Serving
 pub mod Unseen
 pub mod UnseenLaws
@@ -22,3 +8,4 @@ pub mod Runs
 pub mod Moves
 pub mod TwoRuns
 pub mod Repeats
+pub mod Boards

@@ -1,7 +1,7 @@
 -- A post that is repeated (own; idempotency keys).
-use Rattle.std.specs.Prelude.{◌≡◌, ℕ, true, false, List, [], ◌∷◌, ◌++◌, ◌<◌, length, Some, map}
+use Rattle.std.specs.Prelude.{◌≡◌, ℕ, true, false, List, [], ◌∷◌, ◌<◌, length, Some, map}
 use Rattle.contest_types.specs.Places.{place_of}
-use Rattle.contest_types.specs.State.{FixedPart, ContestState, submissions_of, add}
+use Rattle.contest_types.specs.State.{FixedPart, ContestState, add}
 use Rattle.contest_types.specs.Valid.{is_valid}
 use Rattle.contest_types.specs.declared.entry.Entry.TheVariants.{NewSubmission}
 use Rattle.contest_types.specs.declared.objects.Language.{Language}
@@ -10,18 +10,12 @@ use Rattle.contest_types.specs.declared.refusal.Refusal.TheVariants.{KeyReused}
 use Rattle.contest_types.specs.declared.submission.Submission.{Submission}
 use Rattle.contest_rules.specs.Submitting.{asks_the_same, lacks_entry_point}
 use Rattle.contest_rules.specs.declared.submitting.WantedSubmission.{WantedSubmission}
-use Rattle.contest_desk.specs.Outcomes.{replying, refusing}
-use Rattle.contest_desk.specs.PostSubmission.{IsSoundSubmission, submission_outcome}
+use Rattle.contest_operations.specs.Continuing.{Continues}
+use Rattle.contest_operations.specs.Outcomes.{replying, refusing}
+use Rattle.contest_operations.specs.PostSubmission.{IsSoundSubmission, submission_outcome}
 use Rattle.contest_desk.specs.Runs.{IsRun}
 use Rattle.contest_desk.specs.declared.item.Answer.{Answer}
 use Rattle.contest_desk.specs.declared.item.Item.{Item}
-
--- the second has the settings and marks of the first, and each team's submissions with more behind them
-pub record Continues (x y : ContestState) : Type 0 where
-  pub settings : y.fixed.settings ≡ x.fixed.settings
-  pub marks : y.fixed.marks ≡ x.fixed.marks
-  pub more : (team : ℕ) → List Submission
-  pub own : (team : ℕ) → submissions_of team y.submissions ≡ submissions_of team x.submissions ++ more team
 
 -- once a submission stands, settings are taken no more, and a run leads to what continues the contest before it
 abbrev pub RunsContinue : Type 0

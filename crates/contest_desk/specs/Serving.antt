@@ -1,17 +1,15 @@
 -- What serving a request or an import asks of a kept contest, and what it leaves of it, whoever keeps it (own).
-use Rattle.std.specs.Prelude.{◌≡◌, ◌⊎◌, ◌==◌, ℕ, true, false, List, [], ◌∷◌, Some, IsTrue, Result, Ok, Err}
+use Rattle.std.specs.Prelude.{◌≡◌, ℕ, true, List, [], ◌∷◌, Some, IsTrue, Result, Ok, Err}
 use Rattle.contest_types.specs.State.{ContestState, add_all}
 use Rattle.contest_types.specs.Streams.{one_more}
 use Rattle.contest_types.specs.Valid.{is_valid}
 use Rattle.contest_types.specs.declared.entry.Entry.{Entry}
 use Rattle.contest_types.specs.declared.refusal.Refusal.{Refusal}
-use Rattle.contest_types.specs.declared.refusal.Refusal.TheVariants.{StoreFault, Memory}
 use Rattle.contest_store.specs.Keeping.{Kept, Leaves}
 use Rattle.contest_store.specs.StoreErrors.{refusal_of}
 use Rattle.contest_store.specs.declared.store_error.StoreError.{StoreError}
-use Rattle.contest_desk.specs.Outcomes.{Outcome}
-use Rattle.contest_desk.specs.Replies.{refused}
-use Rattle.contest_desk.specs.declared.reply.Reply.{Reply}
+use Rattle.contest_operations.specs.declared.outcome.Outcome.{Outcome}
+use Rattle.contest_operations.specs.Replies.{refused}
 
 -- while the store is open and read right, no change stands that isn't committed, and the contest is valid
 abbrev pub IsSettled : Kept → Type 0
@@ -45,11 +43,3 @@ OnlyReads result old new = Leaves result old new old.contest old.committed (λ c
 abbrev pub refused_as : {T : Type 0} → Result T StoreError → Result T Refusal
 refused_as (Ok v) = Ok v
 refused_as (Err e) = Err (refusal_of e)
-
--- a refusal that the store or want of memory is the cause of
-abbrev pub IsStoreReply : Reply → Type 0
-IsStoreReply reply = (reply ≡ refused StoreFault) ⊎ (reply ≡ refused Memory)
-
--- the status isn't that of such a refusal
-abbrev pub IsOrdinary : Reply → Type 0
-IsOrdinary reply = (reply.status == 503) ≡ false

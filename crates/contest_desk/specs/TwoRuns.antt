@@ -7,7 +7,7 @@ use Rattle.contest_types.specs.Valid.{is_valid}
 use Rattle.contest_types.specs.declared.audience.Audience.{Audience}
 use Rattle.contest_types.specs.declared.audience.Audience.TheVariants.{Jury}
 use Rattle.contest_desk.specs.Items.{has_failed, item_entries, item_step}
-use Rattle.contest_desk.specs.Laws.{HasSight}
+use Rattle.contest_operations.specs.Laws.{HasSight}
 use Rattle.contest_desk.specs.Moves.{Move, first_entries, second_entries, AreAlikeMoves}
 use Rattle.contest_desk.specs.Runs.{IsRun}
 use Rattle.contest_desk.specs.UnseenLaws.{IsUnnoticedItem}
@@ -16,7 +16,7 @@ use Rattle.contest_desk.specs.declared.item.Answer.TheVariants as answer
 use Rattle.contest_desk.specs.declared.item.Item.{Item}
 use Rattle.contest_desk.specs.declared.item.Item.TheVariants as item
 use Rattle.contest_desk.specs.declared.item.RequestItem.{RequestItem}
-use Rattle.contest_desk.specs.declared.reply.Reply.{Reply}
+use Rattle.contest_operations.specs.declared.reply.Reply.{Reply}
 
 -- what comes next in two runs: an item in one of them alone, with its answer; a request of the audience's own in
 -- both, with both replies; an item of others in each

@@ -9,13 +9,13 @@ use Rattle.contest_types.specs.declared.refusal.Refusal.{Refusal}
 use Rattle.contest_import.specs.declared.import_kind.ImportKind.{ImportKind}
 use Rattle.contest_desk.specs.Imports.{entries_of, import_step, imported}
 use Rattle.contest_desk.specs.Items.{item_entries}
-use Rattle.contest_desk.specs.Offers.{is_read}
-use Rattle.contest_desk.specs.Step.{outcome, step}
+use Rattle.contest_operations.specs.Offers.{is_read}
+use Rattle.contest_operations.specs.Step.{outcome, step}
 use Rattle.contest_desk.specs.Unseen.{IsUnseen, AreUnseen}
 use Rattle.contest_desk.specs.declared.item.Item.{Item}
 use Rattle.contest_desk.specs.declared.item.Item.TheVariants as item
-use Rattle.contest_desk.specs.declared.request.Credential.{Credential}
-use Rattle.contest_desk.specs.declared.request.Request.{Request}
+use Rattle.contest_operations.specs.declared.request.Credential.{Credential}
+use Rattle.contest_operations.specs.declared.request.Request.{Request}
 
 -- one entry that can't be noticed leaves the contest alike
 abbrev pub UnseenEntry : Type 0

@@ -6,15 +6,14 @@ ghost use Rattle.contest_types.specs.Valid.{is_valid};
 ghost use Rattle.contest_types.specs.Streams.{Failed, one_more};
 ghost use Rattle.contest_types.specs.declared.audience.Audience.{Audience as TheAudience};
 ghost use Rattle.contest_store.specs.Keeping.{LeavesNoMore, LeavesOnly, LeavesOr};
-ghost use Rattle.contest_desk.specs.Replies.{refused};
-ghost use Rattle.contest_desk.specs.Laws.{HasSight};
-ghost use Rattle.contest_desk.specs.Serving.{IsSettled, IsStoreReply, commits_for};
-ghost use Rattle.contest_desk.specs.Step.{may_take_memory, outcome, step};
+ghost use Rattle.contest_operations.specs.Replies.{refused};
+ghost use Rattle.contest_operations.specs.Laws.{HasSight};
+ghost use Rattle.contest_desk.specs.Serving.{IsSettled, commits_for};
+ghost use Rattle.contest_operations.specs.Replies.{IsStoreReply};
+ghost use Rattle.contest_operations.specs.Step.{may_take_memory, outcome, step};
 
-use crate::offer::Offer;
-use crate::routes::routes;
 use crate::serve::serve;
-use crate::{Credential, Reply, Request};
+use contest_operations::{Credential, Offer, Reply, Request, routes};
 use contest_store::ContestStore;
 use contest_types::{Moment, Refusal};
 use matchit::Router;
@@ -30,7 +29,7 @@ pub struct Desk<S: ContestStore> {
 
 impl<S: ContestStore> Model for Desk<S> {
     ghost use Rattle.std.specs.Prelude.{◌≡◌};
-    ghost use Rattle.contest_desk.specs.Routes.{routes};
+    ghost use Rattle.contest_operations.specs.Routes.{routes};
     ghost use Rattle.contest_desk.specs.Serving.{IsSettled};
 
     ghost Value = { S };

@@ -6,12 +6,13 @@ ghost use Rattle.contest_types.specs.Valid.{is_valid};
 ghost use Rattle.contest_types.specs.declared.audience.Audience.{Audience as TheAudience};
 ghost use Rattle.contest_types.specs.declared.audience.Audience.TheVariants.{Jury};
 ghost use Rattle.contest_store.specs.InMemory.{contest_of};
-ghost use Rattle.contest_desk.specs.Laws.{HasSight};
-ghost use Rattle.contest_desk.specs.Serving.{IsStoreReply};
-ghost use Rattle.contest_desk.specs.Step.{step};
+ghost use Rattle.contest_operations.specs.Laws.{HasSight};
+ghost use Rattle.contest_operations.specs.Replies.{IsStoreReply};
+ghost use Rattle.contest_operations.specs.Step.{step};
 ghost use Rattle.contest_desk.specs.TwoRuns.{Turn, AreAlikeTurns, first_items, first_answers, first_told, second_items, second_answers, second_told};
 
-use crate::{Answer, Credential, Desk, Item, Reply, Request};
+use crate::{Answer, Desk, Item};
+use contest_operations::{Credential, Reply, Request};
 use contest_store::MemoryStore;
 use contest_types::Moment;
 use std::alloc::{AllocError, Global};

@@ -1,6 +1,6 @@
 //! What a desk is asked to do at a moment, and what it answers.
-use crate::{Credential, Reply, Request};
 use contest_import::ImportKind;
+use contest_operations::{Credential, Reply, Request};
 use contest_types::{Moment, Refusal, Rows};
 
 /// A request at its moment, with who asks.

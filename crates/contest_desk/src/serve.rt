@@ -3,19 +3,17 @@
 ghost use Rattle.std.specs.Prelude.{◌≡◌, IfOk, IsTrue, true};
 ghost use Rattle.contest_store.specs.Keeping.{Reads};
 ghost use Rattle.contest_types.specs.Addable.{are_addable};
-ghost use Rattle.contest_desk.specs.Commands.{file_at};
-ghost use Rattle.contest_desk.specs.Routes.{routes};
-ghost use Rattle.contest_desk.specs.Serving.{IsOrdinary, IsReady, IsSettled, Keeps, Serves};
-ghost use Rattle.contest_desk.specs.Step.{may_take_memory, outcome};
-ghost use Rattle.contest_desk.specs.Wishes.{IsSound, wish_outcome};
+ghost use Rattle.contest_operations.specs.Commands.{file_at};
+ghost use Rattle.contest_operations.specs.Routes.{routes};
+ghost use Rattle.contest_desk.specs.Serving.{IsReady, IsSettled, Keeps, Serves};
+ghost use Rattle.contest_operations.specs.Replies.{IsOrdinary};
+ghost use Rattle.contest_operations.specs.Step.{may_take_memory, outcome};
+ghost use Rattle.contest_operations.specs.Wishes.{IsSound, wish_outcome};
 
-use crate::answer::{answer, file_needed};
-use crate::ask::ask;
 use crate::keep::keep;
-use crate::offer::Offer;
-use crate::outcome::Outcome;
-use crate::wish::Wish;
-use crate::{Credential, Reply, Request};
+use contest_operations::{
+    Credential, Offer, Outcome, Reply, Request, Wish, answer, ask, file_needed,
+};
 use contest_store::{ContestStore, StoreError};
 use contest_types::{Moment, Rows};
 use matchit::Router;

@@ -17,7 +17,7 @@ pub const MEDALS: Medals = Medals {
     bronze: 4,
 };
 
-/// Five hours, the last of them frozen, with twenty minutes for a penalty.
+/// Five hours, the last of them frozen, with twenty minutes for a penalty. Nobody verifies verdicts.
 pub fn demo_head(alloc: Global, medals: Medals) -> Result<ContestHead, Fail> {
     Ok(ContestHead {
         id: id(alloc, "demo")?,
@@ -30,13 +30,8 @@ pub fn demo_head(alloc: Global, medals: Medals) -> Result<ContestHead, Fail> {
     })
 }
 
-fn no_settings(alloc: Global, medals: Medals) -> Result<Settings, Fail> {
-    let head = demo_head(alloc, medals)?;
-    Ok(Settings::new(alloc, head)?)
-}
-
-fn settings_of(alloc: Global, medals: Medals, rows: &[SettingRow]) -> Result<Settings, Fail> {
-    let mut settings = no_settings(alloc, medals)?;
+fn settings_of(alloc: Global, head: ContestHead, rows: &[SettingRow]) -> Result<Settings, Fail> {
+    let mut settings = Settings::new(alloc, head)?;
     fill(alloc, &mut settings, rows)?;
     Ok(settings)
 }
@@ -47,7 +42,8 @@ pub fn demo_settings(
     medals: Medals,
     rows: &[SettingRow],
 ) -> Result<Rc<Settings>, Fail> {
-    Ok(Rc::new(alloc, settings_of(alloc, medals, rows)?)?)
+    let head = demo_head(alloc, medals)?;
+    Ok(Rc::new(alloc, settings_of(alloc, head, rows)?)?)
 }
 
 /// So many milliseconds after nine o'clock.
@@ -69,8 +65,28 @@ pub fn demo(
     rows: &[SettingRow],
     accounts: Rows<Account>,
 ) -> Result<Rc<Fixed>, Fail> {
+    fixed_of(alloc, demo_head(alloc, MEDALS)?, rows, accounts)
+}
+
+/// The same, where another judge verifies each verdict.
+pub fn verified_demo(
+    alloc: Global,
+    rows: &[SettingRow],
+    accounts: Rows<Account>,
+) -> Result<Rc<Fixed>, Fail> {
+    let mut head = demo_head(alloc, MEDALS)?;
+    head.verification = true;
+    fixed_of(alloc, head, rows, accounts)
+}
+
+fn fixed_of(
+    alloc: Global,
+    head: ContestHead,
+    rows: &[SettingRow],
+    accounts: Rows<Account>,
+) -> Result<Rc<Fixed>, Fail> {
     let marks = marks()?;
-    let settings = settings_of(alloc, MEDALS, rows)?;
+    let settings = settings_of(alloc, head, rows)?;
     let fixed = Fixed {
         settings,
         accounts,

@@ -5,6 +5,6 @@ mod demo_contest;
 mod setting_rows;
 mod values;
 
-pub use demo_contest::{MEDALS, after, demo, demo_head, demo_settings};
+pub use demo_contest::{MEDALS, after, demo, demo_head, demo_settings, verified_demo};
 pub use setting_rows::SettingRow;
 pub use values::{id, moment, name, text_of};

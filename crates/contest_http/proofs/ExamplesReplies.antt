@@ -3,12 +3,12 @@ use Rattle.std.proofs.Common.{◌≡◌, ℕ, true, false, List, [], refl}
 use Rattle.std.specs.Prelude.{codes, ◌++◌}
 use Rattle.std.specs.Fmt.{digits}
 use Rattle.contest_types.specs.declared.refusal.Refusal.TheVariants.{BodyTooLarge, Malformed}
-use Rattle.contest_desk.specs.declared.reply.ContentType.TheVariants.{Json}
-use Rattle.contest_desk.specs.declared.reply.ExtraField.TheVariants.{Allow, Nothing, WwwAuthenticate}
-use Rattle.contest_desk.specs.declared.reply.Reply.{Reply}
-use Rattle.contest_desk.specs.declared.request.Credential.TheVariants as credential
-use Rattle.contest_desk.specs.declared.request.KeyField.TheVariants as key
-use Rattle.contest_desk.specs.declared.request.Method.TheVariants as method
+use Rattle.contest_operations.specs.declared.reply.ContentType.TheVariants.{Json}
+use Rattle.contest_operations.specs.declared.reply.ExtraField.TheVariants.{Allow, Nothing, WwwAuthenticate}
+use Rattle.contest_operations.specs.declared.reply.Reply.{Reply}
+use Rattle.contest_operations.specs.declared.request.Credential.TheVariants as credential
+use Rattle.contest_operations.specs.declared.request.KeyField.TheVariants as key
+use Rattle.contest_operations.specs.declared.request.Method.TheVariants as method
 use Rattle.contest_http.specs.Frames.{framed_by}
 use Rattle.contest_http.specs.Spelling.{extra_line, head_lines, spelled, status_text}
 use Rattle.contest_http.specs.declared.framed.Framed.TheVariants.{Asked, Refused}

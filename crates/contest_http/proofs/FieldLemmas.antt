@@ -5,7 +5,7 @@ use Rattle.httparse.specs.Spans.{header_bytes, span_bytes}
 use Rattle.httparse.specs.declared.spans.HeaderSpan.{HeaderSpan}
 use Rattle.httparse.specs.Grammar.{RequestHead}
 use Rattle.httparse.specs.Spans.{name_and_value}
-use Rattle.contest_desk.specs.declared.request.Method.{Method}
+use Rattle.contest_operations.specs.declared.request.Method.{Method}
 use Rattle.contest_http.specs.Fields.{FieldText, is_named, values}
 use Rattle.contest_http.specs.Plans.{head_plan, method_of, plan_of}
 

@@ -1,7 +1,7 @@
 -- What holds of every input and every reply, in the subject's words. Each is the contract of a function of src/laws.rt.
 use Rattle.std.specs.Prelude.{◌≡◌, ◌≤◌, ◌<◌, ℕ, List, Bool, false, length, take}
 use Rattle.contest_types.specs.declared.limits.TheConstants.{REQUEST_HEAD}
-use Rattle.contest_desk.specs.declared.reply.Reply.{Reply}
+use Rattle.contest_operations.specs.declared.reply.Reply.{Reply}
 use Rattle.contest_http.specs.Frames.{Frame, IsFrame}
 use Rattle.contest_http.specs.Head.{has_end, head_of}
 use Rattle.contest_http.specs.Spelling.{IsSpelling}

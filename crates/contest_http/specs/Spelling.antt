@@ -2,12 +2,12 @@
 use Rattle.std.specs.Prelude.{◌≡◌, ◌==◌, ◌/◌, ◌++◌, ℕ, List, [], Bool, codes, decimal, length, if◌then◌else◌}
 use Rattle.httpdate.specs.Date.{date_text, unix_secs}
 use Rattle.httpdate.specs.declared.date.HttpDate.{HttpDate}
-use Rattle.contest_desk.specs.Offers.{methods_text}
-use Rattle.contest_desk.specs.declared.reply.ContentType.{ContentType}
-use Rattle.contest_desk.specs.declared.reply.ContentType.TheVariants.{Json, Zip}
-use Rattle.contest_desk.specs.declared.reply.ExtraField.{ExtraField}
-use Rattle.contest_desk.specs.declared.reply.ExtraField.TheVariants.{Allow, Nothing, WwwAuthenticate}
-use Rattle.contest_desk.specs.declared.reply.Reply.{Reply}
+use Rattle.contest_operations.specs.Offers.{methods_text}
+use Rattle.contest_operations.specs.declared.reply.ContentType.{ContentType}
+use Rattle.contest_operations.specs.declared.reply.ContentType.TheVariants.{Json, Zip}
+use Rattle.contest_operations.specs.declared.reply.ExtraField.{ExtraField}
+use Rattle.contest_operations.specs.declared.reply.ExtraField.TheVariants.{Allow, Nothing, WwwAuthenticate}
+use Rattle.contest_operations.specs.declared.reply.Reply.{Reply}
 
 -- a status and its phrase, for those that the desk answers
 abbrev pub status_text : ℕ → List ℕ

@@ -1,7 +1,7 @@
 //! The head of a reply.
 ghost use Rattle.std.specs.Prelude.{◌≡◌, ◌≤◌, ◌+◌, ◌++◌, length};
 ghost use Rattle.httpdate.specs.Date.{date_text};
-ghost use Rattle.contest_desk.specs.Offers.{methods_text};
+ghost use Rattle.contest_operations.specs.Offers.{methods_text};
 ghost use Rattle.contest_http.specs.Spelling.{extra_line, head_lines, head_text, status_text, type_text};
 
 use crate::head_buffer::HeadBuffer;

@@ -3,3 +3,4 @@ pub mod TakenLemmas
 pub mod ProposedLemmas
 mod ExamplesSubmitting
 mod ExamplesProposing
+pub mod VerifiedLemmas

@@ -1,3 +1,5 @@
 pub mod Submitting
+pub mod Verdicts
 pub mod Proposing
+pub mod Verifying
 pub mod Laws

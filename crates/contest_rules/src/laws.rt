@@ -1,6 +1,6 @@
 //! Laws of the decisions: functions that do nothing, and whose contracts say what holds of every
 //! contest.
-ghost use Rattle.contest_rules.specs.Laws.{AlikeSubmitAlike, ProposedIsAddable, SubmittedIsAddable};
+ghost use Rattle.contest_rules.specs.Laws.{AlikeSubmitAlike, ProposedIsAddable, SubmittedIsAddable, VerifiedIsAddable};
 
 /// A submission that is taken keeps a valid contest valid.
 pub fn submitted_is_addable()
@@ -15,4 +15,9 @@ pub fn alike_submit_alike()
 /// A verdict that is proposed, and its release, keep a valid contest valid.
 pub fn proposed_is_addable()
     ensures { ProposedIsAddable }
+{}
+
+/// And so does the release of one that is verified.
+pub fn verified_is_addable()
+    ensures { VerifiedIsAddable }
 {}

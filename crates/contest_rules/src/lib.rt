@@ -5,7 +5,11 @@ mod decision;
 pub mod laws;
 mod proposing;
 mod submitting;
+mod verdicts;
+mod verifying;
 
 pub use decision::Decision;
-pub use proposing::{NewVerdict, WantedVerdict, decide_proposal};
+pub use proposing::{NewVerdict, decide_proposal};
 pub use submitting::{WantedSubmission, decide_submission, place_of_key};
+pub use verdicts::WantedVerdict;
+pub use verifying::decide_verify;

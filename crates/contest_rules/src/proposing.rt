@@ -1,22 +1,10 @@
 //! A judge proposes a verdict.
 ghost use Rattle.std.specs.Prelude.{◌≡◌};
-ghost use Rattle.std.specs.Option.{option_map};
-ghost use Rattle.contest_types.specs.State.{of_submission};
-ghost use Rattle.contest_types.specs.ValidRejudgings.{is_released};
-ghost use Rattle.contest_rules.specs.Proposing.{propose, propose_for, proposals_made, release_at_once, submission_named};
+ghost use Rattle.contest_rules.specs.Proposing.{propose, propose_for, proposals_made, release_at_once};
 
+use crate::verdicts::{NamedVerdict, WantedVerdict, first_release, is_released, named_verdict};
 use contest_types::limits::PROPOSALS;
 use contest_types::{Fixed, Id, Moment, Proposal, Proposer, Refusal, Release, Submission};
-use contest_view::has_submission_id;
-
-/// The verdict that a judge asks for.
-#[derive(Drop)]
-pub struct WantedVerdict {
-    /// The id of the submission.
-    pub submission: Id,
-    /// The id of the judgement type.
-    pub judgement_type: Id,
-}
 
 /// What a proposal adds.
 #[derive(Drop)]
@@ -46,32 +34,28 @@ pub fn decide_proposal(
 ) -> Result<NewVerdict, Refusal>
     ensures { result ≡ propose fixed.now submissions.now proposals.now releases.now now account wanted.now }
 {
-    let Some(submission) = submission_named(submissions, wanted.submission.as_bytes()) else {
-        return Err(Refusal::UnknownReference);
-    };
-    let types = &fixed.settings;
-    let Some(verdict) = types.judgement_type_place(wanted.judgement_type.as_bytes()) else {
-        return Err(Refusal::UnknownReference);
-    };
-    let (team, number) = (submission.team, submission.number);
-    propose_for(
-        fixed, proposals, releases, now, account, team, number, verdict,
-    )
+    match named_verdict(fixed, submissions, wanted) {
+        Some(named) => propose_for(fixed, proposals, releases, now, account, named),
+        None => Err(Refusal::UnknownReference),
+    }
 }
 
-// The same, where the submission and the place of the judgement type are known.
+// The same, where what is named is known.
 fn propose_for(
     fixed: &Fixed,
     proposals: &[Proposal],
     releases: &[Release],
     now: Moment,
     account: Id,
-    team: usize,
-    number: usize,
-    verdict: usize,
+    named: NamedVerdict,
 ) -> Result<NewVerdict, Refusal>
-    ensures { result ≡ propose_for fixed.now proposals.now releases.now now account team number verdict }
+    ensures { result ≡ propose_for fixed.now proposals.now releases.now now account named }
 {
+    let NamedVerdict {
+        team,
+        number,
+        verdict,
+    } = named;
     if is_released(releases, team, number) {
         return Err(Refusal::AlreadyReleased);
     }
@@ -86,27 +70,11 @@ fn propose_for(
             proposer: Proposer::Account(account),
             time: now,
         },
-        release: release_at_once(fixed, now, team, number, verdict),
+        release: release_at_once(fixed, now, named),
     })
 }
 
-// The submission that has an id.
-fn submission_named<'s>(submissions: &'s [Submission], id: &[u8]) -> Option<&'s Submission>
-    ensures { option_map (λ s. of_submission s.now) result ≡ submission_named id.now submissions.now }
-{
-    submissions.iter().find(|submission| has_submission_id(submission.team, submission.number, id))
-}
-
-// Whether a release stands on a team's submission with this number.
-fn is_released(releases: &[Release], team: usize, number: usize) -> bool
-    ensures { result ≡ is_released team number releases.now }
-{
-    releases
-        .iter()
-        .any(|release| release.team == team && release.number == number)
-}
-
-// How many verdicts were proposed for it.
+// How many verdicts were proposed for a team's submission with this number.
 fn proposals_made(proposals: &[Proposal], team: usize, number: usize) -> usize
     ensures { result ≡ proposals_made team number proposals.now }
 {
@@ -117,23 +85,11 @@ fn proposals_made(proposals: &[Proposal], team: usize, number: usize) -> usize
 }
 
 // The first release on it, unless somebody has to verify it.
-fn release_at_once(
-    fixed: &Fixed,
-    now: Moment,
-    team: usize,
-    number: usize,
-    verdict: usize,
-) -> Option<Release>
-    ensures { result ≡ release_at_once fixed.now now team number verdict }
+fn release_at_once(fixed: &Fixed, now: Moment, named: NamedVerdict) -> Option<Release>
+    ensures { result ≡ release_at_once fixed.now now named }
 {
     if fixed.settings.head().verification {
         return None;
     }
-    Some(Release {
-        team,
-        number,
-        round: 1,
-        verdict,
-        time: now,
-    })
+    Some(first_release(now, named))
 }

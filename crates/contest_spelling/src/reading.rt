@@ -56,7 +56,7 @@ fn put_submissions(alloc: Global, lists: &mut Lists, rows: &LoadedRows) -> Resul
 {
     match read_list(alloc, &lists.fixed().settings, &rows.submissions)? {
         Some(submissions) => {
-            lists.put_submissions(submissions);
+            lists.put_submissions(alloc, submissions)?;
             Ok(true)
         }
         None => Ok(false),

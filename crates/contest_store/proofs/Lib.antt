@@ -4,3 +4,4 @@ pub mod FiledLemmas
 pub mod FixedLemmas
 pub mod ChangeLemmas
 pub mod LeaveLemmas
+pub mod TeamRowLemmas

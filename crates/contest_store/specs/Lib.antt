@@ -1,4 +1,5 @@
 pub mod StoreErrors
 pub mod Keeping
 pub mod Lists
+pub mod TeamRows
 pub mod InMemory

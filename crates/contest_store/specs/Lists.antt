@@ -1,7 +1,10 @@
 -- The lists of a contest in memory (own). Files are large, and are loaded one by one.
+use Rattle.std.specs.Prelude.{ℕ, ◌==◌, List, map, filter}
+use Rattle.std.specs.List.{enumerate_from}
 use Rattle.contest_types.specs.State.{ContestState}
 use Rattle.contest_types.specs.declared.entry.Entry.{Entry}
 use Rattle.contest_types.specs.declared.entry.Entry.TheVariants.{NewSubmission}
+use Rattle.contest_types.specs.declared.submission.Submission.{Submission}
 use Rattle.contest_types.specs.Loads.{loaded_submissions, without_file}
 
 -- the contest with no file in it
@@ -12,3 +15,7 @@ loaded x = record x { submissions = loaded_submissions x }
 abbrev pub unfiled : Entry → Entry
 unfiled (NewSubmission s) = NewSubmission (without_file s)
 unfiled e = e
+
+-- the places, from 0, of a team's submissions among those of all teams, in their order
+abbrev pub places_of : (team : ℕ) → List Submission → List ℕ
+places_of team rows = map (λ p. p.0) (filter (λ p. p.1.team == team) (enumerate_from 0 rows))

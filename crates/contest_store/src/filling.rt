@@ -1,15 +1,27 @@
 //! Lists that are filled with rows which were read.
-ghost use Rattle.std.specs.Prelude.{◌≡◌};
+ghost use Rattle.std.specs.Prelude.{◌≡◌, OnOk, OnErr};
 
 use crate::Lists;
+use crate::indexed_submissions::IndexedSubmissions;
 use contest_types::{Clarification, Proposal, Rejudging, Release, Rows, Submission};
+use std::alloc::{AllocError, Global};
 
 impl Lists {
     /// Puts submissions, each without its file, in place of those that stand.
-    pub fn put_submissions(&mut self, rows: Rows<Submission>)
-        ensures { self.new ≡ record self.old { submissions = rows } }
+    ///
+    /// # Errors
+    ///
+    /// Want of memory alone. The lists are then as before.
+    pub fn put_submissions(
+        &mut self,
+        alloc: Global,
+        rows: Rows<Submission>,
+    ) -> Result<(), AllocError>
+        ensures ok { OnOk result (self.new ≡ record self.old { submissions = rows }) }
+        ensures err { OnErr result (self.new ≡ self.old) }
     {
-        self.submissions = rows.into_vec();
+        self.submissions = IndexedSubmissions::from_rows(alloc, rows)?;
+        Ok(())
     }
 
     /// Puts proposals in place of those that stand.

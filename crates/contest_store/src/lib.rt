@@ -4,6 +4,7 @@
 mod copies;
 mod filling;
 mod fixed_changes;
+mod indexed_submissions;
 mod lists;
 mod memory;
 mod store;

@@ -1,15 +1,16 @@
 //! The lists of a contest in memory.
-ghost use Rattle.std.specs.Prelude.{◌≡◌, ◌<◌, ◌≤◌, ◌+◌, ◌⊎◌, ◌++◌, ◌∷◌, List, [], IfOk, IfNone, IfSome, OnOk, OnErr, length, slice_get, slice_set, Some, true};
+ghost use Rattle.std.specs.Prelude.{◌≡◌, ◌<◌, ◌≤◌, ◌+◌, ◌⊎◌, ◌++◌, ◌∷◌, List, [], All, IfOk, IfNone, IfSome, OnOk, OnErr, length, option_map, slice_get, slice_set, Some, true};
 ghost use Rattle.contest_types.specs.Addable.{is_addable};
-ghost use Rattle.contest_types.specs.State.{add, changed_at, with_member_state};
+ghost use Rattle.contest_types.specs.State.{add, changed_at, submissions_of, with_member_state};
 ghost use Rattle.contest_types.specs.declared.submission.Submission.{Submission};
 ghost use Rattle.contest_types.specs.declared.rejudging.Member.{Member as TheMember};
 ghost use Rattle.contest_types.specs.declared.rejudging.Rejudging.{Rejudging as TheRejudging};
 ghost use Rattle.contest_store.specs.InMemory.{filed, with_submissions};
-ghost use Rattle.contest_store.specs.Lists.{unfiled};
+ghost use Rattle.contest_store.specs.Lists.{places_of, unfiled};
 
 use crate::copies::{CopyRow, copies, without_file};
 use crate::fixed_changes::changed_fixed;
+use crate::indexed_submissions::IndexedSubmissions;
 use contest_types::{
     Clarification, Entry, Fixed, Member, MemberState, Proposal, Rejudging, RejudgingState, Release,
     Rows, Submission,
@@ -24,7 +25,7 @@ use std::rc::Rc;
 #[derive(Drop)]
 pub struct Lists {
     pub(crate) fixed: Rc<Fixed>,
-    pub(crate) submissions: Vec<Submission>,
+    pub(crate) submissions: IndexedSubmissions,
     pub(crate) proposals: Vec<Proposal>,
     pub(crate) releases: Vec<Release>,
     pub(crate) clarifications: Vec<Clarification>,
@@ -38,7 +39,7 @@ impl Model for Lists {
 
     ghost view = { λ l. record {
       fixed = l.fixed.value;
-      submissions = l.submissions.items;
+      submissions = l.submissions;
       proposals = l.proposals.items;
       releases = l.releases.items;
       clarifications = l.clarifications.items;
@@ -53,7 +54,7 @@ impl Lists {
     {
         Lists {
             fixed,
-            submissions: Vec::new(alloc),
+            submissions: IndexedSubmissions::new(alloc),
             proposals: Vec::new(alloc),
             releases: Vec::new(alloc),
             clarifications: Vec::new(alloc),
@@ -73,6 +74,23 @@ impl Lists {
         ensures { result.now ≡ self.now.submissions }
     {
         self.submissions.as_slice()
+    }
+
+    /// The places among them, from 0, of those of the team at a place, in their order. It is as quick
+    /// whatever other teams submitted.
+    pub fn places_of(&self, team: usize) -> &[usize]
+        ensures places { result.now ≡ places_of team self.now.submissions }
+        ensures within { All (λ place. place < length self.now.submissions) result.now }
+    {
+        self.submissions.places_of(team)
+    }
+
+    /// One of the submissions of the team at a place, from 0, by its place, from 0, among its own.
+    pub fn submission_of(&self, team: usize, own_place: usize) -> Option<&Submission>
+        ensures { option_map (λ s. s.now) result ≡ slice_get (submissions_of team self.now.submissions) own_place }
+    {
+        let place = *row_at(self.places_of(team), own_place)?;
+        row_at(self.submissions(), place)
     }
 
     /// The proposed verdicts.
@@ -113,7 +131,7 @@ impl Lists {
     {
         Ok(Lists {
             fixed: self.fixed.clone()?,
-            submissions: copies(alloc, &self.submissions)?,
+            submissions: self.submissions.copied(alloc)?,
             proposals: copies(alloc, &self.proposals)?,
             releases: copies(alloc, &self.releases)?,
             clarifications: copies(alloc, &self.clarifications)?,
@@ -131,7 +149,7 @@ impl Lists {
         ensures err { OnErr result (self.new ≡ self.old) }
     {
         match entry {
-            Entry::NewSubmission(row) => push(&mut self.submissions, without_file(alloc, row)?),
+            Entry::NewSubmission(row) => self.submissions.push(without_file(alloc, row)?),
             Entry::NewProposal(row) => push(&mut self.proposals, row.copied(alloc)?),
             Entry::NewRelease(row) => push(&mut self.releases, *row),
             Entry::NewClarification(row) => push(&mut self.clarifications, row.copied(alloc)?),
@@ -151,6 +169,12 @@ impl Lists {
             }
         }
     }
+}
+
+fn row_at<T>(rows: &[T], place: usize) -> Option<&T>
+    ensures { option_map (λ row. row.now) result ≡ slice_get rows.now place }
+{
+    rows.get(place)
 }
 
 /// Adds a row at the end. Where memory is refused the rows are as before.

@@ -1,9 +1,15 @@
 -- Worked examples of the text board: cells, and texts in columns.
-use Rattle.std.proofs.Common.{◌≡◌, ℕ, true, false, Option, Some, None, refl}
+use Rattle.std.proofs.Common.{◌≡◌, ℕ, [], ◌∷◌, true, false, Option, Some, None, refl}
+use Rattle.std.specs.Char.{encode_utf8}
 use Rattle.std.specs.Prelude.{codes}
+use Rattle.std.specs.Str.{chars}
 use Rattle.std.specs.Fmt.{digits}
 use Rattle.contest_score.specs.declared.cell.Cell.{Cell}
+use Rattle.contest_score.specs.Ranking.{Scoreboard}
+use Rattle.contest_types.proofs.ExampleContest.{settings}
+use Rattle.contest_text.specs.BoardCsv.{board_csv}
 use Rattle.contest_text.specs.CellText.{cell_text}
+use Rattle.contest_text.specs.Csv.{field_text}
 use Rattle.contest_text.specs.BoardText.{word_of}
 use Rattle.contest_types.specs.declared.audience.Phase.TheVariants as phase
 
@@ -43,3 +49,28 @@ frozen_ended = refl
 
 running : word_of phase.Running false false ≡ codes "running"
 running = refl
+
+-- a field is quoted where it has to be, and a quote in it stands twice
+plain_field : field_text (codes "Alpha") ≡ codes "Alpha"
+plain_field = refl
+
+field_with_comma : field_text (codes "Alpha, Beta") ≡ codes "\"Alpha, Beta\""
+unfolding chars encode_utf8
+field_with_comma = refl
+
+field_with_quote : field_text (codes "a\"b") ≡ codes "\"a\"\"b\""
+unfolding chars encode_utf8
+field_with_quote = refl
+
+-- the board of two teams, of which the second solved nothing
+abbrev board : Scoreboard
+board = record {
+  columns = 0 ∷ [];
+  rows =
+      record { team = 0; rank = 1; score = record { solved = 1; total = 30; last = Some (record { 0 = 10 }) }; cells = cell 3 0 (Some 10) ∷ [] }
+      ∷ record { team = 1; rank = 2; score = record { solved = 0; total = 0; last = None }; cells = cell 1 1 None ∷ [] } ∷ [];
+}
+
+two_teams : board_csv settings board ≡ codes "rank,team_id,team,solved,time,last,A\n1,t1,Alpha,1,30,10,+3/10\n2,t2,Beta,0,0,,-1?1\n"
+unfolding digits
+two_teams = refl

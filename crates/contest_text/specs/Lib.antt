@@ -1,3 +1,5 @@
 pub mod Padding
 pub mod CellText
 pub mod BoardText
+pub mod Csv
+pub mod BoardCsv

@@ -254,7 +254,8 @@ fn push_row(
     out.push_str("\n")
 }
 
-fn number_text(alloc: Global, number: u64) -> Result<String, AllocError>
+/// A number in decimal digits.
+pub(crate) fn number_text(alloc: Global, number: u64) -> Result<String, AllocError>
     ensures { IfOk result (λ text. string_bytes text ≡ decimal number) }
 {
     format!(in alloc; "{number}")

@@ -1,8 +1,11 @@
-//! A contest's results as text: the board that a terminal shows.
+//! A contest's results as text: the board that a terminal shows, and as CSV.
 #![tactic(auto)]
 
 mod board;
 mod cell_text;
+mod csv_board;
+mod csv_field;
 mod padding;
 
 pub use board::board_text;
+pub use csv_board::board_csv;

@@ -11,7 +11,8 @@ use Rattle.contest_types.specs.TeamPlaces.{team_id_at}
 use Rattle.contest_view.specs.Members.{put_where, with_all}
 use Rattle.contest_types.specs.ProblemPlaces.{problem_id_at}
 use Rattle.contest_types.specs.VisibleIds.{submission_id}
-use Rattle.contest_view.specs.Objects.{contest_time_data, files_data, submission_data, submission_members}
+use Rattle.contest_view.specs.Objects.{files_data, submission_data, submission_members}
+use Rattle.contest_view.specs.Times.{contest_time_data}
 
 pub members_in_order : (contest_time : Data) (entry_point files : Option Data) (id language problem team : List ℕ) (time : Data)
     → put (codes "time") time (put_where files (codes "files") (put (codes "contest_time") contest_time

@@ -1,11 +1,12 @@
 -- What is found by its id is the one submission that is seen with this id.
-use Rattle.std.proofs.Common.{◌≡◌, ℕ, ◌≤◌, Bool, true, List, Option, Some, None, refl, sym, ap, subst, ◌∙◌, arith}
-use Rattle.std.specs.Prelude.{◌&&◌, bytes_eq, find, length}
+use Rattle.std.proofs.Common.{◌≡◌, ℕ, ◌≤◌, Bool, true, false, List, Option, Some, None, refl, sym, ap, subst, ◌∙◌, arith}
+use Rattle.std.specs.Prelude.{◌&&◌, bytes_eq, find, length, if◌then◌else◌}
+use Rattle.std.proofs.lemmas.Bool.{false≢true}
 use Rattle.std.specs.Option.{option_map}
 use Rattle.std.proofs.lemmas.Slice.Eq.{bytes_eq-Decides}
 use Rattle.contest_types.specs.Loads.{without_file, loaded_submissions}
 use Rattle.contest_types.specs.Order.{Has}
-use Rattle.contest_types.specs.State.{ContestState}
+use Rattle.contest_types.specs.State.{FixedPart, ContestState}
 use Rattle.contest_types.specs.Sight.{SeenSubmission, program_for, sees_team, seen_submission, seen_submissions}
 use Rattle.contest_types.specs.Valid.{is_valid}
 use Rattle.contest_types.specs.declared.audience.Audience.{Audience}
@@ -20,7 +21,8 @@ use Rattle.contest_types.proofs.ValidParts.{parts}
 use Rattle.contest_view.specs.Items.{Item}
 use Rattle.contest_types.specs.VisibleIds.{submission_id}
 use Rattle.contest_view.specs.Objects.{submission_data, submission_object}
-use Rattle.contest_view.specs.Reads.{submission_item, submission_found}
+use Rattle.contest_view.specs.Keys.{if_seen}
+use Rattle.contest_view.specs.Reads.{named_submission, submission_item, submission_found}
 use Rattle.contest_view.proofs.CollectionLemmas.{find_mapped}
 use Rattle.contest_view.proofs.SeenApart.{number_small, within_limit}
 use Rattle.contest_view.proofs.SeenKeys.{same_object}
@@ -101,3 +103,55 @@ pub none_is : (a : Audience) (now : ℕ) (x : ContestState) → is_valid x ≡ t
 none_is a now x valid id e =
     let none : find (is_asked a x id) x.submissions ≡ None = none_loaded (find (is_asked a x id) x.submissions) (sym (found_loaded a x id) ∙ e) in
     sym (found_as a now x id ∙ ap (option_map (submission_object x.fixed)) (seen_none a now x valid id none (find (has_this_id id) (seen_submissions a now x)) refl))
+
+seen_without : (a : Audience) (f : FixedPart) (o : Option Submission) → option_map without_file (if_seen a f o) ≡ if_seen a f (option_map without_file o)
+seen_without a f None = refl
+seen_without a f (Some s) =
+    let go : (b : Bool) → option_map without_file (if b then Some s else None) ≡ (if b then Some (without_file s) else None) = elim [ true ↦ refl | false ↦ refl ] in
+    go (sees_team a f.settings s.team)
+
+abbrev is_named : List ℕ → Submission → Bool
+is_named id s = bytes_eq (submission_id s.team s.number) id
+
+-- the one that is asked for is the one with the id, if it is seen
+asked_seen : (a : Audience) (x : ContestState) → is_valid x ≡ true → (id : List ℕ) (s : Submission) → named_submission id x.submissions ≡ Some s
+    → (b : Bool) → sees_team a x.fixed.settings s.team ≡ b → find (is_asked a x id) x.submissions ≡ (if b then Some s else None)
+asked_seen a x valid id s named b sees =
+    let there = find_has (is_named id) x.submissions s named in
+    let same_id : submission_id s.team s.number ≡ id = (bytes_eq-Decides (submission_id s.team s.number) id).0 (find_passes (is_named id) x.submissions s named) in
+    let one : (t : Submission) → Has x.submissions t → is_asked a x id t ≡ true → t ≡ s = λ t has asked.
+    one_with_id x valid t s has there ((bytes_eq-Decides (submission_id t.team t.number) id).0 (and_right (sees_team a x.fixed.settings t.team) _ asked) ∙ sym same_id) in
+    let go : (c : Bool) → sees_team a x.fixed.settings s.team ≡ c → find (is_asked a x id) x.submissions ≡ (if c then Some s else None) = elim [
+      | true ↦ λ is.
+          let f = found_in (is_asked a x id) x.submissions s there (both_true _ _ is (find_passes (is_named id) x.submissions s named)) in
+          f.found ∙ ap Some (one f.item f.there f.passes)
+      | false ↦ λ is.
+          let none : (o : Option Submission) → find (is_asked a x id) x.submissions ≡ o → o ≡ None = elim [
+            | None ↦ λ e. refl
+            | (Some t) ↦ λ e.
+                let passes = find_passes (is_asked a x id) x.submissions t e in
+                let same : t ≡ s = one t (find_has (is_asked a x id) x.submissions t e) passes in
+                absurd (false≢true (sym is ∙ (ap (λ (r : Submission). sees_team a x.fixed.settings r.team) (sym same) ∙ and_left _ _ passes)))
+          ] in
+          none (find (is_asked a x id) x.submissions) refl
+    ] in
+    go b sees
+
+asked_named : (a : Audience) (x : ContestState) → is_valid x ≡ true → (id : List ℕ) → find (is_asked a x id) x.submissions ≡ if_seen a x.fixed (named_submission id x.submissions)
+asked_named a x valid id =
+    let go : (o : Option Submission) → named_submission id x.submissions ≡ o → find (is_asked a x id) x.submissions ≡ if_seen a x.fixed o = elim [
+      | None ↦ λ e.
+          let none : (o : Option Submission) → find (is_asked a x id) x.submissions ≡ o → o ≡ None = elim [
+            | None ↦ λ f. refl
+            | (Some t) ↦ λ f. absurd (none_passes (is_named id) x.submissions t e (find_has (is_asked a x id) x.submissions t f) (and_right (sees_team a x.fixed.settings t.team) _ (find_passes (is_asked a x id) x.submissions t f)))
+          ] in
+          none (find (is_asked a x id) x.submissions) refl
+      | (Some s) ↦ λ e. asked_seen a x valid id s e (sees_team a x.fixed.settings s.team) refl
+    ] in
+    go (named_submission id x.submissions) refl
+
+-- files don't enter that either
+pub asked_loaded : (a : Audience) (x : ContestState) → is_valid x ≡ true → (id : List ℕ) → find (is_asked a x id) (loaded_submissions x) ≡ if_seen a x.fixed (named_submission id (loaded_submissions x))
+asked_loaded a x valid id =
+    found_loaded a x id ∙ (ap (option_map without_file) (asked_named a x valid id) ∙ (seen_without a x.fixed (named_submission id x.submissions)
+    ∙ ap (if_seen a x.fixed) (sym (find_mapped (is_named id) without_file x.submissions))))

@@ -1,6 +1,6 @@
--- What the list of submissions is sorted by.
+-- What the list of submissions is sorted by, and which one of it is seen.
 -- Words of private functions: nothing public is said with them.
-use Rattle.std.specs.Prelude.{ℕ, List, filter}
+use Rattle.std.specs.Prelude.{ℕ, List, Option, Some, None, filter, if◌then◌else◌}
 use Rattle.std.specs.List.{enumerate_from}
 use Rattle.serde_json.specs.Data.{Data}
 use Rattle.contest_types.specs.Setup.{Setup}
@@ -39,3 +39,8 @@ row_item f a s = record { id = submission_id s.team s.number; object = submissio
 -- the object of the submission at a place
 abbrev pub object_at : FixedPart → Audience → List Submission → ℕ → Data
 object_at f a = item_at (row_item f a)
+
+-- the submission, if the audience sees it
+abbrev pub if_seen : Audience → FixedPart → Option Submission → Option Submission
+if_seen a f None = None
+if_seen a f (Some s) = if sees_team a f.settings s.team then Some s else None

@@ -1,19 +1,27 @@
 -- The members of a JSON object, put in one by one.
--- Words of private functions: nothing public is said with them.
 use Rattle.std.specs.Prelude.{ℕ, List, [], ◌∷◌, Option, Some, None}
-use Rattle.serde_json.specs.Data.{Data, Members, boolean, number, put, string, unsigned}
-use Rattle.contest_view.specs.Times.{moment_or_null, span_data, span_or_null}
+use Rattle.std.specs.Option.{option_map_or}
+use Rattle.serde_json.specs.Data.{Data, Members, boolean, null, number, put, string, unsigned}
+use Rattle.contest_types.specs.MomentText.{moment_text}
+use Rattle.contest_view.specs.Times.{contest_time_data, moment_or_null, span_data, span_or_null}
 use Rattle.contest_view.specs.declared.members.Member.{Member}
-use Rattle.contest_view.specs.declared.members.Member.TheVariants.{Text, Number, Flag, Span, SpanOrNull, TimeOrNull, Absent}
+use Rattle.contest_view.specs.declared.members.Member.TheVariants.{Text, Number, NumberOrNull, Flag, Span, SpanOrNull, Time, TimeOrNull, ContestTime, Absent}
+
+-- a whole number, or null
+abbrev pub number_or_null : Option ℕ → Data
+number_or_null n = option_map_or (λ k. number (unsigned k)) n null
 
 -- what stands under a name, if anything
 abbrev pub shown : Member → Option Data
 shown (Text t) = Some (string t.now)
 shown (Number n) = Some (number (unsigned n))
+shown (NumberOrNull n) = Some (number_or_null n)
 shown (Flag b) = Some (boolean b)
 shown (Span s) = Some (span_data s.now)
 shown (SpanOrNull s) = Some (span_or_null s.now)
+shown (Time m) = Some (string (moment_text m.now))
 shown (TimeOrNull m) = Some (moment_or_null m.now)
+shown (ContestTime start time) = Some (contest_time_data start.now time.now)
 shown Absent = None
 
 -- the members, with one that is only there with a value

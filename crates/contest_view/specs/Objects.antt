@@ -1,20 +1,16 @@
 -- The objects that are served, as JSON values (Contest API 2023-06; which members each object has is
 -- this desk's choice).
-use Rattle.std.specs.Prelude.{ℕ, ◌-ℤ◌, pos, List, ◌++◌, Option, Some, None, codes}
-use Rattle.std.specs.Option.{option_map, option_map_or, option_and_then}
-use Rattle.serde_json.specs.Data.{Data, null, string, array, object, item, no_items, Members, member, no_members}
+use Rattle.std.specs.Prelude.{ℕ, List, ◌++◌, Option, Some, None, codes}
+use Rattle.std.specs.Option.{option_map, option_and_then}
+use Rattle.serde_json.specs.Data.{Data, string, array, object, item, no_items, Members, member, no_members}
 use Rattle.contest_types.specs.VisibleIds.{submission_id}
 use Rattle.contest_types.specs.ProblemPlaces.{problem_id_at}
 use Rattle.contest_types.specs.SettingsNames.{language_id_at}
 use Rattle.contest_types.specs.TeamPlaces.{team_id_at}
+use Rattle.contest_view.specs.Times.{contest_time_data}
 use Rattle.contest_types.specs.MomentText.{moment_text}
-use Rattle.contest_types.specs.RelTimeText.{rel_time_text}
 use Rattle.contest_types.specs.State.{FixedPart}
 use Rattle.contest_types.specs.Sight.{Program, SeenSubmission}
-
--- the time since the start, where that is set
-abbrev pub contest_time_data : Option ℕ → ℕ → Data
-contest_time_data start time = option_map_or (λ s. string (rel_time_text (pos time -ℤ pos s))) start null
 
 -- where a submission's file is served, without the first `/`
 abbrev pub files_path : (contest id : List ℕ) → List ℕ

@@ -15,14 +15,14 @@ proposer_id (proposer.Account id) = id
 proposer_id proposer.Import = codes "import"
 
 -- a proposal, by the values of its members
-abbrev pub proposal_members : (account judgement_type : List ℕ) → (released : Bool) → (submission : List ℕ) → (time : Data) → Members
+abbrev pub proposal_members : (account judgement_type : List ℕ) → (released : Bool) → (submission : List ℕ) → (time : ℕ) → Members
 proposal_members account judgement_type released submission time =
     member (codes "account_id") (string account)
     (member (codes "judgement_type_id") (string judgement_type)
     (member (codes "released") (boolean released)
     (member (codes "submission_id") (string submission)
-    (member (codes "time") time no_members))))
+    (member (codes "time") (string (moment_text time)) no_members))))
 
 -- released: whether the submission has a release
 abbrev pub proposal_data : Setup → Proposal → (released : Bool) → Data
-proposal_data s p released = object (proposal_members (proposer_id p.proposer) (type_id_at s p.verdict) released (submission_id p.team p.number) (string (moment_text p.time)))
+proposal_data s p released = object (proposal_members (proposer_id p.proposer) (type_id_at s p.verdict) released (submission_id p.team p.number) p.time)

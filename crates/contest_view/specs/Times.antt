@@ -1,5 +1,5 @@
 -- How times are served, also where there may be none (Contest API 2023-06, TIME and RELTIME).
-use Rattle.std.specs.Prelude.{ℕ, pos, Option}
+use Rattle.std.specs.Prelude.{ℕ, ◌-ℤ◌, pos, Option}
 use Rattle.std.specs.Option.{option_map_or}
 use Rattle.serde_json.specs.Data.{Data, null, string}
 use Rattle.contest_types.specs.MomentText.{moment_text}
@@ -16,3 +16,7 @@ span_data span = string (rel_time_text (pos span))
 -- a length of time, or null
 abbrev pub span_or_null : Option ℕ → Data
 span_or_null span = option_map_or span_data span null
+
+-- the time since the start, where that is set
+abbrev pub contest_time_data : Option ℕ → ℕ → Data
+contest_time_data start time = option_map_or (λ s. string (rel_time_text (pos time -ℤ pos s))) start null

@@ -4,8 +4,8 @@ ghost use Rattle.serde_json.specs.Data.{no_members, object, string};
 ghost use Rattle.serde_json.specs.View.{view, members_view};
 ghost use Rattle.contest_types.specs.MomentText.{moment_text};
 ghost use Rattle.contest_types.specs.RelTimeText.{rel_time_text};
-ghost use Rattle.contest_view.specs.Members.{put_where, shown, with_all};
-ghost use Rattle.contest_view.specs.Times.{moment_or_null, span_data, span_or_null};
+ghost use Rattle.contest_view.specs.Members.{number_or_null, put_where, shown, with_all};
+ghost use Rattle.contest_view.specs.Times.{contest_time_data, moment_or_null, span_data, span_or_null};
 
 use contest_types::{Moment, RelTime, TimeSpan, print_reltime, print_time};
 use serde_json::{Map, Value, put};
@@ -13,19 +13,25 @@ use std::alloc::{AllocError, Global};
 
 /// What stands under a name.
 #[derive(Clone, Copy)]
-pub(crate) enum Member<'a> {
+pub enum Member<'a> {
     /// A text.
     Text(&'a str),
     /// A whole number.
     Number(u64),
+    /// A whole number, or null where there is none.
+    NumberOrNull(Option<u64>),
     /// True or false.
     Flag(bool),
     /// A length of time.
     Span(&'a TimeSpan),
     /// A length of time, or null where there is none.
     SpanOrNull(&'a Option<TimeSpan>),
+    /// A moment.
+    Time(&'a Moment),
     /// A moment, or null where there is none.
     TimeOrNull(&'a Option<Moment>),
+    /// The time since the start at a moment, or null where no start is set.
+    ContestTime(&'a Option<Moment>, &'a Moment),
     /// Nothing: the object has no such name.
     Absent,
 }
@@ -35,7 +41,7 @@ pub(crate) enum Member<'a> {
 /// # Errors
 ///
 /// Want of memory alone.
-pub(crate) fn object_of(alloc: Global, members: &[(&str, Member<'_>)]) -> Result<Value, AllocError>
+pub fn object_of(alloc: Global, members: &[(&str, Member<'_>)]) -> Result<Value, AllocError>
     ensures { IfOk result (λ v. view v ≡ object (with_all (map (λ m. (m.0.now, shown m.1)) members.now) no_members)) }
 {
     let mut object = Map::new(alloc);
@@ -48,7 +54,7 @@ pub(crate) fn object_of(alloc: Global, members: &[(&str, Member<'_>)]) -> Result
 /// # Errors
 ///
 /// Want of memory alone.
-pub(crate) fn put_all(
+pub fn put_all(
     object: &mut Map<String, Value>,
     alloc: Global,
     members: &[(&str, Member<'_>)],
@@ -83,16 +89,23 @@ fn member_value(alloc: Global, member: Member<'_>) -> Result<Option<Value>, Allo
     match member {
         Member::Text(text) => Ok(Some(Value::try_from_str(alloc, text)?)),
         Member::Number(number) => Ok(Some(Value::from(number))),
+        Member::NumberOrNull(number) => Ok(Some(number_or_null(number))),
         Member::Flag(flag) => Ok(Some(Value::Bool(flag))),
         Member::Span(span) => Ok(Some(span_value(alloc, *span)?)),
         Member::SpanOrNull(span) => Ok(Some(span_or_null(alloc, *span)?)),
+        Member::Time(moment) => Ok(Some(moment_value(alloc, *moment)?)),
         Member::TimeOrNull(moment) => Ok(Some(moment_or_null(alloc, *moment)?)),
+        Member::ContestTime(start, time) => Ok(Some(contest_time_value(alloc, *start, *time)?)),
         Member::Absent => Ok(None),
     }
 }
 
 /// The text of a moment.
-pub(crate) fn moment_value(alloc: Global, moment: Moment) -> Result<Value, AllocError>
+///
+/// # Errors
+///
+/// Want of memory alone.
+pub fn moment_value(alloc: Global, moment: Moment) -> Result<Value, AllocError>
     ensures { IfOk result (λ v. view v ≡ string (moment_text moment)) }
 {
     let text = print_time(moment);
@@ -111,6 +124,15 @@ pub(crate) fn reltime_value(alloc: Global, time: RelTime) -> Result<Value, Alloc
     match std::str::from_utf8(&buffer[..length]) {
         Ok(text) => Value::try_from_str(alloc, text),
         Err(_) => unreachable!(),
+    }
+}
+
+fn number_or_null(number: Option<u64>) -> Value
+    ensures { view result ≡ number_or_null number }
+{
+    match number {
+        Some(number) => Value::from(number),
+        None => Value::Null,
     }
 }
 
@@ -138,5 +160,23 @@ fn span_value(alloc: Global, span: TimeSpan) -> Result<Value, AllocError>
     match RelTime::from_milliseconds(span.milliseconds() as i64) {
         Some(time) => reltime_value(alloc, time),
         None => unreachable!(),
+    }
+}
+
+/// The time since the start (Contest API 2023-06, `contest_time`); null where no start is set.
+///
+/// # Errors
+///
+/// Want of memory alone.
+pub fn contest_time_value(
+    alloc: Global,
+    start: Option<Moment>,
+    time: Moment,
+) -> Result<Value, AllocError>
+    ensures { IfOk result (λ v. view v ≡ contest_time_data start time) }
+{
+    match start {
+        Some(start) => reltime_value(alloc, RelTime::between(start, time)),
+        None => Ok(Value::Null),
     }
 }

@@ -5,10 +5,10 @@ ghost use Rattle.serde_json.specs.View.{view};
 ghost use Rattle.serde_json.specs.Written.{has_float};
 ghost use Rattle.contest_view.specs.ProposalObjects.{proposal_data, proposal_members, proposer_id};
 
-use crate::members::{Member, moment_value, put_all};
-use crate::submission_id::submission_id;
-use contest_types::{Proposal, Proposer, Settings};
-use serde_json::{Map, Value, put};
+use crate::members::{Member, object_of};
+use crate::visible_ids::submission_id;
+use contest_types::{Moment, Proposal, Proposer, Settings};
+use serde_json::Value;
 use std::alloc::{AllocError, Global};
 
 /// What stands in a proposal's members.
@@ -18,7 +18,7 @@ struct Members<'a> {
     judgement_type: &'a str,
     released: bool,
     submission: &'a str,
-    time: Value,
+    time: &'a Moment,
 }
 
 /// The JSON value of a proposal (own): `account_id`, `judgement_type_id`, `released`, which is whether
@@ -43,26 +43,25 @@ pub fn proposal_value(
         judgement_type: settings.judgement_type_id(proposal.verdict),
         released,
         submission: submission.as_str(),
-        time: moment_value(alloc, proposal.time)?,
+        time: &proposal.time,
     };
     proposal_object(alloc, members)
 }
 
 // The object with these members.
-#[tactic(auto, using(crate::proofs::ProposalObjectLemmas::members_of_proposal))]
 fn proposal_object(alloc: Global, members: Members<'_>) -> Result<Value, AllocError>
-    ensures { IfOk result (λ v. view v ≡ object (proposal_members members.entry.account.now members.entry.judgement_type.now members.entry.released members.entry.submission.now (view members.entry.time))) }
+    ensures { IfOk result (λ v. view v ≡ object (proposal_members members.entry.account.now members.entry.judgement_type.now members.entry.released members.entry.submission.now members.entry.time.now)) }
 {
-    let mut object = Map::new(alloc);
-    let texts = [
-        ("account_id", Member::Text(members.account)),
-        ("judgement_type_id", Member::Text(members.judgement_type)),
-        ("released", Member::Flag(members.released)),
-        ("submission_id", Member::Text(members.submission)),
-    ];
-    put_all(&mut object, alloc, &texts)?;
-    put(&mut object, alloc, "time", members.time)?;
-    Ok(Value::Object(object))
+    object_of(
+        alloc,
+        &[
+            ("account_id", Member::Text(members.account)),
+            ("judgement_type_id", Member::Text(members.judgement_type)),
+            ("released", Member::Flag(members.released)),
+            ("submission_id", Member::Text(members.submission)),
+            ("time", Member::Time(members.time)),
+        ],
+    )
 }
 
 fn proposer_id(proposer: &Proposer) -> &str

@@ -6,11 +6,11 @@ ghost use Rattle.serde_json.specs.Written.{has_float};
 ghost use Rattle.contest_types.specs.Sight.{program_for};
 ghost use Rattle.contest_types.specs.VisibleIds.{submission_id};
 ghost use Rattle.contest_view.specs.Members.{shown as shown_as};
-ghost use Rattle.contest_view.specs.Objects.{contest_time_data, file_array, files_data, files_path, submission_data, submission_members};
+ghost use Rattle.contest_view.specs.Objects.{file_array, files_data, files_path, submission_data, submission_members};
 
-use crate::members::{Member, moment_value, put_all, put_where, reltime_value};
-use crate::submission_id::submission_id;
-use contest_types::{Audience, Fixed, Moment, Name, RelTime, Settings, Submission, knows_all_of};
+use crate::members::{Member, contest_time_value, moment_value, put_all, put_where};
+use crate::visible_ids::submission_id;
+use contest_types::{Audience, Fixed, Name, Settings, Submission, knows_all_of};
 use serde_json::{Map, Value, json, put};
 use std::alloc::{AllocError, Global};
 
@@ -80,20 +80,6 @@ fn submission_object(alloc: Global, members: Members<'_>) -> Result<Value, Alloc
     put_where(&mut object, alloc, "files", members.files)?;
     put(&mut object, alloc, "time", members.time)?;
     Ok(Value::Object(object))
-}
-
-// The time since the start.
-fn contest_time_value(
-    alloc: Global,
-    start: Option<Moment>,
-    time: Moment,
-) -> Result<Value, AllocError>
-    ensures { IfOk result (λ v. view v ≡ contest_time_data start time) }
-{
-    match start {
-        Some(start) => reltime_value(alloc, RelTime::between(start, time)),
-        None => Ok(Value::Null),
-    }
 }
 
 // The entry point, where one was given and is shown.

@@ -5,7 +5,7 @@ ghost use Rattle.contest_desk.specs.Serving.{IsSettled};
 ghost use Rattle.contest_store.specs.InMemory.{kept_of};
 
 use contest_desk::Desk;
-use contest_fixtures::{SettingRow, demo, id};
+use contest_fixtures::{SettingRow, demo, id, verified_demo};
 use contest_store::{MemoryStore, copied_fixed, is_valid_fixed};
 use contest_types::{Account, Digest, Fixed, Marks, Moment, Refusal, Role, Rows};
 use sha2::{Digest as _, Sha256};
@@ -65,18 +65,28 @@ fn is_bare(walk: &str) -> bool {
     }
 }
 
+/// Whether another judge verifies each verdict of a walk.
+fn is_verified(walk: &str) -> bool {
+    walk.split_once("\nverdicts are verified\n").is_some()
+}
+
 /// The contest with all that is set up, or alone.
-fn set_up(alloc: Global, is_bare: bool) -> Result<Rc<Fixed>, Fail> {
-    if is_bare {
-        demo(alloc, &[], Rows::new(alloc))
+fn set_up(alloc: Global, walk: &str) -> Result<Rc<Fixed>, Fail> {
+    let (rows, accounts): (&[SettingRow], _) = if is_bare(walk) {
+        (&[], Rows::new(alloc))
     } else {
-        demo(alloc, &ROWS, accounts(alloc)?)
+        (&ROWS, accounts(alloc)?)
+    };
+    if is_verified(walk) {
+        verified_demo(alloc, rows, accounts)
+    } else {
+        demo(alloc, rows, accounts)
     }
 }
 
 /// The contest with the marks of the clock that a walk sets.
 fn fixed(alloc: Global, walk: &str) -> Result<Rc<Fixed>, Fail> {
-    let demo = set_up(alloc, is_bare(walk))?;
+    let demo = set_up(alloc, walk)?;
     let mut fixed = copied_fixed(alloc, &demo)?;
     set_marks(&mut fixed.marks, walk)?;
     Ok(Rc::new(alloc, fixed)?)

@@ -5,7 +5,7 @@ use Rattle.contest_cli.proofs.file_commands.import_by_words.Goals as goal
 pub returns-in-Ok : goal.returns-in-Ok
 returns-in-Ok g c =
     let it = c.in-Ok.it in
-    inr (it.kind, c.in-Ok.ensures.named, it.files.conn, c.run_import.result.1, c.in-Ok.ensures.found, c.in-Ok.ensures.numbered, it.now, _, _, c.run_import.ensures)
+    inr (it.kind, c.in-Ok.ensures.named, it.files.conn, c.run_import-status.result.1, c.in-Ok.ensures.found, c.in-Ok.ensures.numbered, it.now, _, _, c.run_import-status.ensures)
 
 pub returns-in-Err : goal.returns-in-Err
 returns-in-Err g c = inl ((c.in-Err.stop, c.in-Err.ensures.err, c.refuse.ensures.status, c.refuse.ensures.told), keeps_same _)

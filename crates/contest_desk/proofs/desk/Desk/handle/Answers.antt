@@ -3,13 +3,13 @@ use Rattle.std.specs.Prelude.{◌⊎◌}
 use Rattle.contest_types.specs.Alike.{Alike, MayBeHeld}
 use Rattle.contest_types.specs.State.{add_all}
 use Rattle.contest_types.specs.Streams.{Failed, one_more}
-use Rattle.contest_desk.specs.Laws.{HasSight}
-use Rattle.contest_desk.specs.Replies.{refused}
-use Rattle.contest_desk.specs.Step.{may_take_memory, outcome}
+use Rattle.contest_operations.specs.Laws.{HasSight}
+use Rattle.contest_operations.specs.Replies.{refused}
+use Rattle.contest_operations.specs.Step.{may_take_memory, outcome}
 use Rattle.contest_desk.proofs.FaultLemmas.{ordinary_apart, fault_counted, memory_counted, store_reply}
-use Rattle.contest_desk.proofs.LawLemmas.{steps_alike, steps_keep_valid}
+use Rattle.contest_operations.proofs.LawLemmas.{steps_alike, steps_keep_valid}
 use Rattle.contest_desk.proofs.ServingLemmas.{stays_settled}
-use Rattle.contest_desk.specs.declared.reply.Reply.{Reply}
+use Rattle.contest_operations.specs.declared.reply.Reply.{Reply}
 use Rattle.contest_desk.proofs.desk.Desk.handle.Goals as goal
 
 pub invariant_of-self : goal.invariant_of-self

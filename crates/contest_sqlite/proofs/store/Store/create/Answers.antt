@@ -1,9 +1,10 @@
-use Rattle.std.proofs.Common.{true, ap, subst, subst₂, sym}
-use Rattle.sqlite.specs.State.{HasCleanDisk}
+use Rattle.std.proofs.Common.{◌≡◌, Some, true, ap, subst, subst₂, sym}
+use Rattle.sqlite.specs.State.{HasCleanDisk, Survives}
 use Rattle.sqlite.specs.Held.{state}
-use Rattle.contest_types.specs.State.{ContestState}
+use Rattle.contest_types.specs.State.{ContestState, new_contest}
 use Rattle.contest_spelling.specs.Spelling.{without_rows}
 use Rattle.contest_tables.specs.Connected.{IsBare, counts_of, shown_by}
+use Rattle.contest_sqlite.specs.Contests.{contest_in_trees}
 use Rattle.contest_sqlite.specs.Creation.{Created, KeepsAll, StoodEqual, StoodOther}
 use Rattle.contest_sqlite.specs.Keeping.{kept_of}
 use Rattle.contest_sqlite.proofs.CreatedStores.{created, created_whole, either_valid, keeps_all, not_set_up, stood_equal, stood_other, told}
@@ -37,6 +38,11 @@ returns-in-Ok-make_or_read-clause-stood g c clean other =
     (stood_equal (without_rows c.in-Ok.fixed.value) c.in-Ok.fixed.value.settings.head old new c.in-Ok-make_or_read.lists c.args.contest (counts_of c.make_or_read.new.tables) 0 true clean
     (ap (λ (x : ContestState). x.fixed.settings.head) c.in-Ok.ensures.value) (c.in-Ok-make_or_read.ensures.outcome clean)
     (λ bare. other (subst (λ conn. IsBare (state g.S.Store conn)) same bare)))
+
+pub returns-in-Ok-make_or_read-clause-survives : goal.returns-in-Ok-make_or_read-clause-survives
+returns-in-Ok-make_or_read-clause-survives g c =
+    let new = shown_by g.S.Store c.make_or_read.new.tables in
+    subst₂ (λ conn x. Survives (state g.S.Store conn) new (λ db. contest_in_trees db ≡ Some x)) c.new-tables.ensures.connection c.in-Ok.ensures.value c.make_or_read.ensures.survives
 
 pub returns-in-Err-make_or_read-clause-differs : goal.returns-in-Err-make_or_read-clause-differs
 returns-in-Err-make_or_read-clause-differs g c clean is =

@@ -10,7 +10,7 @@ pub returns-in_ok-self-inside-in_default-clause-ok : goal.returns-in_ok-self-ins
 returns-in_ok-self-inside-in_default-clause-ok c = λ submissions may.
     let was : ContestState = record {
       fixed = c.self.inside.fixed.value;
-      submissions = c.self.inside.submissions.items;
+      submissions = c.self.inside.submissions;
       proposals = c.self.inside.proposals.items;
       releases = c.self.inside.releases.items;
       clarifications = c.self.inside.clarifications.items;

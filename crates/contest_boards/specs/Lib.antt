@@ -1,0 +1,2 @@
+pub mod Scoreboards
+pub mod Laws

@@ -1,5 +1,0 @@
-use Rattle.contest_desk.proofs.LawLemmas as lemmas
-use Rattle.contest_desk.proofs.laws.steps_keep_valid.Goals as goal
-
-pub returns : goal.returns
-returns c = lemmas.steps_keep_valid

@@ -1,5 +1,0 @@
-use Rattle.contest_desk.proofs.NeverFails as lemmas
-use Rattle.contest_desk.proofs.laws.steps_never_fail.Goals as goal
-
-pub returns : goal.returns
-returns c = lemmas.steps_never_fail

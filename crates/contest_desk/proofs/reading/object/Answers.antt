@@ -1,6 +1,0 @@
-use Rattle.std.proofs.Common.{◌∙◌, ap, sym}
-use Rattle.contest_desk.proofs.reading.object.Goals as goal
-
-pub returns-in-Submissions-clause-seen : goal.returns-in-Submissions-clause-seen
-returns-in-Submissions-clause-seen c = λ now x valid is.
-    rw c.in-Submissions.is (c.submission_by_id.ensures.seen now x valid (sym (c.fixed-fixed.ensures ∙ ap (λ l. l.fixed) is)) (sym (c.submissions.ensures ∙ ap (λ l. l.submissions) is)))

@@ -1,0 +1,69 @@
+//! The board that an audience sees.
+ghost use Rattle.std.specs.Prelude.{◌≡◌, Err, IfOk, Option, Result, Some, None};
+ghost use Rattle.contest_score.specs.Ranking.{Scoreboard};
+ghost use Rattle.contest_store.specs.declared.store_error.StoreError.{StoreError as TheStoreError};
+ghost use Rattle.contest_boards.specs.Scoreboards.{board_found};
+ghost use Rattle.contest_desk.specs.Serving.{IsSettled, OnlyReads};
+ghost use Rattle.contest_desk.specs.Boards.{board_told};
+
+use crate::Desk;
+use contest_boards::board_found;
+use contest_score::Board;
+use contest_store::{ContestStore, StoreError};
+use contest_types::{Audience, Moment, Refusal};
+use std::alloc::Global;
+
+// The board, if there is such an audience.
+fn found<S: ContestStore>(
+    alloc: Global,
+    store: &mut S,
+    now: Moment,
+    audience: Audience,
+) -> Result<Option<Board>, StoreError>
+    requires { IsSettled (S.kept store.old) }
+    ensures value { (S.kept store.new).is_clean → IfOk result (λ o. o ≡ board_found audience now (S.kept store.old).contest) }
+    ensures leaves { OnlyReads result (S.kept store.old) (S.kept store.new) }
+{
+    store.load(alloc)?;
+    let lists = store.lists();
+    let found = board_found(
+        alloc,
+        lists.fixed(),
+        audience,
+        now,
+        lists.submissions(),
+        lists.releases(),
+    )?;
+    Ok(found)
+}
+
+impl<S: ContestStore> Desk<S> {
+    /// The board that an audience sees at a moment. The contest stays as it is.
+    ///
+    /// # Errors
+    ///
+    /// `NotFound` for a team that isn't there, `StoreFault` where the store failed, which counts it, and
+    /// `Memory` where a growth was refused.
+    pub fn board(
+        &mut self,
+        alloc: Global,
+        now: Moment,
+        audience: Audience,
+    ) -> Result<Board, Refusal>
+        ensures board { (S.kept self.new).is_clean → IfOk result (λ b. board_found audience now (S.kept self.old).contest ≡ Some b) }
+        ensures missing { (S.kept self.new).is_clean → result ≡ Err Refusal.NotFound → board_found audience now (S.kept self.old).contest ≡ None }
+        ensures leaves { (r : Result (Option Scoreboard) TheStoreError) × (result ≡ board_told r) × OnlyReads r (S.kept self.old) (S.kept self.new) }
+    {
+        told(found(alloc, &mut self.store, now, audience))
+    }
+}
+
+// The board, or why there is none.
+fn told(found: Result<Option<Board>, StoreError>) -> Result<Board, Refusal>
+    ensures { result ≡ board_told found }
+{
+    match found {
+        Ok(found) => found.ok_or(Refusal::NotFound),
+        Err(error) => Err(error.refusal()),
+    }
+}

@@ -1,0 +1,56 @@
+-- Reading (Contest API 2023-06): what an audience reads of a contest, and how it is answered.
+use Rattle.std.specs.Prelude.{ℕ, List, Option, Some, None}
+use Rattle.serde_json.specs.Data.{Data}
+use Rattle.contest_types.specs.State.{ContestState}
+use Rattle.contest_types.specs.declared.audience.Audience.{Audience}
+use Rattle.contest_types.specs.declared.refusal.Refusal.TheVariants.{NotFound}
+use Rattle.contest_boards.specs.Scoreboards.{scoreboard_data}
+use Rattle.contest_verdicts.specs.Judgements.{judgements_data, judgement_found}
+use Rattle.contest_verdicts.specs.Proposals.{proposals_data}
+use Rattle.contest_view.specs.ContestObjects.{whole_data}
+use Rattle.contest_view.specs.FileReads.{file_found, file_place}
+use Rattle.contest_view.specs.Reads.{submissions_data, submission_found}
+use Rattle.contest_view.specs.SettingsObjects.{settings_data, setting_found}
+use Rattle.contest_operations.specs.Paths.{object_piece}
+use Rattle.contest_operations.specs.Replies.{refused, answer, file_answer}
+use Rattle.contest_operations.specs.declared.operation.Endpoint.{Endpoint}
+use Rattle.contest_operations.specs.declared.operation.Endpoint.TheVariants.{Settings, Submissions, Judgements}
+use Rattle.contest_operations.specs.declared.operation.Reading.{Reading}
+use Rattle.contest_operations.specs.declared.operation.Reading.TheVariants.{Whole, List as AllOf, Object, File, Scoreboard, Proposals}
+use Rattle.contest_operations.specs.declared.reply.Reply.{Reply}
+
+-- the array of an endpoint's objects that an audience sees
+abbrev pub all_data : Audience → ℕ → ContestState → Endpoint → Data
+all_data a now x (Settings endpoint) = settings_data endpoint x.fixed.settings
+all_data a now x Submissions = submissions_data a now x
+all_data a now x Judgements = judgements_data a now x
+
+-- the one with this id, if the audience sees one
+abbrev pub object_found : Audience → ℕ → ContestState → Endpoint → (id : List ℕ) → Option Data
+object_found a now x (Settings endpoint) id = setting_found endpoint x.fixed.settings id
+object_found a now x Submissions id = submission_found a now x id
+object_found a now x Judgements id = judgement_found a now x id
+
+-- what isn't seen is answered as what isn't there
+abbrev pub told : Option Data → Reply
+told None = refused NotFound
+told (Some d) = answer d
+
+-- nor is a file that the audience may not read
+abbrev pub file_told : Option (List ℕ) → Reply
+file_told None = refused NotFound
+file_told (Some bytes) = file_answer bytes
+
+-- what an audience that reads a path is answered
+abbrev pub read : Audience → ℕ → ContestState → Reading → (path : List ℕ) → Reply
+read a now x (Whole endpoint) path = told (Some (whole_data endpoint x.fixed now))
+read a now x (AllOf endpoint) path = told (Some (all_data a now x endpoint))
+read a now x (Object endpoint) path = told (object_found a now x endpoint (object_piece path))
+read a now x File path = file_told (file_found a now x (object_piece path))
+read a now x Scoreboard path = told (Some (scoreboard_data a now x))
+read a now x Proposals path = told (Some (proposals_data a now x))
+
+-- whose file is looked at, by its team and its number: one that the audience may read, or none
+abbrev pub read_file : Audience → Reading → (path : List ℕ) → ContestState → Option (ℕ × ℕ)
+read_file a File path x = file_place a x.fixed x.submissions (object_piece path)
+read_file a _ path x = None

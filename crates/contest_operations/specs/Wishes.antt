@@ -1,0 +1,57 @@
+-- What a known caller wishes, and what it comes to (own). What is off its form, or isn't for the caller's
+-- role, is refused before anything but the fixed part is read.
+use Rattle.std.specs.Prelude.{ℕ, Bool, true, List, Option, Result, Ok, Err, is_some, if◌then◌else◌}
+use Rattle.contest_types.specs.State.{FixedPart, ContestState}
+use Rattle.contest_types.specs.declared.refusal.Refusal.{Refusal}
+use Rattle.contest_types.specs.declared.refusal.Refusal.TheVariants.{RoleForbids}
+use Rattle.contest_store.specs.Lists.{loaded}
+use Rattle.contest_operations.specs.Callers.{Caller, audience_of, judge_of}
+use Rattle.contest_operations.specs.Commands.{IsSoundPost, file_at, post_file, post_outcome, post_takes_memory, posted_by}
+use Rattle.contest_operations.specs.Outcomes.{Outcome, replying}
+use Rattle.contest_operations.specs.Readings.{read, read_file}
+use Rattle.contest_operations.specs.declared.command.Posted.{Posted}
+use Rattle.contest_operations.specs.declared.operation.Operation.{Operation}
+use Rattle.contest_operations.specs.declared.operation.Operation.TheVariants.{Read as ToRead, Do as ToDo}
+use Rattle.contest_operations.specs.declared.operation.Reading.{Reading}
+use Rattle.contest_operations.specs.declared.operation.Reading.TheVariants.{Proposals}
+use Rattle.contest_operations.specs.declared.request.Request.{Request}
+use Rattle.contest_operations.specs.declared.wish.Wish.{Wish}
+use Rattle.contest_operations.specs.declared.wish.Wish.TheVariants.{Read, Do}
+
+abbrev pub wish_to_do : Result Posted Refusal → Result Wish Refusal
+wish_to_do (Err refusal) = Err refusal
+wish_to_do (Ok posted) = Ok (Do posted)
+
+-- what judges propose is for the jury alone
+abbrev pub may_read : Caller → Reading → Bool
+may_read who Proposals = is_some (judge_of who)
+may_read who _ = true
+
+-- what a caller wishes by an operation
+abbrev pub wish_of : FixedPart → Caller → Operation → Request → Result Wish Refusal
+wish_of f who (ToRead reading) request = if may_read who reading then Ok (Read reading (audience_of who) request.path) else Err RoleForbids
+wish_of f who (ToDo command) request = wish_to_do (posted_by f who command request)
+
+-- what a wish comes to at a moment
+abbrev pub wish_outcome : (now : ℕ) → Wish → ContestState → Outcome
+wish_outcome now (Read reading a path) x = replying (read a now x reading path)
+wish_outcome now (Do posted) x = post_outcome now posted x
+
+-- what is known of a wish once it is read
+abbrev pub IsSound : FixedPart → Wish → Type 0
+IsSound f (Read reading a path) = Unit {0}
+IsSound f (Do posted) = IsSoundPost f posted
+
+-- reading the body, or building the reply, may take memory: not where the caller's role forbids it
+abbrev pub takes_memory : Caller → Operation → Bool
+takes_memory who (ToRead reading) = may_read who reading
+takes_memory who (ToDo command) = post_takes_memory who command
+
+-- whose file is looked at, by its team and its number
+abbrev pub file_needed : Wish → ContestState → Option (ℕ × ℕ)
+file_needed (Read reading a path) x = read_file a reading path x
+file_needed (Do posted) x = post_file posted x
+
+-- that file, if there is one
+abbrev pub file_for : Wish → ContestState → Option (List ℕ)
+file_for wish x = file_at x (file_needed wish (loaded x))

@@ -1,0 +1,52 @@
+//! What a wish is answered, and what it adds.
+ghost use Rattle.std.specs.Prelude.{◌≡◌, true, IfOk};
+ghost use Rattle.contest_types.specs.State.{ContestState};
+ghost use Rattle.contest_types.specs.Valid.{is_valid};
+ghost use Rattle.contest_store.specs.Lists.{loaded};
+ghost use Rattle.contest_operations.specs.Replies.{IsOrdinary};
+ghost use Rattle.contest_operations.specs.Wishes.{IsSound, wish_outcome, file_for, file_needed};
+
+use crate::command::{perform, post_file};
+use crate::outcome::Outcome;
+use crate::reading::{read, read_file};
+use crate::wish::Wish;
+use contest_store::Lists;
+use contest_types::{Moment, Rows};
+use std::alloc::{AllocError, Global};
+
+/// Whose file a wish needs: by the place of its team, from 0, and its number, from 1.
+pub fn file_needed(wish: &Wish, lists: &Lists) -> Option<(usize, usize)>
+    ensures { (x : ContestState) → is_valid x ≡ true → lists.now ≡ loaded x → result ≡ file_needed wish.now lists.now }
+{
+    match wish {
+        Wish::Read(reading, audience, path) => {
+            read_file(lists, *audience, *reading, path.as_slice())
+        }
+        Wish::Do(posted) => post_file(posted, lists),
+    }
+}
+
+/// What a wish comes to over a contest's lists and the file that it needs: the same over whichever
+/// valid contest they are of.
+///
+/// # Errors
+///
+/// Want of memory alone.
+pub fn answer(
+    alloc: Global,
+    lists: &Lists,
+    now: Moment,
+    wish: Wish,
+    file: Option<Rows<u8>>,
+) -> Result<Outcome, AllocError>
+    ensures outcome { (x : ContestState) → is_valid x ≡ true → lists.now ≡ loaded x → IsSound x.fixed wish → file ≡ file_for wish x → IfOk result (λ o. o ≡ wish_outcome now wish x) }
+    ensures ordinary { IfOk result (λ o. IsOrdinary o.reply) }
+{
+    match wish {
+        Wish::Read(reading, audience, path) => {
+            let reply = read(alloc, lists, now, audience, reading, path.as_slice(), file)?;
+            Ok(Outcome::replying(alloc, reply))
+        }
+        Wish::Do(posted) => perform(alloc, lists, now, posted, file),
+    }
+}

@@ -1,0 +1,104 @@
+//! The commands. Each is a file of its own, a variant of both enums here and an arm of each function here.
+ghost use Rattle.std.specs.Prelude.{◌≡◌, ◌⊎◌, true, IfOk, IfErr};
+ghost use Rattle.contest_types.specs.State.{ContestState};
+ghost use Rattle.contest_types.specs.Valid.{is_valid};
+ghost use Rattle.contest_store.specs.Lists.{loaded};
+ghost use Rattle.contest_operations.specs.Commands.{IsSoundPost, file_at, post_file, post_outcome, post_takes_memory, posted_by};
+ghost use Rattle.contest_operations.specs.Replies.{IsOrdinary};
+
+use crate::Request;
+use crate::caller::{Caller, judge_of, team_of};
+use crate::jury_verdict::{JuryVerdict, post_verdict};
+use crate::outcome::Outcome;
+use crate::own_submissions::keyed_row;
+use crate::proposal::propose;
+use crate::submit::{post_submission, submit};
+use crate::verification::verify;
+use contest_rules::WantedSubmission;
+use contest_store::Lists;
+use contest_types::{Fixed, Moment, Refusal, Rows};
+use std::alloc::{AllocError, Global};
+
+/// What is done.
+#[derive(Clone, Copy)]
+pub enum Command {
+    /// A team submits (Contest API 2023-06, submissions).
+    Submit,
+    /// A judge proposes a verdict (DOMjudge manual, "Judging": verification).
+    Propose,
+    /// A judge verifies the verdict that another proposed.
+    Verify,
+}
+
+/// What a caller whose role allows it posts, once its body is read.
+#[derive(Drop)]
+pub enum Posted {
+    /// The team at a place, from 0, submits.
+    Submission(usize, WantedSubmission),
+    /// A judge proposes a verdict.
+    Proposal(JuryVerdict),
+    /// A judge verifies one.
+    Verification(JuryVerdict),
+}
+
+/// What a caller posts by a command: its role is looked at first, then its body.
+///
+/// # Errors
+///
+/// `RoleForbids`, those of the command's body, or want of memory.
+pub fn post(
+    alloc: Global,
+    fixed: &Fixed,
+    caller: &Caller<'_>,
+    command: Command,
+    request: Request,
+) -> Result<Posted, Refusal>
+    ensures ok { IfOk result (λ posted. posted_by fixed.now caller.now command request ≡ Ok posted) }
+    ensures err { IfErr result (λ e. (e ≡ Refusal.Memory) ⊎ (posted_by fixed.now caller.now command request ≡ Err e)) }
+    ensures memory { IfErr result (λ e. e ≡ Refusal.Memory → post_takes_memory caller.now command ≡ true) }
+{
+    match command {
+        Command::Submit => post_submission(alloc, fixed, team_of(caller), request),
+        Command::Propose => {
+            let verdict = post_verdict(alloc, judge_of(caller), request)?;
+            Ok(Posted::Proposal(verdict))
+        }
+        Command::Verify => {
+            let verdict = post_verdict(alloc, judge_of(caller), request)?;
+            Ok(Posted::Verification(verdict))
+        }
+    }
+}
+
+/// Whose file is needed to decide on what is posted: by the place of its team, from 0, and its number,
+/// from 1. Files are large, and no more than one is read.
+pub fn post_file(posted: &Posted, lists: &Lists) -> Option<(usize, usize)>
+    ensures { result ≡ post_file posted.now lists.now }
+{
+    match posted {
+        Posted::Submission(team, wanted) => keyed_row(lists, *team, &wanted.key),
+        Posted::Proposal(_) | Posted::Verification(_) => None,
+    }
+}
+
+/// What becomes of what is posted, over a contest's lists and the file that it needs.
+///
+/// # Errors
+///
+/// Want of memory alone.
+pub fn perform(
+    alloc: Global,
+    lists: &Lists,
+    now: Moment,
+    posted: Posted,
+    file: Option<Rows<u8>>,
+) -> Result<Outcome, AllocError>
+    ensures outcome { (x : ContestState) → is_valid x ≡ true → lists.now ≡ loaded x → IsSoundPost x.fixed posted → file ≡ file_at x (post_file posted (loaded x)) → IfOk result (λ o. o ≡ post_outcome now posted x) }
+    ensures ordinary { IfOk result (λ o. IsOrdinary o.reply) }
+{
+    match posted {
+        Posted::Submission(team, wanted) => submit(alloc, lists, now, team, wanted, file),
+        Posted::Proposal(verdict) => propose(alloc, lists, now, verdict),
+        Posted::Verification(verdict) => verify(alloc, lists, now, &verdict),
+    }
+}

@@ -1,0 +1,37 @@
+//! Laws of the desk's steps: functions that do nothing, and whose contracts say what holds of every
+//! contest.
+ghost use Rattle.contest_operations.specs.Laws.{HeadIsGet, PostsAlike, ReadsAlike, StepsAlike, StepsKeepValid, StepsNeverFail};
+
+/// Until the thaw, valid contests with equal settings, accounts and marks that agree on all that a
+/// caller may learn answer each of its requests byte for byte alike, and agree on it afterwards.
+pub fn steps_alike()
+    ensures { StepsAlike }
+{}
+
+/// What an audience reads tells nothing that it may not learn: what it doesn't see is as what isn't
+/// there.
+pub fn reads_alike()
+    ensures { ReadsAlike }
+{}
+
+/// Nor does what becomes of what a caller posts: a submission's number, its time, its repeats and its
+/// refusals depend on that team's submissions alone.
+pub fn posts_alike()
+    ensures { PostsAlike }
+{}
+
+/// HEAD is answered as GET is; who writes the reply leaves out the body's bytes.
+pub fn head_is_get()
+    ensures { HeadIsGet }
+{}
+
+/// A step leaves a valid contest valid.
+pub fn steps_keep_valid()
+    ensures { StepsKeepValid }
+{}
+
+/// No step answers that the store failed or that memory was refused: those answers are the desk's
+/// own, and say that nothing was done.
+pub fn steps_never_fail()
+    ensures { StepsNeverFail }
+{}

@@ -1,0 +1,40 @@
+//! What may be asked of a contest.
+use crate::command::Command;
+use contest_view::{ContestEndpoint, SettingsEndpoint};
+
+/// A collection of objects (Contest API 2023-06, endpoints).
+#[derive(Clone, Copy)]
+pub enum Endpoint {
+    /// Of the settings.
+    Settings(SettingsEndpoint),
+    /// The submissions that the caller sees, by time, team id and number.
+    Submissions,
+    /// The judgements that the caller sees, in the order of their submissions.
+    Judgements,
+}
+
+/// What is read.
+#[derive(Clone, Copy)]
+pub enum Reading {
+    /// What is served of the contest as a whole, to everybody alike.
+    Whole(ContestEndpoint),
+    /// The objects of an endpoint that the caller sees, as an array.
+    List(Endpoint),
+    /// One of them, by its id.
+    Object(Endpoint),
+    /// The file of a submission, by its id, for the team itself and the jury.
+    File,
+    /// The scoreboard that the caller sees.
+    Scoreboard,
+    /// What stands proposed, for the jury.
+    Proposals,
+}
+
+/// What a request asks for.
+#[derive(Clone, Copy)]
+pub enum Operation {
+    /// To read.
+    Read(Reading),
+    /// To do something.
+    Do(Command),
+}

@@ -1,0 +1,4 @@
+pub mod LastRows
+pub mod Judgements
+pub mod Proposals
+pub mod Laws
