@@ -13,6 +13,8 @@ scoring of the Contest Control System Requirements, and the freeze, by the time 
 the DOMjudge manual. Quoting is that of Rust's csv crate, which reads more than RFC 4180 allows.
 """
 
+import csv
+import io
 import re
 import sys
 import unicodedata
@@ -268,18 +270,18 @@ def read_replay(data):
 
 
 class Shown:
-    """What is asked for: whose board, at which moment, and whether the freeze is lifted by then."""
+    """What is asked for: whose board, at which moment, and whether the freeze is lifted by then. A team sees its own whole."""
 
-    def __init__(self, contest, jury, thawed, at):
-        self.jury = jury
+    def __init__(self, contest, jury, thawed, at, team=None):
+        self.jury, self.team = jury, team
         self.now = contest.duration if at is None else at
         self.thawed = thawed and contest.duration <= self.now  # the thaw is set to the end
 
 
-def seen_verdict(contest, shown, time, verdict):
+def seen_verdict(contest, shown, team, time, verdict):
     """The verdict as the board shows it: held back where the submission is frozen."""
     frozen = contest.freeze is not None and time >= contest.freeze
-    return verdict if shown.jury or shown.thawed or not frozen else None
+    return verdict if shown.jury or shown.team == team or shown.thawed or not frozen else None
 
 
 class Cell:
@@ -291,7 +293,7 @@ class Cell:
         for wanted, time, verdict in contest.submissions.get(team, []):
             if wanted != problem or time > shown.now or self.solved is not None:
                 continue
-            seen = seen_verdict(contest, shown, time, verdict)
+            seen = seen_verdict(contest, shown, team, time, verdict)
             if seen is None:
                 self.pending += 1
                 continue
@@ -323,7 +325,7 @@ class Row:
         solved = [cell for cell in self.cells if cell.solved is not None]
         self.solved = len(solved)
         self.total = sum(cell.solved + PENALTY * cell.penalties for cell in solved)
-        self.last = max((cell.solved for cell in solved), default=0)
+        self.last = max((cell.solved for cell in solved), default=0)  # of no use where nothing is solved
 
     def beats(self, other):
         if self.solved != other.solved:
@@ -379,9 +381,14 @@ def word(contest, shown):
     return "ended" if contest.duration <= shown.now else "running"
 
 
+def columns_of(contest):
+    """The problems, by ordinal and then by id."""
+    return sorted(contest.problems, key=lambda key: (contest.problems[key][2], key.encode()))
+
+
 def board_text(contest, shown):
     """The text board. The contest starts at time 0 and is never finalized."""
-    problems = sorted(contest.problems, key=lambda key: (contest.problems[key][2], key.encode()))
+    problems = columns_of(contest)
     rows = board_rows(contest, shown, problems)
     names = max([4] + [columns(row.name) for row in rows])
 
@@ -389,7 +396,7 @@ def board_text(contest, shown):
         parts = [right(rank, 4), left(team, names), right(solved, 6), right(total, 6)]
         return "  ".join(parts + [right(cell, 9) for cell in cells]) + "\n"
 
-    audience = "Jury" if shown.jury else "Public"
+    audience = "Jury" if shown.jury else "Public" if shown.team is None else f"Team {shown.team}"
     text = contest.name + "\n"
     text += f"{audience} board, contest time {reltime_text(shown.now)}, {word(contest, shown)}\n"
     text += line("Rank", "Team", "Solved", "Time", [contest.problems[key][0] for key in problems])
@@ -397,6 +404,18 @@ def board_text(contest, shown):
         cells = [cell.text() for cell in row.cells]
         text += line(str(row.rank), row.name, str(row.solved), str(row.total), cells)
     return text
+
+
+def board_csv(contest, shown):
+    """The board as CSV: the same rows."""
+    problems = columns_of(contest)
+    out = io.StringIO()
+    records = csv.writer(out, lineterminator="\n")
+    records.writerow(["rank", "team_id", "team", "solved", "time", "last", *(contest.problems[key][0] for key in problems)])
+    for row in board_rows(contest, shown, problems):
+        last = row.last if row.solved else ""
+        records.writerow([row.rank, row.team, row.name, row.solved, row.total, last, *(cell.text() for cell in row.cells)])
+    return out.getvalue()
 
 
 # --- The command -----------------------------------------------------------------------------------

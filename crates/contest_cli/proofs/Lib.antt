@@ -1,12 +1,4 @@
 mod ExamplesCommands
-mod InputLemmas
-mod InitLemmas
-mod OpeningLemmas
-mod ImportLemmas
 mod HostLemmas
 mod CommandLemmas
-mod ClientLemmas
-mod ServingLemmas
 mod NumberLemmas
-mod ServeEndings
-mod TableLemmas

@@ -9,9 +9,9 @@ use Rattle.contest_types.specs.Streams.{Stream, Tells}
 use Rattle.contest_types.specs.declared.refusal.Refusal.TheVariants.{Memory, StoreFault}
 use Rattle.contest_import.specs.declared.import_kind.ImportKind.{ImportKind}
 use Rattle.contest_sqlite.specs.Opening.{IsNumbered}
-use Rattle.contest_cli.specs.Import.{Imports}
+use Rattle.contest_commands.specs.Import.{Imports}
 use Rattle.contest_cli.specs.ImportWords.{HasImportFault, NamesImport}
-use Rattle.contest_cli.specs.Init.{Inits}
+use Rattle.contest_commands.specs.Init.{Inits}
 use Rattle.contest_cli.specs.InitWords.{HasInitFault, NamesInit}
 use Rattle.contest_words.specs.CommandErrors.{IsMemory, IsWords, exit_status_of, line_of}
 use Rattle.contest_words.specs.declared.command_error.CommandError.{CommandError}

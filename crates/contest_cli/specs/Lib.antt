@@ -1,12 +1,9 @@
 pub mod InitWords
 pub mod ImportWords
 pub mod Commands
-pub mod Inputs
-pub mod Init
-pub mod Import
 pub mod FileCommands
-pub mod Clients
-pub mod Served
 pub mod ServeWords
-pub mod Serve
+pub mod ServeCommand
+pub mod BoardWords
+pub mod BoardCommand
 pub mod Runs

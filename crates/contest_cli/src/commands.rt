@@ -5,16 +5,16 @@ ghost use Rattle.contest_types.specs.Streams.{stream};
 ghost use Rattle.contest_words.specs.Endings.{ShowsSome, TellsWords};
 ghost use Rattle.contest_cli.specs.Commands.{AsksHelp, NamesNone, TellsNone, TellsUnknown, first_word, invocation_of, unknown_command};
 ghost use Rattle.contest_cli.specs.Runs.{Runs};
-ghost use Rattle.contest_cli.specs.Serve.{ServesOn};
+ghost use Rattle.contest_commands.specs.Serve.{ServesOn};
 ghost use Rattle.contest_cli.specs.declared.invocation.CommandName.{CommandName};
 
-use crate::file_commands::{import_by_words, init_by_words, serve_by_words};
+use crate::file_commands::{board_by_words, import_by_words, init_by_words, serve_by_words};
 use crate::help::{HELP, show_help_of};
 use crate::host::Host;
 use crate::host_network::{HostListener, HostNetwork};
 use crate::invocation::{CommandName, Invocation, invocation_of};
 use crate::machine::Machine;
-use crate::network::{Listen, Network};
+use contest_commands::{Listen, Network};
 use contest_replay_cli::replay;
 use contest_types::Refusal;
 use contest_types::streams::Counted;
@@ -151,6 +151,7 @@ fn run_command<M: Machine, R: Read, O: Write, E: Write>(
         CommandName::Replay => replay(alloc, words, reader, out, err),
         CommandName::Init => init_by_words(alloc, machine, words, err),
         CommandName::Import => import_by_words(alloc, machine, words, out, err),
+        CommandName::Board => board_by_words(alloc, machine, words, out, err),
         CommandName::Serve => serve_by_words(alloc, machine, words, out, err),
     }
 }
@@ -169,7 +170,7 @@ fn unknown_command(alloc: Global, name: &str) -> Result<String, AllocError>
     ensures { IfOk result (λ text. string_bytes text ≡ unknown_command name.now) }
 {
     format!(in alloc;
-        "error: unknown command '{name}'; the commands are replay, init, import, serve and help\n"
+        "error: unknown command '{name}'; the commands are replay, init, import, board, serve and help\n"
     )
 }
 

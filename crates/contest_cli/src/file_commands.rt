@@ -6,20 +6,22 @@ ghost use Rattle.std.specs.Prelude.{◌≡◌, ◌≤◌, IfOk, IfErr, map};
 ghost use Rattle.sqlite.specs.Held.{state};
 ghost use Rattle.contest_types.specs.Streams.{stream};
 ghost use Rattle.contest_sqlite.specs.Opening.{IsNumbered};
+ghost use Rattle.contest_cli.specs.BoardCommand.{BoardsByWords, IsAsked, StopsBoardEarly};
 ghost use Rattle.contest_cli.specs.FileCommands.{ImportsByWords, InitsByWords, NamesFiles, NamesKind, StopsImportEarly, StopsInitEarly};
-ghost use Rattle.contest_cli.specs.Serve.{NamesServed, ServesByWords, ServesOn, StopsServeEarly};
+ghost use Rattle.contest_commands.specs.Serve.{ServesOn};
+ghost use Rattle.contest_cli.specs.ServeCommand.{NamesServed, ServesByWords, StopsServeEarly};
 
-use crate::import_command::run_import;
+use crate::board_words::read_board_words;
 use crate::import_words::read_import_words;
-use crate::init_command::run_init;
 use crate::init_words::read_init_words;
 use crate::machine::{Machine, Opened, ServedFile};
-use crate::serve_command::run_serve;
 use crate::serve_words::read_serve_words;
+use contest_commands::{AskedBoard, run_board, run_import, run_init, run_serve};
 use contest_import::ImportKind;
 use contest_types::Moment;
 use contest_types::streams::Counted;
 use contest_words::CommandError;
+use sqlite::Connection;
 use std::alloc::Global;
 use std::io::Write;
 
@@ -111,6 +113,62 @@ fn open_import<M: Machine>(
         now,
         kind: named.kind,
         files,
+    })
+}
+
+/// What `board` works on.
+#[derive(Drop)]
+struct ToBoard<'a, M: Machine> {
+    asked: AskedBoard<'a>,
+    now: Moment,
+    conn: Connection<M::Disk>,
+}
+
+/// Runs `board` by its words, of which the first is the command's own. Answers the exit status: 0 where the
+/// board is on `out`, 2 where the words have a fault or no team has the id, 1 where something else was refused
+/// or `out` failed. Where it isn't 0, `err` is told why.
+pub(crate) fn board_by_words<M: Machine, O: Write, E: Write>(
+    alloc: Global,
+    machine: M,
+    words: &[&str],
+    out: &mut Counted<O>,
+    err: &mut Counted<E>,
+) -> u8
+    ensures { BoardsByWords M.Disk.Store M.found (map (λ s. s.now) words.now)
+        (stream O.contents out.old) (stream O.contents out.new)
+        (stream E.contents err.old) (stream E.contents err.new) result }
+{
+    match open_board(alloc, machine, words) {
+        Ok(it) => {
+            let (status, conn) = run_board(alloc, it.conn, it.now, it.asked, out, err);
+            M::close(conn.into_store());
+            status
+        }
+        Err(stop) => stop.refuse(err),
+    }
+}
+
+// The moment, and what the words of `board` name, opened; or the first fault.
+fn open_board<'a, M: Machine>(
+    alloc: Global,
+    machine: M,
+    words: &'a [&'a str],
+) -> Result<ToBoard<'a, M>, CommandError>
+    ensures asked { IfOk result (λ it. IsAsked (map (λ s. s.now) words.entry.now) it.asked it.now) }
+    ensures found { IfOk result (λ it. M.found it.conn) }
+    ensures numbered { IfOk result (λ it. IsNumbered (state M.Disk.Store it.conn)) }
+    ensures err { IfErr result (StopsBoardEarly (map (λ s. s.now) words.entry.now)) }
+{
+    let named = read_board_words(alloc, words)?;
+    let now = match named.at {
+        Some(moment) => moment,
+        None => machine.now()?,
+    };
+    let conn = machine.open_store(named.file)?;
+    Ok(ToBoard {
+        asked: named.asked,
+        now,
+        conn,
     })
 }
 

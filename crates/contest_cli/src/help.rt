@@ -2,6 +2,7 @@
 ghost use Rattle.contest_types.specs.Streams.{stream};
 ghost use Rattle.contest_words.specs.Endings.{ShowsSome};
 
+use crate::board_words::board_app;
 use crate::import_words::import_app;
 use crate::init_words::init_app;
 use crate::invocation::CommandName;
@@ -24,6 +25,7 @@ Commands:
   replay  Reads a contest as CSV on standard input and prints its board
   init    Sets up a contest in a file, from its contest object as JSON
   import  Adds all rows of a file to a contest, or none, and prints how many
+  board   Prints the board of a contest as somebody sees it
   serve   Serves a contest over HTTP, to this machine alone
   help    Prints this text
 
@@ -31,6 +33,7 @@ Examples:
   desk replay --at 1:30:00 < contest.csv
   desk init cup.db contest.json
   desk import cup.db problems problems.json
+  desk board cup.db --audience jury
   desk serve cup.db --requests 1000 --port 8080
 
 'desk <COMMAND> --help' tells more of a command. docs/FORMATS.md says how to
@@ -61,6 +64,7 @@ fn app_of<'a>(alloc: Global, command: CommandName) -> Result<Command<'a>, AllocE
         CommandName::Replay => replay_app(alloc),
         CommandName::Init => init_app(alloc),
         CommandName::Import => import_app(alloc),
+        CommandName::Board => board_app(alloc),
         CommandName::Serve => serve_app(alloc),
     }
 }

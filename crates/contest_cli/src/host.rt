@@ -54,6 +54,10 @@ impl<'a, D: Start> Machine for Host<'a, D> {
         Ok(Opened { conn, reader })
     }
 
+    fn open_store(self, file: &str) -> Result<Connection<FileStore<FileFrom<D>>>, CommandError> {
+        open_store(self.rt, file, self.disk)
+    }
+
     fn open_to_serve(
         self,
         file: &str,

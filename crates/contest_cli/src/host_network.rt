@@ -1,11 +1,12 @@
 //! The network of the program's machine: its loopback address alone.
 ghost use Rattle.std.specs.Prelude.{◌≡◌, IfErr, IfOk};
-ghost use Rattle.contest_cli.specs.Clients.{IsPort};
+ghost use Rattle.contest_commands.specs.Clients.{IsPort};
 ghost use Rattle.contest_types.specs.Streams.{one_more};
 
 use crate::host::moment_now;
-use crate::network::{Connected, Listen, Network};
+use contest_commands::{Connected, Listen, Network};
 use contest_types::Moment;
+use contest_types::streams::Counted;
 use contest_words::CommandError;
 use std::io::{self, ErrorKind, Read};
 use std::net::{Ipv4Addr, Shutdown, TcpListener, TcpStream};
@@ -72,7 +73,9 @@ impl Listen for HostListener {
         accept_from(&self.listener)
     }
 
-    fn part(&self, mut reader: TcpStream, writer: TcpStream) {
+    fn part(&self, reader: Counted<TcpStream>, writer: Counted<TcpStream>) {
+        let mut reader = reader.into_inner();
+        let writer = writer.into_inner();
         if writer.shutdown(Shutdown::Write).is_ok()
             && reader
                 .set_read_timeout(Some(Duration::from_secs(FAREWELL)))

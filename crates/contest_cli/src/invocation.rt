@@ -13,6 +13,8 @@ pub enum CommandName {
     Init,
     /// `import`.
     Import,
+    /// `board`.
+    Board,
     /// `serve`.
     Serve,
 }
@@ -57,6 +59,7 @@ fn command_named(word: &str) -> Option<CommandName>
         "replay" => Some(CommandName::Replay),
         "init" => Some(CommandName::Init),
         "import" => Some(CommandName::Import),
+        "board" => Some(CommandName::Board),
         "serve" => Some(CommandName::Serve),
         _ => None,
     }

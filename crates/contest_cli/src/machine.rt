@@ -4,7 +4,7 @@ ghost use Rattle.sqlite.specs.Held.{Held, state};
 ghost use Rattle.contest_sqlite.specs.Opening.{IsNumbered};
 ghost use Rattle.contest_cli.specs.FileCommands.{IsNoStore, IsUnopened};
 
-use crate::network::Network;
+use contest_commands::Network;
 use contest_types::Moment;
 use contest_types::streams::Counted;
 use contest_words::CommandError;
@@ -55,6 +55,16 @@ pub trait Machine: Drop {
         ensures found { IfOk result (λ opened. found opened.conn) }
         ensures numbered { IfOk result (λ opened. IsNumbered (state Self.Disk.Store opened.conn)) }
         ensures refused { IfErr result IsUnopened };
+
+    /// The SQLite file at `file`, which is made where there is none.
+    ///
+    /// # Errors
+    ///
+    /// `StoreFault` where it can't be opened, or want of memory.
+    fn open_store(self, file: &str) -> Result<Connection<Self::Disk>, CommandError>
+        ensures found { IfOk result found }
+        ensures numbered { IfOk result (λ conn. IsNumbered (state Self.Disk.Store conn)) }
+        ensures refused { IfErr result IsNoStore };
 
     /// The SQLite file at `file`, which is made where there is none, to be served.
     ///

@@ -1,0 +1,11 @@
+use Rattle.std.proofs.Common.{inl, inr}
+use Rattle.contest_words.proofs.StreamLemmas.{keeps_same}
+use Rattle.contest_cli.proofs.file_commands.board_by_words.Goals as goal
+
+pub returns-in-Ok : goal.returns-in-Ok
+returns-in-Ok g c =
+    let it = c.in-Ok.it in
+    inr (it.asked, it.now, c.in-Ok.ensures.asked, it.conn, c.run_board-status.result.1, c.in-Ok.ensures.found, c.in-Ok.ensures.numbered, c.run_board-status.ensures)
+
+pub returns-in-Err : goal.returns-in-Err
+returns-in-Err g c = inl ((c.in-Err.stop, c.in-Err.ensures.err, c.refuse.ensures.status, c.refuse.ensures.told), keeps_same _)

@@ -1,0 +1,9 @@
+mod InputLemmas
+mod InitLemmas
+mod OpeningLemmas
+mod ImportLemmas
+mod BoardLemmas
+mod ClientLemmas
+mod ServingLemmas
+mod ServeEndings
+mod TableLemmas

@@ -1,0 +1,175 @@
+#!/usr/bin/env python3
+"""Holds the boards of `desk board` beside those that a contest in a file must show.
+
+    desk_boards.py [--program PATH] [--made N] [--seed N]
+
+The worked boards of tests/replay are asked of a file with the same contest, and then N made contests (300), for anyone, for
+the jury and for a team, as text and as CSV; these are second_opinion.py's. A contest is set up by `desk init` and `desk
+import`, and its submissions, with their verdicts released, are written by sqlite3: those up to the moment that is asked for,
+since a board counts all that stand. Then the first example's CSV, and what is refused.
+
+Takes faketime. Ends with the line `N passed, M failed`; the exit status is 0 where M is 0.
+"""
+
+import argparse
+import concurrent.futures
+import os
+import pathlib
+import sqlite3
+import sys
+import tempfile
+
+sys.dont_write_bytecode = True
+
+import desk_files
+import replay_files
+from desk_opinion import compact, moment
+from second_opinion import Refused, Shown, WrongWords, board_csv, board_text, read_replay, read_words, reltime_text
+
+ROOT = pathlib.Path(__file__).resolve().parent.parent
+START = 1_709_370_000_000
+BEFORE = ("faketime", "-f", "2024-03-02 08:00:00")
+LANGUAGES = '[{"id":"cpp","name":"C++","entry_point_required":false}]'
+FIRST_CSV = "rank,team_id,team,solved,time,last,A\n1,t1,Alpha,1,30,10,+3/10\n2,t2,Beta,1,30,30,+1/30\n"
+
+
+def files_of(contest):
+    """The contest's files for `desk init` and `desk import`, by their names."""
+    head = {"id": "c", "name": contest.name, "duration": reltime_text(contest.duration), "start_time": moment(START)}
+    if contest.freeze is not None:
+        head["scoreboard_freeze_duration"] = reltime_text(contest.duration - contest.freeze)
+    types = [{"id": key, "name": row[0], "solved": row[1], "penalty": row[2]} for key, row in contest.types.items()]
+    problems = [{"id": key, "label": row[0], "name": row[1], "ordinal": row[2]} for key, row in contest.problems.items()]
+    teams = [{"id": key, "name": row[0], "hidden": row[1], "group_ids": []} for key, row in contest.teams.items()]
+    return {"head": compact(head), "judgement-types": compact(types), "languages": LANGUAGES, "problems": compact(problems), "teams": compact(teams)}
+
+
+def submissions_of(contest, until):
+    """Each submission up to a moment: its time, its team's number, its own number, its problem and its verdict, if it has one."""
+    rows = []
+    for place, team in enumerate(contest.teams, 1):
+        for number, (problem, time, verdict) in enumerate(contest.submissions.get(team, []), 1):
+            if time <= until:
+                rows.append((time, place, number, problem, verdict))
+    return sorted(rows, key=lambda row: row[:3])
+
+
+def write(path, contest, shown, thawed):
+    """Writes the submissions and their verdicts, and the thaw at the end."""
+    with sqlite3.connect(path) as database:
+        released = 0
+        for seq, (time, team, number, problem, verdict) in enumerate(submissions_of(contest, shown.now), 1):
+            row = (seq, team, number, START + time, problem, "cpp", None, b"x", None)
+            database.execute("INSERT INTO submissions VALUES (?, ?, ?, ?, ?, ?, ?, ?, ?)", row)
+            if verdict is not None:
+                released += 1
+                database.execute("INSERT INTO proposals VALUES (?, ?, ?, ?, ?, ?)", (released, team, number, verdict, "import", START + time))
+                database.execute("INSERT INTO releases VALUES (?, ?, ?, ?, ?, ?)", (released, team, number, 1, verdict, START + time))
+        if thawed and contest.freeze is not None:
+            database.execute("UPDATE contest SET thaw = ?", (START + contest.duration,))
+    database.close()
+
+
+def kept(desk, what, contest, shown, thawed):
+    """A folder in which cup.db keeps the contest."""
+    folder = pathlib.Path(tempfile.mkdtemp(dir=desk.folder))
+    for name, text in files_of(contest).items():
+        (folder / name).write_text(text, encoding="utf-8")
+        words = ("init", "cup.db", name) if name == "head" else ("import", "cup.db", name, name)
+        given = desk.run(folder, *words, before=BEFORE)
+        desk.note(given[0] == 0, f"{what}, {words}: {given}")
+    write(folder / "cup.db", contest, shown, thawed)
+    return folder
+
+
+def same(desk, what, folder, contest, shown, wanted=None):
+    """Both forms of the board, as somebody sees it at a moment."""
+    who = "jury" if shown.jury else "public" if shown.team is None else shown.team
+    words = ("board", "cup.db", "--audience", who, "--at", moment(START + shown.now))
+    text = board_text(contest, shown) if wanted is None else wanted
+    for form, right in (("text", text), ("csv", board_csv(contest, shown))):
+        given = desk.run(folder, *words, "--format", form)
+        desk.note(given == (0, right, ""), f"{what}, {' '.join(words)}: {given}, wanted {right!r}")
+
+
+def try_worked(desk):
+    """The worked boards of replay, of contests in files."""
+    for file in sorted((ROOT / "tests/replay").glob("*/*.csv")):
+        options = file.with_suffix(".options").read_text(encoding="utf-8").splitlines()[1:]
+        jury, thawed, at = read_words(["replay", *options])
+        contest, wanted = read_replay(file.read_bytes()), file.with_suffix(".txt").read_text(encoding="utf-8")
+        shown = Shown(contest, jury, thawed, at)
+        same(desk, file.stem, kept(desk, file.stem, contest, shown, thawed), contest, shown, wanted)
+
+
+def made_case(seed, index):
+    """A contest without a fault, and the words that were made with it."""
+    while True:
+        words, data = replay_files.case(seed, index)
+        try:
+            return read_words(words), read_replay(data)
+        except (Refused, WrongWords):
+            seed += 1_000_000
+
+
+def try_made(desk):
+    """Made contests, for each who may look."""
+
+    def one(index):
+        (_, thawed, at), contest = made_case(desk.seed, index)
+        shown = Shown(contest, False, thawed, at)
+        folder = kept(desk, f"contest {index}", contest, shown, thawed)
+        teams = list(contest.teams)
+        for jury, team in [(False, None), (True, None)] + [(False, teams[index % len(teams)])] * bool(teams):
+            same(desk, f"contest {index}", folder, contest, Shown(contest, jury, thawed, at, team))
+
+    with concurrent.futures.ThreadPoolExecutor(os.cpu_count() or 1) as pool:
+        list(pool.map(one, range(desk.made_contests)))
+
+
+def try_first(desk):
+    """The first example: the lines of `desk replay`, and its CSV; the words, the clock and the file at fault."""
+    contest = read_replay((ROOT / "examples/first.csv").read_bytes())
+    shown = Shown(contest, False, False, None)
+    folder = kept(desk, "first", contest, shown, False)
+    end, board = moment(START + shown.now), (ROOT / "examples/first.public.txt").read_text(encoding="utf-8")
+    clock = ("faketime", "-f", end.replace("T", " ").replace("+00:00", "5"))
+    csv, nobody = ("--format", "csv"), "error: 'public-' of '--audience' is no team's id\n"
+    no_moment = "error: '9:30' of '--at' is no moment, as 2024-03-02T10:30:00Z\n"
+    calls = [((), clock, (0, board, "")), (("--at", end), (), (0, board, "")), (("--at", end, *csv), (), (0, FIRST_CSV, "")),
+             (csv, clock, (0, FIRST_CSV, "")), (("--audience", "public-"), clock, (2, "", nobody)),
+             (("--at", "9:30"), (), (2, "", no_moment)),
+             (("--format", "json"), (), (2, "", "error: '--format <FORMAT>' is text or csv\n"))]  # fmt: skip
+    for words, before, wanted in calls:
+        given = desk.run(folder, "board", "cup.db", *words, before=before)
+        desk.note(given == wanted, f"board cup.db {words}: {given}, wanted {wanted}")
+    given = desk.run(folder, "board", "cup.db", before=("faketime", "-f", "1960-01-01 00:00:00"))
+    desk.note(given == (1, "", "refused: Clock\n"), f"a clock before 1970: {given}")
+    given = desk.run(folder, "board", "none.db", "--at", end)
+    desk.note(given == desk_files.FAULT, f"a file that keeps no contest: {given}")
+    with open("/dev/full", "w", encoding="utf-8") as full:
+        given = desk.run(folder, "board", "cup.db", "--at", end, stdout=full)
+    desk.note(given == desk_files.FILE, f"an output that is full: {given}")
+
+
+def main():
+    parser = argparse.ArgumentParser(description=__doc__, formatter_class=argparse.RawDescriptionHelpFormatter)
+    parser.add_argument("--program", default=str(ROOT / "crates/desk/out/desk"))
+    parser.add_argument("--made", type=int, default=300, metavar="N")
+    parser.add_argument("--seed", type=int, default=20, metavar="N")
+    options = parser.parse_args()
+    if not pathlib.Path(options.program).is_file():
+        parser.error(f"there is no program {options.program}: build it, or name one by --program")
+    with tempfile.TemporaryDirectory() as folder:
+        desk = desk_files.Desk(options.program, None, folder, 0)
+        desk.made_contests, desk.seed = options.made, options.seed
+        for part in (try_worked, try_made, try_first):
+            before = desk.passed
+            part(desk)
+            print(f"{part.__name__[4:]}: {desk.passed - before} held", flush=True)
+        print(f"{desk.passed} passed, {desk.failed} failed")
+    return 1 if desk.failed else 0
+
+
+if __name__ == "__main__":
+    sys.exit(main())
