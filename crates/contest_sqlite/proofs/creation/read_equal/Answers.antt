@@ -1,4 +1,4 @@
-use Rattle.std.proofs.Common.{◌∙◌, ap, refl, sym}
+use Rattle.std.proofs.Common.{◌∙◌, ap, refl, rules, sym}
 use Rattle.sqlite.proofs.StateLemmas.{survives_then}
 use Rattle.contest_types.specs.State.{FixedPart}
 use Rattle.contest_tables.specs.Connected.{shown_by}
@@ -12,5 +12,5 @@ returns-then-has_head-clause-equal g c clean =
 
 pub returns-else-has_head-clause-survives : goal.returns-else-has_head-clause-survives
 returns-else-has_head-clause-survives g c =
-    survives_then (shown_by g.S.Store c.args.tables.now) (shown_by g.S.Store c.read_desk.new.tables) (shown_by g.S.Store c.give_up.new.self) _ _ _ (λ _ _ none. none) (λ _ _ none. none)
-    c.in-Ok.ensures.survives c.give_up.ensures.survives
+    survives_then (shown_by g.S.Store c.args.tables.now) (shown_by g.S.Store c.read_desk.new.tables) _ _ _ _ (λ _ _ none. none) (λ _ _ none. none)
+    c.in-Ok.ensures.survives (search rules)
