@@ -1,11 +1,16 @@
 -- What is told of a board that is asked for.
 use Rattle.std.proofs.Common.{◌≡◌, ◌∙◌, ap, sym, refl, subst, inl, inr, ℕ, List, Option, Some, None, Result, Ok, Err, arith, true}
 use Rattle.std.specs.Prelude.{◌⊎◌}
+use Rattle.std.specs.Option.{option_and_then, option_map}
+use Rattle.std.specs.Prelude.{IfErr}
+use Rattle.std.specs.Result.{IsErrAnd}
 use Rattle.sqlite.specs.State.{HasCleanDisk, State}
 use Rattle.contest_types.specs.Masks.{is_audience}
+use Rattle.contest_types.specs.Setup.{Setup}
 use Rattle.contest_types.specs.State.{ContestState}
 use Rattle.contest_types.specs.Streams.{Stream, Tells}
 use Rattle.contest_types.specs.declared.audience.Audience.{Audience}
+use Rattle.contest_types.specs.declared.marks.Marks.{Marks}
 use Rattle.contest_types.specs.declared.refusal.Refusal.{Refusal}
 use Rattle.contest_types.specs.declared.refusal.Refusal.TheVariants.{Memory, NotFound, StoreFault}
 use Rattle.contest_score.specs.Ranking.{Scoreboard}
@@ -19,12 +24,12 @@ use Rattle.contest_store.specs.declared.store_error.StoreError.TheVariants as er
 use Rattle.contest_sqlite.specs.Contests.{contest_in_trees, may_leave_of}
 use Rattle.contest_sqlite.specs.Creation.{IsOfStore}
 use Rattle.contest_sqlite.specs.Opening.{Opened}
-use Rattle.contest_words.specs.CommandErrors.{IsWords, exit_status_of, line_of}
+use Rattle.contest_words.specs.CommandErrors.{IsMemory, IsWords, exit_status_of, line_of}
 use Rattle.contest_words.specs.Endings.{Shows}
 use Rattle.contest_words.specs.declared.command_error.CommandError.{CommandError}
 use Rattle.contest_words.specs.declared.command_error.CommandError.TheVariants.{Clock, File, Net, Refused, Usage}
 use Rattle.contest_words.proofs.StreamLemmas.{keeps_same}
-use Rattle.contest_commands.specs.Board.{Boards, Gives, HasNoTeam, IsStoreStop, ShowsKept, StopsBoard, TellsBoard}
+use Rattle.contest_commands.specs.Board.{Boards, Gives, HasNoTeam, IsStoreStop, ShowsKept, StopsBoard, TellsBoard, asked_text, audience_of, written}
 use Rattle.contest_commands.specs.Inputs.{KeepsAll}
 use Rattle.contest_commands.specs.declared.asked_board.AskedBoard.{AskedBoard}
 
@@ -49,12 +54,46 @@ read_refused (Err error.Memory) refusal is = inr cc
 
 -- a board that there is was refused by the store
 pub board_refused : (r : Result (Option Scoreboard) StoreError) (a : Audience) (now : ℕ) (x : ContestState) (refusal : Refusal) → Err refusal ≡ board_told r
-    → (Err {A = Scoreboard} refusal ≡ Err NotFound → board_found a now x ≡ None) → is_audience x.fixed.settings a ≡ true → IsStoreStop (Refused refusal)
+    → (◌≡◌ {A = Result Scoreboard Refusal} (Err refusal) (Err NotFound) → board_found a now x ≡ None) → is_audience x.fixed.settings a ≡ true → IsStoreStop (Refused refusal)
 board_refused (Ok (Some b)) a now x refusal is missing there = cc
 board_refused (Ok None) a now x refusal is missing there =
     let none = missing is in cc
 board_refused (Err error.Fault) a now x refusal is missing there = inl cc
 board_refused (Err error.Memory) a now x refusal is missing there = inr cc
+
+-- what an error is turned into stops for the same reason
+pub told_err : {T : Type 0} (r : Result T CommandError) (P Q : CommandError → Type 0) → IsErrAnd r P → ((stop : CommandError) → P stop → Q stop) → IfErr r Q
+told_err (Ok v) P Q told turns = tt
+told_err (Err e) P Q told turns = turns e told
+
+-- nothing is left by two such reads that wasn't before
+pub leaves_less : {T U : Type 0} (r : Result T StoreError) (q : Result U StoreError) (first mid last : Kept) → OnlyReads r first mid → OnlyReads q mid last → last.is_clean
+    → LeavesNoMore first.may_leave last.may_leave
+leaves_less r q first mid last one two clean d left = elim (two.crash clean d left) [
+  | inl between ↦ elim (one.crash (two.clean clean) d between) [ inl before ↦ before | inr none ↦ absurd none.1 ]
+  | inr none ↦ absurd none.1
+]
+
+joined : {A B C : Type 0} (f : A → Option B) (h : A → B → C) (o : Option A) (a : A) (b : B) → o ≡ Some a → f a ≡ Some b → option_and_then (λ v. option_map (h v) (f v)) o ≡ Some (h a b)
+joined f h o a b one two = rw (one, two) refl
+
+-- what was written is what is asked for, of the contest whose settings and marks were read
+pub asked_is : (x y : ContestState) (s : Setup) (m : Marks) (now : ℕ) (asked : AskedBoard) (a : Audience) (b : Scoreboard) (text : List ℕ) → ◌≡◌ {A = Setup × Marks} (s, m) (x.fixed.settings, x.fixed.marks) → y ≡ x
+    → audience_of s asked.who ≡ Some a → board_found a now y ≡ Some b → text ≡ written asked.format s m now a b → asked_text now asked x ≡ Some text
+asked_is x y s m now asked a b text read same who found is =
+    let settings : s ≡ x.fixed.settings = ap (λ (p : Setup × Marks). p.0) read in
+    let marks : m ≡ x.fixed.marks = ap (λ (p : Setup × Marks). p.1) read in
+    let looks = subst (λ (t : Setup). audience_of t asked.who ≡ Some a) settings who in
+    let there = subst (λ (z : ContestState). board_found a now z ≡ Some b) same found in
+    let wrote = subst (λ (t : Setup). text ≡ written asked.format t x.fixed.marks now a b) settings (subst (λ (n : Marks). text ≡ written asked.format s n now a b) marks is) in
+    joined (λ v. board_found v now x) (λ v w. written asked.format x.fixed.settings x.fixed.marks now v w) (audience_of x.fixed.settings asked.who) a b looks there ∙ ap Some (sym wrote)
+
+-- no audience was found in the settings that were read
+pub no_audience : (x : ContestState) (s : Setup) (m : Marks) (asked : AskedBoard) (stop : CommandError) → ◌≡◌ {A = Setup × Marks} (s, m) (x.fixed.settings, x.fixed.marks)
+    → IsMemory stop ⊎ (IsWords stop × (audience_of s asked.who ≡ None)) → StopsBoard (λ y. y ≡ x) asked stop
+no_audience x s m asked stop read (inl memory) = inl (inr memory)
+no_audience x s m asked stop read (inr (words, none)) =
+    inr (words, (x, refl, subst (λ (t : Setup). audience_of t asked.who ≡ None) (ap (λ (p : Setup × Marks). p.0) read) none))
 
 module _ (clean : Type 0) (Is : ContestState → Type 0) (now : ℕ) (asked : AskedBoard) (err_old err_new : Stream) (status : ℕ) where
   -- a text is shown
@@ -96,21 +135,32 @@ pub told_of : (clean other : Type 0) (Is Was : ContestState → Type 0) (now : �
     → TellsBoard other Was now asked out_old out_new err_old err_new status
 told_of clean other Is Was now asked out_old out_new err_old err_new status as_clean same t = record {
   statuses = t.statuses;
-  done = λ e. let d = t.done e in (d.0, λ c. gives d.0 c (d.1.0 (as_clean c)), d.1.1);
+  done = λ e. let d = t.done e in (d.0, λ c. gives d.0 c (d.1 (as_clean c)), d.2, d.3);
   refused = λ e.
       let d = t.refused e in (
         d.0,
-        d.1.0,
-        elim d.1.1 [
+        d.1,
+        elim d.2 [
           | inl (failed, keeps) ↦ inl (λ c. failed (as_clean c), keeps)
           | inr (file, fails, text, given, front) ↦ inr (file, fails, text, λ c. gives text c (given (as_clean c)), front)
         ],
       );
-  unknown = λ e. let d = t.unknown e in (λ c. let u = d.0 (as_clean c) in (u.0, same c u.0 u.1.0, u.1.1), d.1);
+  unknown = λ e. let d = t.unknown e in (λ c. let u = d.0 (as_clean c) in (u.0, same c u.0 u.1, u.2), d.1, d.2, d.3);
 } where
   gives : (text : List ℕ) → other → Gives Is now asked text → Gives Was now asked text
-  gives text c g = (g.0, same c g.0 g.1.0, g.1.1)
+  gives text c g = (g.0, same c g.0 g.1, g.2)
 
 -- where nothing was committed, a crash leaves what it could leave before
 pub leaves_no_more : (old new : State) → KeepsAll old new → HasCleanDisk new → LeavesNoMore (may_leave_of old) (may_leave_of new)
 leaves_no_more old new keeps clean c left = elim (keeps.crash clean left.0 left.1) [ inl before ↦ (left.0, before, left.2) | inr none ↦ absurd none ]
+
+-- what a desk shows is what the tables show from which it was opened, and a crash leaves no more than it could before that
+pub shown_by_desk : (now : ℕ) (asked : AskedBoard) (out_old out_new err_old err_new : Stream) (status : ℕ) (old new : State) (first last : Kept)
+    → ShowsKept now asked out_old out_new err_old err_new first last status
+    → (HasCleanDisk new → last.is_clean) → (HasCleanDisk new → Opened old first) → (HasCleanDisk new → LeavesNoMore last.may_leave (may_leave_of new))
+    → Boards now asked out_old out_new err_old err_new old new status
+shown_by_desk now asked out_old out_new err_old err_new status old new first last shows as_clean opened kept = record {
+  told = told_of last.is_clean (HasCleanDisk new) (λ x. x ≡ first.contest) (λ x. contest_in_trees old.now.trees ≡ Some x) now asked out_old out_new err_old err_new status as_clean
+      (λ clean x is. let o = opened clean in o.found ∙ ap Some (sym (is ∙ o.shows.now_is))) shows.told;
+  leaves = λ clean d left. (opened clean).crash d (shows.crash (as_clean clean) d (kept clean d left));
+}
