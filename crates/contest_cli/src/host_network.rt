@@ -73,7 +73,9 @@ impl Listen for HostListener {
         accept_from(&self.listener)
     }
 
-    fn part(&self, reader: Counted<TcpStream>, writer: Counted<TcpStream>) {
+    fn part(&self, reader: Counted<TcpStream>, writer: Counted<TcpStream>)
+        ensures { Unit {0} }
+    {
         let mut reader = reader.into_inner();
         let writer = writer.into_inner();
         if writer.shutdown(Shutdown::Write).is_ok()
