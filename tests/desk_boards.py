@@ -120,7 +120,8 @@ def try_made(desk):
         shown = Shown(contest, False, thawed, at)
         folder = kept(desk, f"contest {index}", contest, shown, thawed)
         teams = list(contest.teams)
-        for jury, team in [(False, None), (True, None)] + [(False, teams[index % len(teams)])] * bool(teams):
+        own = teams[index % len(teams) :][:1] if teams else []
+        for jury, team in [(False, None), (True, None), *((False, team) for team in own)]:
             same(desk, f"contest {index}", folder, contest, Shown(contest, jury, thawed, at, team))
 
     with concurrent.futures.ThreadPoolExecutor(os.cpu_count() or 1) as pool:

@@ -1,5 +1,5 @@
-//! Tests of one request served to a desk in memory: by readers and writers that fail, stop short or are
-//! interrupted at each byte, with what the store holds then, and by a socket.
+//! Tests of one request served over memory: readers and writers that fail, stop short or are interrupted
+//! at each byte, and what the store holds then.
 #![tactic(auto)]
 
 #[cfg(test)]
@@ -8,8 +8,6 @@ mod demo_desk;
 mod exchange;
 #[cfg(test)]
 mod reading;
-#[cfg(test)]
-mod socket;
 #[cfg(test)]
 mod streams;
 #[cfg(test)]
