@@ -22,13 +22,13 @@ import tempfile
 sys.dont_write_bytecode = True
 
 import desk_files
+import fake_clock
 import replay_files
 from desk_opinion import compact, moment
 from second_opinion import Refused, Shown, WrongWords, board_csv, board_text, read_replay, read_words, reltime_text
 
 ROOT = pathlib.Path(__file__).resolve().parent.parent
 START = 1_709_370_000_000
-BEFORE = ("faketime", "-f", "2024-03-02 08:00:00")
 LANGUAGES = '[{"id":"cpp","name":"C++","entry_point_required":false}]'
 FIRST_CSV = "rank,team_id,team,solved,time,last,A\n1,t1,Alpha,1,30,10,+3/10\n2,t2,Beta,1,30,30,+1/30\n"
 
@@ -76,7 +76,7 @@ def kept(desk, what, contest, shown, thawed):
     for name, text in files_of(contest).items():
         (folder / name).write_text(text, encoding="utf-8")
         words = ("init", "cup.db", name) if name == "head" else ("import", "cup.db", name, name)
-        given = desk.run(folder, *words, before=BEFORE)
+        given = desk.run(folder, *words, before=fake_clock.at("2024-03-02 08:00:00"))
         desk.note(given[0] == 0, f"{what}, {words}: {given}")
     write(folder / "cup.db", contest, shown, thawed)
     return folder
@@ -134,7 +134,7 @@ def try_first(desk):
     shown = Shown(contest, False, False, None)
     folder = kept(desk, "first", contest, shown, False)
     end, board = moment(START + shown.now), (ROOT / "examples/first.public.txt").read_text(encoding="utf-8")
-    clock = ("faketime", "-f", end.replace("T", " ").replace("+00:00", "5"))
+    clock = fake_clock.at(end.replace("T", " ").replace("+00:00", "5"))
     csv, nobody = ("--format", "csv"), "error: 'public-' of '--audience' is no team's id\n"
     no_moment = "error: '9:30' of '--at' is no moment, as 2024-03-02T10:30:00Z\n"
     calls = [((), clock, (0, board, "")), (("--at", end), (), (0, board, "")), (("--at", end, *csv), (), (0, FIRST_CSV, "")),
@@ -144,7 +144,7 @@ def try_first(desk):
     for words, before, wanted in calls:
         given = desk.run(folder, "board", "cup.db", *words, before=before)
         desk.note(given == wanted, f"board cup.db {words}: {given}, wanted {wanted}")
-    given = desk.run(folder, "board", "cup.db", before=("faketime", "-f", "1960-01-01 00:00:00"))
+    given = desk.run(folder, "board", "cup.db", before=fake_clock.at("1960-01-01 00:00:00"))
     desk.note(given == (1, "", "refused: Clock\n"), f"a clock before 1970: {given}")
     given = desk.run(folder, "board", "none.db", "--at", end)
     desk.note(given == desk_files.FAULT, f"a file that keeps no contest: {given}")

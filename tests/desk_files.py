@@ -27,6 +27,7 @@ import time
 
 sys.dont_write_bytecode = True
 
+import fake_clock
 import store_files
 
 TESTS = pathlib.Path(__file__).resolve().parent
@@ -239,7 +240,6 @@ def try_clock(desk):
     desk.run(folder, "init", "cup.db", "past.json")
     (folder / "one.csv").write_text("id,name,group_ids,hidden\nt1,Alpha,,\n", encoding="utf-8")
     (folder / "two.csv").write_text("id,name,group_ids,hidden\nt2,Beta,,\n", encoding="utf-8")
-    at = lambda moment: ["env", "TZ=UTC", "faketime", "-f", moment]
     clock = (1, "", "refused: Clock\n")
     closed = (1, "", "refused: E23 SettingsClosed\n")
     for moment, name, wanted in (
@@ -248,8 +248,8 @@ def try_clock(desk):
         ("2024-03-02 09:00:00", "one.csv", (0, "added 0\n", "")),
         ("2024-03-02 09:00:00", "two.csv", closed),
     ):
-        desk.answers(f"at {moment}", wanted, folder, "import", "cup.db", "teams-csv", name, before=at(moment))
-    desk.answers("a clock of no moment, before FILE", clock, folder, "import", ".", "teams-csv", "one.csv", before=at("1969-12-31 23:59:59"))
+        desk.answers(f"at {moment}", wanted, folder, "import", "cup.db", "teams-csv", name, before=fake_clock.at(moment))
+    desk.answers("a clock of no moment, before FILE", clock, folder, "import", ".", "teams-csv", "one.csv", before=fake_clock.at("1969-12-31 23:59:59"))
 
 
 def try_rows(desk):
@@ -273,7 +273,7 @@ def imported_demo(desk, files):
     desk.answers("the demo contest", DONE, folder, "init", "cup.db", "contest.json")
     for (kind, _), file in files.items():
         (folder / "file").write_text(file, encoding="utf-8")
-        desk.run(folder, "import", "cup.db", kind, "file", before=["env", "TZ=UTC", "faketime", "-f", "2024-03-02 08:00:00"])
+        desk.run(folder, "import", "cup.db", kind, "file", before=fake_clock.at("2024-03-02 08:00:00"))
     return folder
 
 

@@ -14,7 +14,6 @@ import argparse
 import base64
 import http.client
 import json
-import os
 import pathlib
 import re
 import signal
@@ -28,9 +27,9 @@ import time
 sys.dont_write_bytecode = True
 
 import desk_files
+import fake_clock
 
 ROOT = pathlib.Path(__file__).resolve().parent.parent
-FAKETIME = "/usr/lib/x86_64-linux-gnu/faketime/libfaketime.so.1"
 INTERIM = b"HTTP/1.1 100 Continue\r\n\r\n"
 STATE = (
     b'{"end_of_updates":null,"ended":null,"finalized":null,"frozen":null,'
@@ -69,11 +68,9 @@ class Server:
     def __init__(self, test, folder, requests=1_000_000, port="0"):
         self.clock = folder / "clock"
         self.at("2024-03-02 09:05:00")
-        env = {**os.environ, "TZ": "UTC", "LD_PRELOAD": FAKETIME, "FAKETIME_NO_CACHE": "1",
-               "FAKETIME_TIMESTAMP_FILE": str(self.clock)}
         self.process = subprocess.Popen(
             [test.program, "serve", "cup.db", "--requests", str(requests), "--port", port],
-            cwd=folder, env=env, stdout=subprocess.PIPE, stderr=subprocess.PIPE)
+            cwd=folder, env=fake_clock.shown_by(self.clock), stdout=subprocess.PIPE, stderr=subprocess.PIPE)
         test.processes.append(self.process)
         line = self.process.stdout.readline().decode()
         found = re.fullmatch(r"listening on 127\.0\.0\.1:(\d+)\n", line)
@@ -285,7 +282,7 @@ def try_words(test):
     for name in ("text", "empty.db", "."):
         given = test.run(folder, "serve", name, "--requests", "1")
         test.note(given == desk_files.FAULT, f"{name} is no desk: {given}")
-    early = test.run(folder, "serve", ".", "--requests", "1", before=["env", "TZ=UTC", "faketime", "-f", "1969-12-31 23:59:59"])
+    early = test.run(folder, "serve", ".", "--requests", "1", before=fake_clock.at("1969-12-31 23:59:59"))
     test.note(early == (1, "", "refused: Clock\n"), f"a clock of no moment, before FILE: {early}")
 
 

@@ -28,6 +28,7 @@ sys.dont_write_bytecode = True
 import desk_files
 import desk_http
 import desk_opinion
+import fake_clock
 from desk_opinion import compact, moment
 
 ROOT = desk_http.ROOT
@@ -61,7 +62,7 @@ def contest_of(verification, thaw=None):
 
 def made(test, verification, thaw=None):
     """A folder with the same contest in cup.db, made by the program at eight o'clock."""
-    folder, clock = test.new_folder(), ("faketime", "-f", "2024-03-02 08:00:00")
+    folder, clock = test.new_folder(), fake_clock.at("2024-03-02 08:00:00")
     head = {"id": "demo", "name": "Demo Cup", "duration": "5:00:00.000", "scoreboard_freeze_duration": "1:00:00.000",
             "start_time": moment(START), "verification": verification}  # fmt: skip
     files = {"judgement-types": TYPES, "languages": LANGUAGES, "problems": PROBLEMS, "groups": GROUPS}
