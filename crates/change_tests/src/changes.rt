@@ -23,15 +23,26 @@ fn open(alloc: Global) -> Result<Tables<MemStore>, StoreError> {
 /// Within a transaction, the tables of a contest in which nothing stands yet.
 fn made(alloc: Global, fixed: &Fixed) -> Result<Tables<MemStore>, StoreError> {
     let mut tables = open(alloc)?;
+    let done = make_tables(&mut tables, fixed);
+    value_if(done, tables)
+}
+
+fn make_tables(tables: &mut Tables<MemStore>, fixed: &Fixed) -> Result<(), StoreError> {
     tables.begin()?;
     tables.make()?;
     tables.insert(TableName::Desk, &desk_cells())?;
-    tables.insert(TableName::Contest, &contest_cells(fixed))?;
-    Ok(tables)
+    tables.insert(TableName::Contest, &contest_cells(fixed))
 }
 
-/// The change in the tables, and in the lists.
-fn make(
+fn value_if<T: Drop>(done: Result<(), StoreError>, value: T) -> Result<T, StoreError> {
+    match done {
+        Ok(()) => Ok(value),
+        Err(error) => Err(error),
+    }
+}
+
+/// A change in the tables, and in the lists.
+fn make_change(
     alloc: Global,
     tables: &mut Tables<MemStore>,
     lists: &mut Lists,
@@ -40,6 +51,17 @@ fn make(
     append(tables, alloc, lists, entry)?;
     lists.add(alloc, entry)?;
     Ok(())
+}
+
+/// The change at a place.
+fn make(
+    alloc: Global,
+    tables: &mut Tables<MemStore>,
+    lists: &mut Lists,
+    place: usize,
+) -> Result<(), Fail> {
+    let entry = change(alloc, place)?;
+    make_change(alloc, tables, lists, &entry)
 }
 
 fn are_rows(rows: &[Row], shown: &Shown) -> bool {
@@ -62,16 +84,28 @@ fn count_shown(tables: &mut Tables<MemStore>) -> Result<usize, StoreError> {
     Ok(count)
 }
 
-fn shown_after(alloc: Global) -> Result<(usize, Counts), Fail> {
-    let fixed = demo(alloc, &[], Rows::new(alloc))?;
-    let mut tables = made(alloc, &fixed)?;
-    let mut lists = Lists::new(alloc, fixed);
+/// Makes all changes in the tables and in the lists, commits them, and looks how many tables show them.
+fn commit_all(
+    alloc: Global,
+    tables: &mut Tables<MemStore>,
+    lists: &mut Lists,
+) -> Result<(usize, Counts), Fail> {
     for place in 0..CHANGES {
-        make(alloc, &mut tables, &mut lists, &change(alloc, place)?)?;
+        make(alloc, tables, lists, place)?;
     }
     tables.commit()?;
     tables.begin()?;
-    Ok((count_shown(&mut tables)?, tables.counts()))
+    Ok((count_shown(tables)?, tables.counts()))
+}
+
+fn shown_over(alloc: Global, lists: &mut Lists) -> Result<(usize, Counts), Fail> {
+    let mut tables = made(alloc, lists.fixed())?;
+    commit_all(alloc, &mut tables, lists)
+}
+
+fn shown_after(alloc: Global) -> Result<(usize, Counts), Fail> {
+    let mut lists = Lists::new(alloc, demo(alloc, &[], Rows::new(alloc))?);
+    shown_over(alloc, &mut lists)
 }
 
 /// Each change stands in its table after the commit, and in no other.

@@ -1,7 +1,6 @@
 -- What is told of a board that is asked for.
 use Rattle.std.proofs.Common.{◌≡◌, ◌∙◌, ap, sym, refl, subst, inl, inr, ℕ, List, Option, Some, None, Result, Ok, Err, arith, true}
 use Rattle.std.specs.Prelude.{◌⊎◌}
-use Rattle.std.specs.Option.{option_and_then, option_map}
 use Rattle.std.specs.Prelude.{IfErr}
 use Rattle.std.specs.Result.{IsErrAnd}
 use Rattle.sqlite.specs.State.{HasCleanDisk, State}
@@ -12,11 +11,10 @@ use Rattle.contest_types.specs.Streams.{Stream, Tells}
 use Rattle.contest_types.specs.declared.audience.Audience.{Audience}
 use Rattle.contest_types.specs.declared.marks.Marks.{Marks}
 use Rattle.contest_types.specs.declared.refusal.Refusal.{Refusal}
-use Rattle.contest_types.specs.declared.refusal.Refusal.TheVariants.{Memory, NotFound, StoreFault}
+use Rattle.contest_types.specs.declared.refusal.Refusal.TheVariants.{NotFound}
 use Rattle.contest_score.specs.Ranking.{Scoreboard}
 use Rattle.contest_boards.specs.Scoreboards.{board_found}
 use Rattle.contest_desk.specs.Boards.{board_told}
-use Rattle.contest_desk.specs.Serving.{OnlyReads, refused_as}
 use Rattle.contest_store.specs.Keeping.{Kept, LeavesNoMore}
 use Rattle.contest_store.specs.StoreErrors.{refusal_of}
 use Rattle.contest_store.specs.declared.store_error.StoreError.{StoreError}
@@ -29,7 +27,7 @@ use Rattle.contest_words.specs.Endings.{Shows}
 use Rattle.contest_words.specs.declared.command_error.CommandError.{CommandError}
 use Rattle.contest_words.specs.declared.command_error.CommandError.TheVariants.{Clock, File, Net, Refused, Usage}
 use Rattle.contest_words.proofs.StreamLemmas.{keeps_same}
-use Rattle.contest_commands.specs.Board.{Boards, Gives, HasNoTeam, IsStoreStop, ShowsKept, StopsBoard, TellsBoard, asked_text, audience_of, written}
+use Rattle.contest_commands.specs.Board.{Boards, Gives, IsStoreStop, ShowsKept, StopsBoard, TellsBoard, audience_of}
 use Rattle.contest_commands.specs.Inputs.{KeepsAll}
 use Rattle.contest_commands.specs.declared.asked_board.AskedBoard.{AskedBoard}
 
@@ -40,17 +38,6 @@ by_error error.Memory = inr refl
 
 pub of_store : (r : Refusal) → IsOfStore r → IsStoreStop (Refused r)
 of_store r (e, is) = subst (λ (q : Refusal). IsStoreStop (Refused q)) (sym is) (by_error e)
-
--- what was read of the contest leaves it as it was
-pub same_contest : {T : Type 0} (r : Result T StoreError) (v : T) (old new : Kept) → Ok v ≡ refused_as r → OnlyReads r old new → new.is_clean → new.contest ≡ old.contest
-same_contest (Ok w) v old new is reads clean = (reads.ok clean).now_is
-same_contest (Err e) v old new is reads clean = cc
-
--- a refusal of such a read is the store's
-pub read_refused : {T : Type 0} (r : Result T StoreError) (refusal : Refusal) → Err refusal ≡ refused_as r → IsStoreStop (Refused refusal)
-read_refused (Ok w) refusal is = cc
-read_refused (Err error.Fault) refusal is = inl cc
-read_refused (Err error.Memory) refusal is = inr cc
 
 -- a board that there is was refused by the store
 pub board_refused : (r : Result (Option Scoreboard) StoreError) (a : Audience) (now : ℕ) (x : ContestState) (refusal : Refusal) → Err refusal ≡ board_told r
@@ -65,28 +52,6 @@ board_refused (Err error.Memory) a now x refusal is missing there = inr cc
 pub told_err : {T : Type 0} (r : Result T CommandError) (P Q : CommandError → Type 0) → IsErrAnd r P → ((stop : CommandError) → P stop → Q stop) → IfErr r Q
 told_err (Ok v) P Q told turns = tt
 told_err (Err e) P Q told turns = turns e told
-
--- nothing is left by two such reads that wasn't before
-pub leaves_less : {T U : Type 0} (r : Result T StoreError) (q : Result U StoreError) (first mid last : Kept) → OnlyReads r first mid → OnlyReads q mid last → last.is_clean
-    → LeavesNoMore first.may_leave last.may_leave
-leaves_less r q first mid last one two clean d left = elim (two.crash clean d left) [
-  | inl between ↦ elim (one.crash (two.clean clean) d between) [ inl before ↦ before | inr none ↦ absurd none.1 ]
-  | inr none ↦ absurd none.1
-]
-
-joined : {A B C : Type 0} (f : A → Option B) (h : A → B → C) (o : Option A) (a : A) (b : B) → o ≡ Some a → f a ≡ Some b → option_and_then (λ v. option_map (h v) (f v)) o ≡ Some (h a b)
-joined f h o a b one two = rw (one, two) refl
-
--- what was written is what is asked for, of the contest whose settings and marks were read
-pub asked_is : (x y : ContestState) (s : Setup) (m : Marks) (now : ℕ) (asked : AskedBoard) (a : Audience) (b : Scoreboard) (text : List ℕ) → ◌≡◌ {A = Setup × Marks} (s, m) (x.fixed.settings, x.fixed.marks) → y ≡ x
-    → audience_of s asked.who ≡ Some a → board_found a now y ≡ Some b → text ≡ written asked.format s m now a b → asked_text now asked x ≡ Some text
-asked_is x y s m now asked a b text read same who found is =
-    let settings : s ≡ x.fixed.settings = ap (λ (p : Setup × Marks). p.0) read in
-    let marks : m ≡ x.fixed.marks = ap (λ (p : Setup × Marks). p.1) read in
-    let looks = subst (λ (t : Setup). audience_of t asked.who ≡ Some a) settings who in
-    let there = subst (λ (z : ContestState). board_found a now z ≡ Some b) same found in
-    let wrote = subst (λ (t : Setup). text ≡ written asked.format t x.fixed.marks now a b) settings (subst (λ (n : Marks). text ≡ written asked.format s n now a b) marks is) in
-    joined (λ v. board_found v now x) (λ v w. written asked.format x.fixed.settings x.fixed.marks now v w) (audience_of x.fixed.settings asked.who) a b looks there ∙ ap Some (sym wrote)
 
 -- no audience was found in the settings that were read
 pub no_audience : (x : ContestState) (s : Setup) (m : Marks) (asked : AskedBoard) (stop : CommandError) → ◌≡◌ {A = Setup × Marks} (s, m) (x.fixed.settings, x.fixed.marks)

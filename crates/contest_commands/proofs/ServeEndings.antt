@@ -1,5 +1,5 @@
 -- How serving ends where something stops it.
-use Rattle.std.proofs.Common.{◌≡◌, ◌∙◌, ap, refl, inl, inr, ℕ, List, arith, Bool}
+use Rattle.std.proofs.Common.{◌≡◌, ap, refl, inl, inr, ℕ, arith}
 use Rattle.std.specs.Prelude.{◌⊎◌}
 use Rattle.std.specs.Io.KnownBytes.{Appends, Keeps}
 use Rattle.sqlite.specs.State.{HasCleanDisk, State}

@@ -1,5 +1,5 @@
 -- Requests that are handled one after another are a run.
-use Rattle.std.proofs.Common.{◌≡◌, ◌≤◌, ◌+◌, List, [], ◌∷◌, ◌++◌, append-nil, arith, length, refl, sym, ap, subst, inl, inr, ℕ}
+use Rattle.std.proofs.Common.{◌≤◌, ◌+◌, List, [], ◌∷◌, ◌++◌, append-nil, arith, length, refl, sym, ap, subst, inl, inr, ℕ}
 use Rattle.std.proofs.lemmas.List.{append_assoc, length_push}
 use Rattle.contest_store.specs.Keeping.{Kept}
 use Rattle.contest_desk.specs.declared.item.Answer.{Answer}

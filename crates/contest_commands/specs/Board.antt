@@ -43,6 +43,10 @@ abbrev pub asked_text : (now : ℕ) → AskedBoard → ContestState → Option (
 asked_text now asked x =
     option_and_then (λ a. option_map (written asked.format x.fixed.settings x.fixed.marks now a) (board_found a now x)) (audience_of x.fixed.settings asked.who)
 
+-- these are a contest's settings and marks
+abbrev pub AreOf : Setup → Marks → ContestState → Type 0
+AreOf s m x = ◌≡◌ {A = Setup × Marks} (s, m) (x.fixed.settings, x.fixed.marks)
+
 -- the store failed, or memory was refused
 abbrev pub IsStoreStop : CommandError → Type 0
 IsStoreStop stop = (stop ≡ Refused StoreFault) ⊎ (stop ≡ Refused Memory)

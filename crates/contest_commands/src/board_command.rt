@@ -6,7 +6,7 @@ ghost use Rattle.contest_types.specs.Streams.{stream};
 ghost use Rattle.contest_store.specs.Keeping.{LeavesNoMore};
 ghost use Rattle.contest_sqlite.specs.Opening.{IsNumbered};
 ghost use Rattle.contest_words.specs.CommandErrors.{IsMemory, IsWords, IsWordsOrMemory};
-ghost use Rattle.contest_commands.specs.Board.{Boards, ShowsKept, StopsBoard, asked_text, audience_of, written};
+ghost use Rattle.contest_commands.specs.Board.{AreOf, Boards, ShowsKept, StopsBoard, asked_text, audience_of, written};
 
 use crate::asked_board::{AskedBoard, BoardFormat, Who};
 use crate::opening::open_desk;
@@ -77,18 +77,45 @@ fn text_in<S: ContestStore>(
     ensures clean { (S.kept desk.new).is_clean → (S.kept desk.old).is_clean }
 {
     let (settings, marks) = desk.fixed(alloc)?;
-    let audience = audience_of(alloc, &settings, asked.who)?;
+    text_for(alloc, desk, &settings, &marks, now, asked)
+}
+
+// The same, where these are the contest's settings and marks.
+fn text_for<S: ContestStore>(
+    alloc: Global,
+    desk: &mut Desk<S>,
+    settings: &Settings,
+    marks: &Marks,
+    now: Moment,
+    asked: AskedBoard<'_>,
+) -> Result<String, CommandError>
+    ensures text { (S.kept desk.new).is_clean → AreOf settings.now marks.now (S.kept desk.old).contest → IfOk result (λ text. asked_text now asked.entry (S.kept desk.old).contest ≡ Some (string_bytes text)) }
+    ensures stops { (S.kept desk.new).is_clean → AreOf settings.now marks.now (S.kept desk.old).contest → IfErr result (StopsBoard (λ x. x ≡ (S.kept desk.old).contest) asked.entry) }
+    ensures crash { (S.kept desk.new).is_clean → LeavesNoMore (S.kept desk.old).may_leave (S.kept desk.new).may_leave }
+    ensures clean { (S.kept desk.new).is_clean → (S.kept desk.old).is_clean }
+{
+    let audience = audience_of(alloc, settings, asked.who)?;
     let board = desk.board(alloc, now, audience)?;
-    let text = written(
-        alloc,
-        asked.format,
-        &settings,
-        &marks,
-        now,
-        audience,
-        &board,
-    )?;
-    Ok(text)
+    text_of(alloc, asked.format, settings, marks, now, audience, &board)
+}
+
+// A board, written as is asked for.
+fn text_of(
+    alloc: Global,
+    format: BoardFormat,
+    settings: &Settings,
+    marks: &Marks,
+    now: Moment,
+    audience: Audience,
+    board: &Board,
+) -> Result<String, CommandError>
+    ensures text { IfOk result (λ text. string_bytes text ≡ written format settings.now marks.now now audience board.now) }
+    ensures err { IfErr result (λ stop. stop ≡ CommandError.Refused Refusal.Memory) }
+{
+    match written(alloc, format, settings, marks, now, audience, board) {
+        Ok(text) => Ok(text),
+        Err(refusal) => Err(CommandError::Refused(refusal)),
+    }
 }
 
 // The audience that looks. The error is that no team has the id, or want of memory.
@@ -117,7 +144,7 @@ fn no_team(alloc: Global, id: &str) -> CommandError
     }
 }
 
-// A board, written as is asked for.
+// The same. The error is want of memory.
 fn written(
     alloc: Global,
     format: BoardFormat,

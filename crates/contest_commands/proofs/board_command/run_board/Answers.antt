@@ -1,10 +1,9 @@
-use Rattle.std.proofs.Common.{◌≡◌, ◌∙◌, Some, inl, subst, sym}
+use Rattle.std.proofs.Common.{◌≡◌, Some, inl, subst}
 use Rattle.sqlite.specs.Held.{state}
 use Rattle.sqlite.specs.State.{HasCleanDisk}
 use Rattle.contest_sqlite.specs.Contests.{contest_in_trees, may_leave_of}
 use Rattle.contest_sqlite.specs.Keeping.{IsTrusted}
 use Rattle.contest_sqlite.specs.Value.{stored}
-use Rattle.contest_commands.specs.Board.{Boards}
 use Rattle.contest_commands.proofs.BoardLemmas.{leaves_no_more, of_store, shown_by_desk, stopped}
 use Rattle.contest_commands.proofs.board_command.run_board.Goals as goal
 

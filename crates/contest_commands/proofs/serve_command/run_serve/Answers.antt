@@ -1,8 +1,6 @@
 use Rattle.std.proofs.Common.{subst, sym}
 use Rattle.sqlite.specs.Held.{state}
-use Rattle.sqlite.specs.State.{HasCleanDisk}
 use Rattle.contest_sqlite.specs.Keeping.{IsTrusted}
-use Rattle.contest_sqlite.specs.Value.{stored}
 use Rattle.contest_commands.specs.Serve.{ServesTables}
 use Rattle.contest_commands.proofs.ServeEndings.{opened, unopened}
 use Rattle.contest_commands.proofs.TableLemmas.{served}
