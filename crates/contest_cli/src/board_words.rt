@@ -1,17 +1,15 @@
 //! The words of `board`.
-ghost use Rattle.std.specs.Prelude.{◌≡◌, ◌⊎◌, false, IfErr, IfNone, IfOk, IfSome, codes, map};
+ghost use Rattle.std.specs.Prelude.{◌≡◌, ◌⊎◌, IfErr, IfNone, IfOk, IfSome, map};
 ghost use Rattle.std.specs.Option.{option_map};
 ghost use Rattle.clap.specs.Simple.{app_of};
-ghost use Rattle.clap.specs.Walk.{rule_of};
 ghost use Rattle.contest_cli.specs.BoardWords.{HasBoardFault, NamesBoard, NamesFormat, NamesMoment, NamesNoMoment, NamesWho, board_app};
 ghost use Rattle.contest_commands.specs.declared.asked_board.BoardFormat.{BoardFormat as TheFormat};
-ghost use Rattle.contest_words.specs.Arguments.{option};
 ghost use Rattle.contest_words.specs.CommandErrors.{IsMemory, IsWords, IsWordsOrMemory};
 
-use clap::{Arg, Command};
+use clap::Command;
 use contest_commands::{AskedBoard, BoardFormat, Who};
 use contest_types::Moment;
-use contest_words::{CommandError, headed, matches_in, value_in, word, word_in};
+use contest_words::{CommandError, headed, matches_in, option, value_in, with_arg, word, word_in};
 use std::alloc::{AllocError, Global};
 
 /// What the words of `board` name.
@@ -29,49 +27,35 @@ pub(crate) struct BoardWords<'a> {
 pub(crate) fn board_app<'a>(alloc: Global) -> Result<Command<'a>, AllocError>
     ensures { IfOk result (λ c. app_of c ≡ board_app) }
 {
-    let file = word(alloc, "FILE", "Keeps the contest, as 'desk init' made it");
-    headed(
+    let board = headed(
         alloc,
         "board",
         "desk board",
         "Prints the board of a contest as somebody sees it",
-    )?
-    .arg(file)?
-    .arg(audience_option(alloc))?
-    .arg(at_option(alloc))?
-    .arg(format_option(alloc))
-}
-
-// The option `--audience WHO`.
-fn audience_option<'a>(alloc: Global) -> Arg<'a>
-    ensures rule { rule_of result ≡ option (codes "audience") }
-    ensures local { result.global ≡ false }
-{
-    Arg::new(alloc, "audience")
-        .long("audience")
-        .value_name("WHO")
-        .help("Shows what they see: public, jury or a team's id [default: public]")
-}
-
-// The option `--at TIME`.
-fn at_option<'a>(alloc: Global) -> Arg<'a>
-    ensures rule { rule_of result ≡ option (codes "at") }
-    ensures local { result.global ≡ false }
-{
-    Arg::new(alloc, "at").long("at").value_name("TIME").help(
+    );
+    let file = word(alloc, "FILE", "Keeps the contest, as 'desk init' made it");
+    let board = with_arg(board, file);
+    let audience = option(
+        alloc,
+        "audience",
+        "WHO",
+        "Shows what they see: public, jury or a team's id [default: public]",
+    );
+    let board = with_arg(board, audience);
+    let at = option(
+        alloc,
+        "at",
+        "TIME",
         "Shows it at this moment, as 2024-03-02T10:30:00Z [default: now]",
-    )
-}
-
-// The option `--format FORMAT`.
-fn format_option<'a>(alloc: Global) -> Arg<'a>
-    ensures rule { rule_of result ≡ option (codes "format") }
-    ensures local { result.global ≡ false }
-{
-    Arg::new(alloc, "format")
-        .long("format")
-        .value_name("FORMAT")
-        .help("Writes it as text or as csv [default: text]")
+    );
+    let board = with_arg(board, at);
+    let format = option(
+        alloc,
+        "format",
+        "FORMAT",
+        "Writes it as text or as csv [default: text]",
+    );
+    with_arg(board, format)
 }
 
 /// What the words of `board` name; the first word is the command's own. The error is what is said of words
@@ -85,16 +69,18 @@ pub(crate) fn read_board_words<'a>(
 {
     let command = board_app(alloc)?;
     let matches = matches_in(alloc, command, words)?;
-    let at = moment_in(alloc, value_in(&matches, "at"))?;
-    let Some(format) = format_in(value_in(&matches, "format")) else {
+    let file = word_in(&matches, "FILE");
+    let who = who_in(value_in(&matches, "audience"));
+    let at = value_in(&matches, "at");
+    let format = format_in(value_in(&matches, "format"));
+    drop(matches);
+    let at = moment_in(alloc, at)?;
+    let Some(format) = format else {
         return Err(no_format(alloc));
     };
     Ok(BoardWords {
-        file: word_in(&matches, "FILE"),
-        asked: AskedBoard {
-            who: who_in(value_in(&matches, "audience")),
-            format,
-        },
+        file,
+        asked: AskedBoard { who, format },
         at,
     })
 }

@@ -6,7 +6,7 @@ ghost use Rattle.contest_words.specs.CommandErrors.{IsMemory, IsWords, IsWordsOr
 
 use clap::Command;
 use contest_import::{ImportKind, SettingsKind};
-use contest_words::{CommandError, headed, matches_in, word, word_in};
+use contest_words::{CommandError, headed, matches_in, with_arg, word, word_in};
 use std::alloc::{AllocError, Global};
 
 /// What the words of `import` name.
@@ -24,23 +24,23 @@ pub(crate) struct ImportWords<'a> {
 pub(crate) fn import_app<'a>(alloc: Global) -> Result<Command<'a>, AllocError>
     ensures { IfOk result (λ c. app_of c ≡ import_app) }
 {
+    let import = headed(
+        alloc,
+        "import",
+        "desk import",
+        "Adds all rows of a file to a contest, or none, and prints how many they are",
+    );
     let file = word(alloc, "FILE", "Keeps the contest, as 'desk init' made it");
+    let import = with_arg(import, file);
     let kind = word(
         alloc,
         "KIND",
         "Says what PATH holds: judgement-types, languages, problems, groups or teams as JSON, \
          teams-csv or accounts-csv",
     );
+    let import = with_arg(import, kind);
     let path = word(alloc, "PATH", "Holds the rows to add");
-    headed(
-        alloc,
-        "import",
-        "desk import",
-        "Adds all rows of a file to a contest, or none, and prints how many they are",
-    )?
-    .arg(file)?
-    .arg(kind)?
-    .arg(path)
+    with_arg(import, path)
 }
 
 /// What the words of `import` name; the first word is the command's own. The error is what is said of
@@ -54,13 +54,12 @@ pub(crate) fn read_import_words<'a>(
 {
     let command = import_app(alloc)?;
     let matches = matches_in(alloc, command, words)?;
+    let file = word_in(&matches, "FILE");
     let name = word_in(&matches, "KIND");
+    let path = word_in(&matches, "PATH");
+    drop(matches);
     match kind_named(name) {
-        Some(kind) => Ok(ImportWords {
-            file: word_in(&matches, "FILE"),
-            kind,
-            path: word_in(&matches, "PATH"),
-        }),
+        Some(kind) => Ok(ImportWords { file, kind, path }),
         None => Err(no_kind(alloc, name)),
     }
 }

@@ -6,7 +6,7 @@ ghost use Rattle.contest_cli.specs.InitWords.{NamesInit, init_app};
 ghost use Rattle.contest_words.specs.CommandErrors.{RefusesWords};
 
 use clap::Command;
-use contest_words::{CommandError, headed, matches_in, word, word_in};
+use contest_words::{CommandError, headed, matches_in, with_arg, word, word_in};
 use std::alloc::{AllocError, Global};
 
 /// What the words of `init` name.
@@ -22,20 +22,20 @@ pub(crate) struct InitWords<'a> {
 pub(crate) fn init_app<'a>(alloc: Global) -> Result<Command<'a>, AllocError>
     ensures { IfOk result (λ c. app_of c ≡ init_app) }
 {
+    let init = headed(
+        alloc,
+        "init",
+        "desk init",
+        "Sets up a contest in a file, from its contest object as JSON",
+    );
     let file = word(
         alloc,
         "FILE",
         "Keeps the contest, as an SQLite file; it is made where there is none",
     );
+    let init = with_arg(init, file);
     let contest = word(alloc, "CONTEST", "Holds the contest object, as JSON");
-    headed(
-        alloc,
-        "init",
-        "desk init",
-        "Sets up a contest in a file, from its contest object as JSON",
-    )?
-    .arg(file)?
-    .arg(contest)
+    with_arg(init, contest)
 }
 
 /// What the words of `init` name; the first word is the command's own. The error is what clap says of

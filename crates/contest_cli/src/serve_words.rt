@@ -1,15 +1,13 @@
 //! The words of `serve`.
-ghost use Rattle.std.specs.Prelude.{◌≡◌, ◌⊎◌, ◌<◌, ◌≤◌, false, IfErr, IfOk, IfSome, codes, map};
+ghost use Rattle.std.specs.Prelude.{◌≡◌, ◌⊎◌, ◌<◌, ◌≤◌, IfErr, IfOk, IfSome, map};
 ghost use Rattle.std.specs.Option.{option_map};
 ghost use Rattle.clap.specs.Simple.{app_of};
-ghost use Rattle.clap.specs.Walk.{rule_of};
 ghost use Rattle.contest_cli.specs.ServeWords.{HasServeFault, NamesServe, number_to, port_of, requests_of, serve_app};
-ghost use Rattle.contest_words.specs.Arguments.{option};
 ghost use Rattle.contest_words.specs.CommandErrors.{IsMemory, IsWords, IsWordsOrMemory};
 
-use clap::{Arg, Command};
+use clap::Command;
 use contest_types::decimal_number;
-use contest_words::{CommandError, headed, matches_in, value_in, word, word_in};
+use contest_words::{CommandError, headed, matches_in, option, value_in, with_arg, word, word_in};
 use std::alloc::{AllocError, Global};
 
 /// What the words of `serve` name.
@@ -27,37 +25,28 @@ pub(crate) struct ServeWords<'a> {
 pub(crate) fn serve_app<'a>(alloc: Global) -> Result<Command<'a>, AllocError>
     ensures { IfOk result (λ c. app_of c ≡ serve_app) }
 {
-    let file = word(alloc, "FILE", "Keeps the contest, as 'desk init' made it");
-    headed(
+    let serve = headed(
         alloc,
         "serve",
         "desk serve",
         "Serves a contest over HTTP on 127.0.0.1, one connection after the other",
-    )?
-    .arg(file)?
-    .arg(requests_option(alloc))?
-    .arg(port_option(alloc))
-}
-
-// The option `--requests N`.
-fn requests_option<'a>(alloc: Global) -> Arg<'a>
-    ensures rule { rule_of result ≡ option (codes "requests") }
-    ensures local { result.global ≡ false }
-{
-    Arg::new(alloc, "requests")
-        .long("requests")
-        .value_name("N")
-        .help("Ends once so many connections were served; there is no usual number")
-}
-
-// The option `--port P`.
-fn port_option<'a>(alloc: Global) -> Arg<'a>
-    ensures rule { rule_of result ≡ option (codes "port") }
-    ensures local { result.global ≡ false }
-{
-    Arg::new(alloc, "port").long("port").value_name("P").help(
+    );
+    let file = word(alloc, "FILE", "Keeps the contest, as 'desk init' made it");
+    let serve = with_arg(serve, file);
+    let requests = option(
+        alloc,
+        "requests",
+        "N",
+        "Ends once so many connections were served; there is no usual number",
+    );
+    let serve = with_arg(serve, requests);
+    let port = option(
+        alloc,
+        "port",
+        "P",
         "Listens on this port [default: one that the system chooses]",
-    )
+    );
+    with_arg(serve, port)
 }
 
 /// What the words of `serve` name; the first word is the command's own. The error is what is said of
@@ -71,14 +60,18 @@ pub(crate) fn read_serve_words<'a>(
 {
     let command = serve_app(alloc)?;
     let matches = matches_in(alloc, command, words)?;
-    let Some(requests) = requests_in(value_in(&matches, "requests")) else {
+    let file = word_in(&matches, "FILE");
+    let requests = requests_in(value_in(&matches, "requests"));
+    let port = port_in(value_in(&matches, "port"));
+    drop(matches);
+    let Some(requests) = requests else {
         return Err(no_number(alloc, "--requests <N>", "4294967295"));
     };
-    let Some(port) = port_in(value_in(&matches, "port")) else {
+    let Some(port) = port else {
         return Err(no_number(alloc, "--port <P>", "65535"));
     };
     Ok(ServeWords {
-        file: word_in(&matches, "FILE"),
+        file,
         requests,
         port,
     })

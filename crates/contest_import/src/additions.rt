@@ -1,12 +1,12 @@
 //! The rows that a file adds to what stands, one after the other.
-ghost use Rattle.std.specs.Prelude.{◌≡◌, ◌++◌, ◌∷◌, [], Ok, OnOk, IfOk, IfErr, if◌then◌else◌};
+ghost use Rattle.std.specs.Prelude.{◌≡◌, ◌++◌, ◌∷◌, ◌⊎◌, [], true, Ok, Err, OnOk, IfOk, IfErr, IsOkAnd, is_ok, if◌then◌else◌};
 ghost use Rattle.contest_types.specs.Accounts.{account_addition, with_account};
 ghost use Rattle.contest_types.specs.Additions.{IsFaultOf};
 ghost use Rattle.contest_import.specs.RowAdditions.{none_yet, row_addition, with_addition, with_row};
 
 use crate::account_addition::account_addition;
 use contest_store::{CopyRow, add_account, copied_fixed};
-use contest_types::{Account, Cause, Entry, Fixed, Identified, RowFault, Rows};
+use contest_types::{Account, Cause, Entry, Fixed, Identified, Refusal, RowFault, Rows};
 use std::alloc::{AllocError, Global};
 use std::marker::Model;
 
@@ -56,24 +56,46 @@ impl RowAdditions {
         ensures ok { OnOk result (with_addition self.old row ≡ Ok self.new) }
         ensures err { IfErr result (λ e. IsFaultOf e (with_addition self.old row)) }
     {
-        let added = add_row(alloc, &mut self.fixed, &row)?;
-        keep_if(&mut self.rows, row, added)?;
-        Ok(())
+        let added = add_row(alloc, &mut self.fixed, &row);
+        keep_if(&mut self.rows, row, added)
     }
 
-    /// The rows that the file adds, in its order.
-    pub(crate) fn into_rows(self) -> Rows<Entry>
-        ensures { result ≡ self.rows }
+    /// The rows that the file adds, in its order, where all of it could be taken.
+    ///
+    /// # Errors
+    ///
+    /// Why it couldn't.
+    pub(crate) fn rows_if(self, taken: Result<(), Refusal>) -> Result<Rows<Entry>, Refusal>
+        ensures ok { IfOk result (λ rows. (is_ok taken ≡ true) × (rows ≡ self.rows)) }
+        ensures err { IfErr result (λ e. taken ≡ Err e) }
     {
-        self.rows
+        let RowAdditions { fixed, rows } = self;
+        drop(fixed);
+        value_if(taken, rows)
     }
 }
 
-// Keeps a row that was added.
-fn keep_if<T: Drop>(rows: &mut Rows<T>, row: T, added: bool) -> Result<(), AllocError>
-    ensures { OnOk result (rows.new ≡ (if added then rows.old ++ row ∷ [] else rows.old)) }
+// A value where something was done, or why that wasn't.
+fn value_if<T: Drop>(done: Result<(), Refusal>, value: T) -> Result<T, Refusal>
+    ensures ok { IfOk result (λ given. (is_ok done ≡ true) × (given ≡ value)) }
+    ensures err { IfErr result (λ e. done ≡ Err e) }
 {
-    if added {
+    match done {
+        Ok(()) => Ok(value),
+        Err(refusal) => Err(refusal),
+    }
+}
+
+// Keeps a row if it was added to what stands.
+fn keep_if<T: Drop>(
+    rows: &mut Rows<T>,
+    row: T,
+    added: Result<bool, RowFault>,
+) -> Result<(), RowFault>
+    ensures ok { OnOk result (IsOkAnd added (λ kept. rows.new ≡ (if kept then rows.old ++ row ∷ [] else rows.old))) }
+    ensures err { IfErr result (λ e. (e ≡ RowFault.Memory) ⊎ (added ≡ Err e)) }
+{
+    if added? {
         rows.push(row)?;
     }
     Ok(())

@@ -1,10 +1,10 @@
 //! Teams and accounts as CSV files.
-ghost use Rattle.std.specs.Prelude.{◌≡◌, ◌≤◌, ◌+◌, ◌∷◌, ◌^◌, ℕ, List, [], Ok, IfOk, IfErr, OnOk, length};
+ghost use Rattle.std.specs.Prelude.{◌≡◌, ◌≤◌, ◌+◌, ◌∷◌, ◌^◌, ℕ, List, true, false, None, Some, Ok, IfOk, IfErr, OnOk, length};
 ghost use Rattle.csv.specs.Records.{fields_of};
 ghost use Rattle.contest_types.specs.Additions.{IsFaultOf};
 ghost use Rattle.contest_files.specs.Refused.{Refuses};
 ghost use Rattle.contest_import.specs.CsvFiles.{account_names, team_names};
-ghost use Rattle.contest_import.specs.Files.{account_rows, csv_records, team_rows};
+ghost use Rattle.contest_import.specs.Files.{account_rows, or_off_form, records_under, team_rows};
 ghost use Rattle.contest_import.specs.RowAdditions.{after_record, after_records, none_yet, rows_of, rows_or_refusal};
 ghost use Rattle.contest_import.specs.declared.csv_files.CsvKind.{CsvKind};
 ghost use Rattle.contest_import.specs.CsvKinds.{kind_rows, names_of, record_row};
@@ -65,13 +65,22 @@ fn read_csv(
 {
     let mut records = CsvRecords::new(alloc, bytes);
     let mut row = ByteRecord::new(alloc);
-    if !records.next(&mut row)? {
-        return Err(Refusal::Malformed);
-    }
-    if !is_header(&names_of(kind), &row) {
-        return Err(Refusal::Malformed);
-    }
-    take_all(alloc, kind, &mut records, &mut row, fixed)
+    read_rows(alloc, kind, &mut records, &mut row, fixed)
+}
+
+// Whether the first record is the header, which is taken.
+fn has_header(
+    kind: CsvKind,
+    records: &mut CsvRecords<'_>,
+    row: &mut ByteRecord,
+) -> Result<bool, Refusal>
+    requires { length records.old ≤ 2 ^ 63 }
+    ensures yes { result ≡ Ok true → records_under (names_of kind) records.old ≡ Some records.new }
+    ensures no { result ≡ Ok false → records_under (names_of kind) records.old ≡ None }
+    ensures few { result ≡ Ok true → length records.new ≤ 2 ^ 63 }
+    ensures err { IfErr result (λ e. e ≡ Refusal.Memory) }
+{
+    Ok(records.next(row)? && is_header(&names_of(kind), row))
 }
 
 // What the header of a file names.
@@ -94,8 +103,26 @@ fn names_of(kind: CsvKind) -> CsvRecord<'static>
     }
 }
 
-// The rows of the records to come, which are numbered from 1. The first at fault ends the reading.
-fn take_all(
+// The rows of the records below the header.
+fn read_rows(
+    alloc: Global,
+    kind: CsvKind,
+    records: &mut CsvRecords<'_>,
+    row: &mut ByteRecord,
+    fixed: &Fixed,
+) -> Result<Rows<Entry>, Refusal>
+    requires { length records.old ≤ 2 ^ 63 }
+    ensures ok { IfOk result (λ rows. or_off_form (rows_of (record_row kind) fixed.now) (records_under (names_of kind) records.old) ≡ Ok rows) }
+    ensures err { IfErr result (λ e. Refuses e (or_off_form (rows_of (record_row kind) fixed.now) (records_under (names_of kind) records.old))) }
+{
+    if !has_header(kind, records, row)? {
+        return Err(Refusal::Malformed);
+    }
+    rows_of(alloc, kind, records, row, fixed)
+}
+
+// The rows of the records to come.
+fn rows_of(
     alloc: Global,
     kind: CsvKind,
     records: &mut CsvRecords<'_>,
@@ -107,13 +134,29 @@ fn take_all(
     ensures err { IfErr result (λ e. Refuses e (rows_of (record_row kind) fixed.now records.old)) }
 {
     let mut additions = RowAdditions::new(alloc, fixed)?;
+    let taken = take_all(alloc, kind, &mut additions, records, row);
+    additions.rows_if(taken)
+}
+
+// Takes the records to come, which are numbered from 1. The first at fault ends the reading.
+fn take_all(
+    alloc: Global,
+    kind: CsvKind,
+    additions: &mut RowAdditions,
+    records: &mut CsvRecords<'_>,
+    row: &mut ByteRecord,
+) -> Result<(), Refusal>
+    requires { length records.old ≤ 2 ^ 63 }
+    ensures ok { OnOk result (after_records (record_row kind) additions.old 1 records.old ≡ Ok additions.new) }
+    ensures err { IfErr result (λ e. Refuses e (rows_or_refusal (after_records (record_row kind) additions.old 1 records.old))) }
+{
     for n in 1..u64::MAX {
         if !records.next(row)? {
             break;
         }
-        take(alloc, kind, n, &mut additions, row)?;
+        take(alloc, kind, n, additions, row)?;
     }
-    Ok(additions.into_rows())
+    Ok(())
 }
 
 // Record n.

@@ -50,8 +50,8 @@ fn rows_of(
     ensures err { IfErr result (λ e. Refuses e (rows_of (object_row kind) fixed.now (map view objects.now))) }
 {
     let mut additions = RowAdditions::new(alloc, fixed)?;
-    take_all(alloc, kind, &mut additions, objects)?;
-    Ok(additions.into_rows())
+    let taken = take_all(alloc, kind, &mut additions, objects);
+    additions.rows_if(taken)
 }
 
 // Takes the rows of objects, which are numbered from 1.

@@ -1,5 +1,5 @@
 -- What a replay file says: its records, judged in order, each against the ones before it.
-use Rattle.std.specs.Prelude.{ℕ, ◌+◌, ◌||◌, ◌&&◌, Bool, false, List, [], ◌∷◌, Option, Some, None, Result, Ok, Err, if◌then◌else◌, codes}
+use Rattle.std.specs.Prelude.{ℕ, ◌+◌, ◌||◌, ◌&&◌, Bool, true, false, List, [], ◌∷◌, Option, Some, None, Result, Ok, Err, if◌then◌else◌, codes}
 use Rattle.std.specs.Str.{bytes_eq}
 use Rattle.csv.specs.Reading.{default_config, strip_bom, records}
 use Rattle.contest_types.specs.declared.refusal.Refusal.{Refusal}
@@ -82,3 +82,10 @@ result_from so_far fault named n rows = if named || any_names_contest rows then 
 abbrev pub as_some : Judged → Result (Option ReplayLists) Cause
 as_some (Ok r) = Ok (Some r)
 as_some (Err c) = Err c
+
+-- what a file comes to where this was read of it
+abbrev pub ended : {A : Type 0} → (named : Bool) → Option (ℕ × Cause) → Option A → Result A Refusal
+ended false fault so_far = Err Malformed
+ended true (Some fault) so_far = Err (ImportRow fault.0 fault.1)
+ended true None None = Err Malformed
+ended true None (Some r) = Ok r

@@ -1,5 +1,5 @@
 -- What an input that is read to its end, or not, says of the text.
-use Rattle.std.proofs.Common.{◌≡◌, ◌≤◌, ◌<◌, ◌+◌, ◌++◌, ◌⊎◌, inl, inr, refl, ap, subst, ℕ, ℤ, List, Bool, true, false, Option, Some, None, IfSome, Result, Ok, Err, length, length-append, arith, nat_lt, string_bytes}
+use Rattle.std.proofs.Common.{◌≡◌, ◌≤◌, ◌<◌, ◌+◌, ◌⊎◌, inl, inr, refl, subst, ℕ, ℤ, List, Bool, true, false, Option, Some, None, IfSome, Result, Ok, Err, length, arith, nat_lt, string_bytes}
 use Rattle.std.proofs.lemmas.Bool.Decides.{nat_tests}
 use Rattle.clap.specs.Walk.{Text}
 use Rattle.contest_types.specs.declared.refusal.Refusal.{Refusal}

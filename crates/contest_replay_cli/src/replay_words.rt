@@ -1,13 +1,12 @@
 //! The words of `replay`.
-ghost use Rattle.std.specs.Prelude.{◌≡◌, ◌↔◌, IsTrue, false, IfOk, IfErr, codes, map, option_map, []};
+ghost use Rattle.std.specs.Prelude.{◌≡◌, ◌↔◌, IsTrue, IfOk, IfErr, codes, map, option_map, []};
 ghost use Rattle.clap.specs.Simple.{app_of};
-ghost use Rattle.clap.specs.Walk.{rule_of};
-ghost use Rattle.contest_words.specs.Arguments.{HasFlag, faults_in, option, value_of};
+ghost use Rattle.contest_words.specs.Arguments.{HasFlag, faults_in, value_of};
 ghost use Rattle.contest_replay_cli.specs.Asked.{replay_app};
 ghost use Rattle.contest_words.specs.CommandErrors.{RefusesWords};
 
-use clap::{Arg, Command};
-use contest_words::{CommandError, flag, has_flag, headed, matches_in, value_in};
+use clap::Command;
+use contest_words::{CommandError, flag, has_flag, headed, matches_in, option, value_in, with_arg};
 use std::alloc::{AllocError, Global};
 
 /// What the words of `replay` ask for.
@@ -25,31 +24,27 @@ pub(crate) struct Options<'a> {
 pub fn replay_app<'a>(alloc: Global) -> Result<Command<'a>, AllocError>
     ensures { IfOk result (λ c. app_of c ≡ replay_app) }
 {
+    let replay = headed(
+        alloc,
+        "replay",
+        "desk replay",
+        "Reads a contest as CSV on standard input and prints its board",
+    );
     let jury = flag(
         alloc,
         "jury",
         "Shows the jury's board in place of the public's",
     );
+    let replay = with_arg(replay, jury);
     let thawed = flag(alloc, "thawed", "Shows the board as it is after the thaw");
-    headed(
+    let replay = with_arg(replay, thawed);
+    let at = option(
         alloc,
-        "replay",
-        "desk replay",
-        "Reads a contest as CSV on standard input and prints its board",
-    )?
-    .arg(jury)?
-    .arg(thawed)?
-    .arg(moment_option(alloc))
-}
-
-// The option `--at RELTIME`.
-fn moment_option<'a>(alloc: Global) -> Arg<'a>
-    ensures rule { rule_of result ≡ option (codes "at") }
-    ensures local { result.global ≡ false }
-{
-    Arg::new(alloc, "at").long("at").value_name("RELTIME").help(
+        "at",
+        "RELTIME",
         "Shows the board at this contest time, h:mm:ss or h:mm:ss.uuu [default: the end]",
-    )
+    );
+    with_arg(replay, at)
 }
 
 /// The options that the words of `replay` give; the first word is the command's own. The error is

@@ -1,3 +1,4 @@
 mod WordLemmas
 mod RefusalNames
+pub mod ArgumentLemmas
 pub mod StreamLemmas

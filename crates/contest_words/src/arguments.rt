@@ -1,11 +1,11 @@
 //! What clap finds in the words of a command.
-ghost use Rattle.std.specs.Prelude.{◌≡◌, ◌≢◌, ◌↔◌, IsTrue, true, false, IfOk, IfErr, Some, codes, is_some, map, option_map, []};
+ghost use Rattle.std.specs.Prelude.{◌≡◌, ◌≢◌, ◌↔◌, IsTrue, true, false, IfOk, IfErr, IsOkAnd, Some, codes, is_some, map, option_map, []};
 ghost use Rattle.clap.specs.Faults.{is_simple_and_free};
 ghost use Rattle.clap.specs.Kinds.{FailsBy};
 ghost use Rattle.clap.specs.Matches.{found_of};
-ghost use Rattle.clap.specs.Simple.{app_of, new_app};
+ghost use Rattle.clap.specs.Simple.{app_of, new_app, with_rule};
 ghost use Rattle.clap.specs.Walk.{Text, first_of, rows_of, rule_of};
-ghost use Rattle.contest_words.specs.Arguments.{faults_in, flag, rows_in, wants_word, word};
+ghost use Rattle.contest_words.specs.Arguments.{faults_in, flag, option, rows_in, wants_word, word};
 ghost use Rattle.contest_words.specs.CommandErrors.{RefusesWords};
 
 use crate::command_error::CommandError;
@@ -45,6 +45,29 @@ pub fn flag<'a>(alloc: Global, name: &'a str, help: &'a str) -> Arg<'a>
         .long(name)
         .action(ArgAction::SetTrue)
         .help(help)
+}
+
+/// An option with a value: `--name VALUE`.
+pub fn option<'a>(alloc: Global, name: &'a str, value_name: &'a str, help: &'a str) -> Arg<'a>
+    ensures rule { rule_of result ≡ option name.entry.now }
+    ensures local { result.global ≡ false }
+{
+    Arg::new(alloc, name)
+        .long(name)
+        .value_name(value_name)
+        .help(help)
+}
+
+/// A command with one more word, flag or option, where there was memory for what it has so far. The error
+/// is want of memory. So a command is put together in a straight line, and each part is moved but once.
+pub fn with_arg<'a>(
+    command: Result<Command<'a>, AllocError>,
+    arg: Arg<'a>,
+) -> Result<Command<'a>, AllocError>
+    requires { arg.global ≡ false }
+    ensures { IfOk result (λ c. IsOkAnd command.entry (λ old. app_of c ≡ with_rule (app_of old) (rule_of arg.entry))) }
+{
+    command?.arg(arg)
 }
 
 /// What clap finds in the words of a command; the first word is the command's own. The error is what

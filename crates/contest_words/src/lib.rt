@@ -8,7 +8,9 @@ mod help;
 mod output;
 mod refusal_line;
 
-pub use arguments::{flag, has_flag, headed, matches_in, value_in, word, word_in};
+pub use arguments::{
+    flag, has_flag, headed, matches_in, option, value_in, with_arg, word, word_in,
+};
 pub use command_error::CommandError;
 pub use given_words::{borrowed, refuse_arguments};
 pub use help::{asks_help, is_help, show_help};

@@ -6,7 +6,7 @@ ghost use Rattle.contest_types.specs.Valid.{is_valid};
 ghost use Rattle.contest_replay.specs.ReplayContest.{replay_contest, marks_for};
 ghost use Rattle.contest_replay.specs.ReplayRecord.{five_of};
 ghost use Rattle.contest_files.specs.Refused.{Refuses};
-ghost use Rattle.contest_replay.specs.ReplayFile.{contest_in_file, result_from, names_contest, is_header, is_header_text};
+ghost use Rattle.contest_replay.specs.ReplayFile.{contest_in_file, contest_of_records, contest_under, ended, result_from, names_contest, is_header, is_header_text};
 
 use super::builder::ReplayBuilder;
 use super::contest::ReplayContest;
@@ -89,11 +89,18 @@ impl Reading {
         ensures ok { (n : ℕ) → IfOk result (λ r. result_from self.so_far self.fault self.named n [] ≡ Ok r) }
         ensures err { (n : ℕ) → IfErr result (λ e. result_from self.so_far self.fault self.named n [] ≡ Err e) }
     {
-        match (self.named, self.fault, self.so_far) {
-            (true, Some((n, cause)), _) => Err(Refusal::ImportRow(n, cause)),
-            (true, None, Some(builder)) => Ok(builder),
-            _ => Err(Refusal::Malformed),
-        }
+        ended(self.named, self.fault, self.so_far)
+    }
+}
+
+/// What a file comes to where this was read of it.
+fn ended<T: Drop>(named: bool, fault: Option<(u64, Cause)>, so_far: Option<T>) -> Result<T, Refusal>
+    ensures { result ≡ ended named fault so_far }
+{
+    match (named, fault, so_far) {
+        (true, Some((n, cause)), _) => Err(Refusal::ImportRow(n, cause)),
+        (true, None, Some(read)) => Ok(read),
+        _ => Err(Refusal::Malformed),
     }
 }
 
@@ -142,8 +149,37 @@ fn judge_all(
         fault: None,
         named: false,
     };
-    reading.take_all(alloc, records, row)?;
-    reading.finish()
+    let taken = reading.take_all(alloc, records, row);
+    taken.and(reading.finish())
+}
+
+/// Whether the first record is the header, which is taken.
+fn has_header(records: &mut CsvRecords<'_>, row: &mut ByteRecord) -> Result<bool, Refusal>
+    requires { length records.old ≤ 2 ^ 63 }
+    ensures yes { result ≡ Ok true → contest_of_records records.old ≡ contest_under records.new }
+    ensures no { result ≡ Ok false → contest_of_records records.old ≡ Err Refusal.Malformed }
+    ensures few { result ≡ Ok true → length records.new ≤ 2 ^ 63 }
+    ensures err { IfErr result (λ e. e ≡ Refusal.Memory) }
+{
+    Ok(records.next(row)? && is_header(row))
+}
+
+/// The contest of a file's records.
+fn contest_of_records(
+    alloc: Global,
+    records: &mut CsvRecords<'_>,
+    row: &mut ByteRecord,
+) -> Result<ReplayContest, Refusal>
+    requires { length records.old ≤ 2 ^ 63 }
+    ensures ok { IfOk result (λ r. contest_of_records records.old ≡ Ok r) }
+    ensures err { IfErr result (λ e. Refuses e (contest_of_records records.old)) }
+    ensures valid { (thawed : Bool) → IfOk result (λ r. is_valid (replay_contest r.settings (marks_for r.settings thawed) r.submissions) ≡ true) }
+{
+    if !has_header(records, row)? {
+        return Err(Refusal::Malformed);
+    }
+    let builder = judge_all(alloc, records, row)?;
+    Ok(builder.into_contest())
 }
 
 /// The contest of a replay file, which is a valid one.
@@ -159,12 +195,5 @@ pub fn read_replay_csv(alloc: Global, bytes: &[u8]) -> Result<ReplayContest, Ref
 {
     let mut records = CsvRecords::new(alloc, bytes);
     let mut row = ByteRecord::new(alloc);
-    if !records.next(&mut row)? {
-        return Err(Refusal::Malformed);
-    }
-    if !is_header(&row) {
-        return Err(Refusal::Malformed);
-    }
-    let builder = judge_all(alloc, &mut records, &mut row)?;
-    Ok(builder.into_contest())
+    contest_of_records(alloc, &mut records, &mut row)
 }

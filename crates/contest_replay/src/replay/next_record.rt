@@ -1,5 +1,5 @@
 //! One record of a replay, taken into the contest that was read before it.
-ghost use Rattle.std.specs.Prelude.{◌≡◌, Ok, Some, OnOk, IfOk, IfErr};
+ghost use Rattle.std.specs.Prelude.{◌≡◌, Ok, Err, Some, OnOk, IfOk, IfErr, IsOkAnd};
 ghost use Rattle.contest_types.specs.Additions.{IsFaultOf};
 ghost use Rattle.contest_replay.specs.ReplayLists.{first_lists, lists_with, lists_after, or_malformed, with_type_row, with_problem_row, with_team_row};
 ghost use Rattle.contest_replay.specs.ReplayRows.{type_row, problem_row, team_row};
@@ -28,10 +28,7 @@ pub(crate) fn take_record(
     ensures err { IfErr result (λ e. IsFaultOf e (lists_after so_far.old fields.now)) }
 {
     match so_far {
-        None => {
-            *so_far = Some(begin(alloc, fields)?);
-            Ok(())
-        }
+        None => start(so_far, alloc, fields),
         Some(replayed) => grow(replayed, alloc, fields),
     }
 }
@@ -39,8 +36,29 @@ pub(crate) fn take_record(
 // Nearly all records are submissions. The functions of the other kinds aren't made part of their caller,
 // where their locals would be cleared at each record.
 
-/// The contest of the first record.
+/// Takes the first record.
 #[inline(never)]
+fn start(
+    so_far: &mut Option<ReplayBuilder>,
+    alloc: Global,
+    fields: &ReplayRecord<'_>,
+) -> Result<(), RowFault>
+    ensures ok { OnOk result (as_some (first_lists fields.now) ≡ Ok so_far.new) }
+    ensures err { IfErr result (λ e. IsFaultOf e (first_lists fields.now)) }
+{
+    keep(so_far, begin(alloc, fields))
+}
+
+/// Keeps what was begun.
+fn keep<T: Drop>(so_far: &mut Option<T>, begun: Result<T, RowFault>) -> Result<(), RowFault>
+    ensures ok { OnOk result (IsOkAnd begun (λ kept. so_far.new ≡ Some kept)) }
+    ensures err { IfErr result (λ e. begun ≡ Err e) }
+{
+    *so_far = Some(begun?);
+    Ok(())
+}
+
+/// The contest of the first record.
 fn begin(alloc: Global, fields: &ReplayRecord<'_>) -> Result<ReplayBuilder, RowFault>
     ensures ok { IfOk result (λ r. first_lists fields.now ≡ Ok r) }
     ensures err { IfErr result (λ e. IsFaultOf e (first_lists fields.now)) }

@@ -21,16 +21,17 @@ pub(crate) fn head_in(
     ensures value { IfOk result (λ found. found ≡ head_row fields.now) }
     ensures err { IfErr result (λ e. e ≡ Refusal.Memory) }
 {
-    let Some(id) = Id::from_bytes(alloc, fields.id)? else {
-        return Ok(None);
-    };
-    let Some(name) = Name::from_bytes(alloc, fields.f1)? else {
-        return Ok(None);
-    };
+    // What takes no memory comes first: nothing is let go where it is off its form.
     let Some(duration) = time_span(fields.f2) else {
         return Ok(None);
     };
     let Some(freeze) = time_span_or_empty(fields.f3) else {
+        return Ok(None);
+    };
+    let Some(id) = Id::from_bytes(alloc, fields.id)? else {
+        return Ok(None);
+    };
+    let Some(name) = Name::from_bytes(alloc, fields.f1)? else {
         return Ok(None);
     };
     Ok(Some(ContestHead {
@@ -85,6 +86,10 @@ pub(crate) fn problem_in(
     ensures value { IfOk result (λ found. found ≡ problem_row fields.now) }
     ensures err { IfErr result (λ e. e ≡ Refusal.Memory) }
 {
+    // What takes no memory comes first: nothing is let go where it is off its form.
+    let Some(ordinal) = ordinal(fields.f3) else {
+        return Ok(None);
+    };
     let Some(id) = Id::from_bytes(alloc, fields.id)? else {
         return Ok(None);
     };
@@ -92,9 +97,6 @@ pub(crate) fn problem_in(
         return Ok(None);
     };
     let Some(name) = Name::from_bytes(alloc, fields.f2)? else {
-        return Ok(None);
-    };
-    let Some(ordinal) = ordinal(fields.f3) else {
         return Ok(None);
     };
     Ok(Some(Problem {

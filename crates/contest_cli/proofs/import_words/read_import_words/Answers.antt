@@ -27,8 +27,8 @@ matches_in-requires c = ap is_simple_and_free c.in_ok-command.ensures ∙ free
 pub word_in-name-requires : goal.word_in-name-requires
 word_in-name-requires c = c.in_ok-matches.ensures.wanted (codes "KIND") (ap (wants_word (codes "KIND")) c.in_ok-command.ensures ∙ wants_kind)
 
-pub word_in-requires : goal.word_in-requires
-word_in-requires c = c.in_ok-matches.ensures.wanted (codes "FILE") (ap (wants_word (codes "FILE")) c.in_ok-command.ensures ∙ wants_file)
+pub word_in-file-requires : goal.word_in-file-requires
+word_in-file-requires c = c.in_ok-matches.ensures.wanted (codes "FILE") (ap (wants_word (codes "FILE")) c.in_ok-command.ensures ∙ wants_file)
 
-pub word_in-requires-in-Some : goal.word_in-requires-in-Some
-word_in-requires-in-Some c = c.in_ok-matches.ensures.wanted (codes "PATH") (ap (wants_word (codes "PATH")) c.in_ok-command.ensures ∙ wants_path)
+pub word_in-path-requires : goal.word_in-path-requires
+word_in-path-requires c = c.in_ok-matches.ensures.wanted (codes "PATH") (ap (wants_word (codes "PATH")) c.in_ok-command.ensures ∙ wants_path)

@@ -16,5 +16,5 @@ wants_file = refl
 pub matches_in-requires : goal.matches_in-requires
 matches_in-requires c = ap is_simple_and_free c.in_ok-command.ensures ∙ free
 
-pub word_in-requires : goal.word_in-requires
-word_in-requires c = c.in_ok-matches.ensures.wanted (codes "FILE") (ap (wants_word (codes "FILE")) c.in_ok-command.ensures ∙ wants_file)
+pub word_in-file-requires : goal.word_in-file-requires
+word_in-file-requires c = c.in_ok-matches.ensures.wanted (codes "FILE") (ap (wants_word (codes "FILE")) c.in_ok-command.ensures ∙ wants_file)

@@ -1,12 +1,10 @@
-use Rattle.std.proofs.Common.{ap₂, ◌∙◌}
-use Rattle.std.proofs.lemmas.Result.{IfOk-weaker}
-use Rattle.clap.specs.Simple.{with_rule}
+use Rattle.contest_words.proofs.ArgumentLemmas.{adds}
 use Rattle.contest_replay_cli.specs.Asked.{replay_app}
 use Rattle.contest_replay_cli.proofs.replay_words.replay_app.Goals as goal
 
 pub returns : goal.returns
 unfolding replay_app
 returns c =
-    let jury = c.in_ok-arg.ensures.shape c.flag-jury.ensures.local ∙ ap₂ with_rule c.in_ok-headed.ensures c.flag-jury.ensures.rule in
-    let thawed = c.in_ok-arg-2.ensures.shape c.flag-thawed.ensures.local ∙ ap₂ with_rule jury c.flag-thawed.ensures.rule in
-    IfOk-weaker c.arg-3.result _ _ (λ r h. h.shape c.moment_option.ensures.local ∙ ap₂ with_rule thawed c.moment_option.ensures.rule) c.arg-3.ensures
+    let jury = adds c.headed-replay.result c.with_arg-replay.result _ _ _ c.headed-replay.ensures c.flag-jury.ensures.rule c.with_arg-replay.ensures in
+    let thawed = adds c.with_arg-replay.result c.with_arg-replay-2.result _ _ _ jury c.flag-thawed.ensures.rule c.with_arg-replay-2.ensures in
+    adds c.with_arg-replay-2.result c.with_arg.result _ _ _ thawed c.option-at.ensures.rule c.with_arg.ensures
