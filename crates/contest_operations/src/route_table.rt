@@ -18,7 +18,7 @@ const NOTHING: Offer = Offer {
 
 /// The text of each route, as matchit reads it, and what is offered there (paths are the Contest API
 /// 2023-06's; those under `/jury/` are own).
-const ROUTES: [(&str, Offer); 31] = [
+static ROUTES: [(&str, Offer); 31] = [
     (
         "/contests",
         Offer {
@@ -180,10 +180,10 @@ const ROUTES: [(&str, Offer); 31] = [
     ("/jury/rejudgings/{n}/cancel", NOTHING),
 ];
 
-fn rows() -> [(&'static str, Offer); 31]
-    ensures { map (λ row. (row.0.now, row.1)) result ≡ route_rows }
+fn rows() -> &'static [(&'static str, Offer); 31]
+    ensures { map (λ row. (row.0.now, row.1)) result.now ≡ route_rows }
 {
-    ROUTES
+    &ROUTES
 }
 
 /// The table of all routes.
@@ -196,7 +196,7 @@ pub fn routes(alloc: Global) -> Result<Router<Offer>, AllocError>
 {
     let rows = rows();
     let mut table = Router::new(alloc);
-    for (text, offer) in &rows {
+    for (text, offer) in rows {
         add(&mut table, text, *offer)?;
     }
     Ok(table)

@@ -1,5 +1,5 @@
 //! A contest that is set up: its tables are made where there is none, and compared where they stand.
-ghost use Rattle.std.specs.Prelude.{◌≡◌, ◌⊎◌, ◌↔◌, [], IfErr, IfOk, IfSome, IsTrue, OnOk, Some, false};
+ghost use Rattle.std.specs.Prelude.{◌≡◌, ◌⊎◌, ◌↔◌, [], IfErr, IfOk, IfSome, IsTrue, OnOk, Some, false, true};
 ghost use Rattle.sqlite.specs.State.{HasCleanDisk, Survives};
 ghost use Rattle.contest_types.specs.State.{new_contest};
 ghost use Rattle.contest_types.specs.Valid.{is_valid};
@@ -56,10 +56,18 @@ fn shared_if_valid(alloc: Global, fixed: Fixed) -> Result<Rc<Fixed>, Refusal>
     ensures valid { OnOk result (IsTrue (is_valid (without_rows fixed))) }
     ensures refused { IfErr result (λ e. (e ≡ Refusal.Memory) ⊎ ((e ≡ Refusal.Malformed) × (is_valid (without_rows fixed) ≡ false))) }
 {
-    if !is_valid_fixed(&fixed) {
+    let is_valid = is_valid_fixed(&fixed);
+    share_if(alloc, fixed, is_valid)
+}
+
+fn share_if<T: Drop>(alloc: Global, value: T, is_valid: bool) -> Result<Rc<T>, Refusal>
+    ensures value { IfOk result (λ shared. (shared.value ≡ value) × (is_valid ≡ true)) }
+    ensures refused { IfErr result (λ e. (e ≡ Refusal.Memory) ⊎ ((e ≡ Refusal.Malformed) × (is_valid ≡ false))) }
+{
+    if !is_valid {
         return Err(Refusal::Malformed);
     }
-    match Rc::new(alloc, fixed) {
+    match Rc::new(alloc, value) {
         Ok(shared) => Ok(shared),
         Err(_) => Err(Refusal::Memory),
     }

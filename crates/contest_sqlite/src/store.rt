@@ -203,7 +203,9 @@ impl<S: Alter> ContestStore for Store<S> {
     }
 
     fn append(&mut self, alloc: Global, entry: Entry) -> Result<(), StoreError> {
-        self.keeper.append(alloc, &entry)
+        let done = self.keeper.append(alloc, &entry);
+        drop(entry);
+        done
     }
 
     // Beyond what any store promises: where no change was made since the last commit, it is answered

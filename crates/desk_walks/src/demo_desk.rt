@@ -87,18 +87,26 @@ fn set_up(alloc: Global, walk: &str) -> Result<Rc<Fixed>, Fail> {
 /// The contest with the marks of the clock that a walk sets.
 fn fixed(alloc: Global, walk: &str) -> Result<Rc<Fixed>, Fail> {
     let demo = set_up(alloc, walk)?;
-    let mut fixed = copied_fixed(alloc, &demo)?;
-    set_marks(&mut fixed.marks, walk)?;
-    Ok(Rc::new(alloc, fixed)?)
+    let marks = marks_of(demo.marks.start, walk);
+    marked(alloc, &demo, marks)
 }
 
-fn set_marks(marks: &mut Marks, walk: &str) -> Result<(), Refusal> {
-    if walk.split_once("\nno start is set\n").is_some() {
-        marks.start = None;
-    }
-    marks.thaw = moment_after(walk, "thawed from: ")?;
-    marks.finalized = moment_after(walk, "final from: ")?;
-    Ok(())
+/// A contest with other marks.
+fn marked(alloc: Global, fixed: &Fixed, marks: Result<Marks, Refusal>) -> Result<Rc<Fixed>, Fail> {
+    let marks = marks?;
+    let mut copy = copied_fixed(alloc, fixed)?;
+    copy.marks = marks;
+    Ok(Rc::new(alloc, copy)?)
+}
+
+/// The marks that a walk sets, where the contest starts at this moment.
+fn marks_of(start: Option<Moment>, walk: &str) -> Result<Marks, Refusal> {
+    let is_set = walk.split_once("\nno start is set\n").is_none();
+    Ok(Marks {
+        start: if is_set { start } else { None },
+        thaw: moment_after(walk, "thawed from: ")?,
+        finalized: moment_after(walk, "final from: ")?,
+    })
 }
 
 /// The moment that stands after these words, up to the end of the line.

@@ -1,6 +1,7 @@
 //! A store over the files at a path.
 ghost use Rattle.std.specs.Prelude.{◌≡◌, ◌≢◌, IfOk};
 ghost use Rattle.sqlite.specs.Files.{AreFoundIn, file_state, over_files};
+ghost use Rattle.sqlite.specs.Held.{state};
 ghost use Rattle.sqlite.specs.State.{HasCleanDisk};
 ghost use Rattle.sqlite.specs.WalFiles.{image_at};
 ghost use Rattle.contest_tables.specs.Connected.{IsBare};
@@ -11,7 +12,7 @@ ghost use Rattle.store_probe.specs.Found.{OpensOver};
 use contest_sqlite::Store;
 use contest_tables::{Standing, Tables};
 use contest_types::Refusal;
-use sqlite::{Connection, Error, ErrorCode, FileFrom, FileStore, Start};
+use sqlite::{Alter, Connection, Error, ErrorCode, FileFrom, FileStore, Start};
 
 /// The store over the tables that the files hold, of whatever first contents.
 ///
@@ -46,7 +47,16 @@ pub(crate) fn open_bare<S: Start>(
 ) -> Result<Connection<FileStore<FileFrom<S>>>, Refusal>
     ensures { IfOk result (λ conn. IsBare (file_state conn)) }
 {
-    let tables = Tables::new(open_files(rt, path, start)?);
+    bare(open_files(rt, path, start)?)
+}
+
+// A connection on which no table stands. It is for any disk: over one kind alone its proof takes many
+// times as long.
+fn bare<S: Alter + Drop>(conn: Connection<S>) -> Result<Connection<S>, Refusal>
+    requires { IsNumbered (state S.Store conn) }
+    ensures { IfOk result (λ conn. IsBare (state S.Store conn)) }
+{
+    let tables = Tables::new(conn);
     match tables.standing() {
         Standing::Bare => Ok(tables.into_connection()),
         Standing::Desk | Standing::Foreign => Err(Refusal::KeyReused),

@@ -8,6 +8,10 @@
 //! - `store_probe demo FILE TEAMS PROBLEMS` makes the demo contest with the first so many of each.
 #![tactic(auto)]
 
+ghost use Rattle.sqlite.specs.Held.{state};
+ghost use Rattle.contest_tables.specs.Connected.{IsBare};
+ghost use Rattle.contest_sqlite.specs.Opening.{IsNew};
+
 mod demo_file;
 mod files;
 mod tasks;
@@ -18,11 +22,12 @@ use crate::demo_file::make_demo;
 use crate::files::{open_bare, open_store};
 use crate::tasks::{counts_of, thaw};
 use crate::walk::walk;
-use crate::words::{Task, task_of};
+use crate::words::{Task, Work, task_of};
+use contest_sqlite::Store;
 use contest_store::ContestStore;
 use contest_types::Refusal;
-use sqlite::Unknown;
-use std::alloc::AllocError;
+use sqlite::{Alter, Connection, Unknown};
+use std::alloc::{AllocError, Global};
 use std::process::ExitCode;
 use std::{env, io};
 
@@ -58,25 +63,46 @@ fn words_of(rt: &HostRuntime) -> Result<Vec<String>, Refusal> {
 }
 
 fn answer(rt: &HostRuntime, task: Task<'_>) -> Result<Done, Refusal> {
-    match task {
-        Task::Open(path) => {
-            let store = open_store(rt, path, Unknown)?;
-            Ok(Done::Opened(counts_of(store.lists())))
-        }
-        Task::Thaw(path, moment) => {
-            let mut store = open_store(rt, path, Unknown)?;
-            thaw(rt.alloc(), &mut store, moment)?;
+    let Task { path, work } = task;
+    if let Work::Demo(teams, problems) = work {
+        let conn = open_bare(rt, path, Unknown)?;
+        return demo_in(rt.alloc(), conn, teams, problems);
+    }
+    let mut store = open_store(rt, path, Unknown)?;
+    answer_of(rt, &mut store, work)
+}
+
+// These two are for any disk: a proof over one kind of disk alone takes many times as long.
+
+// What is asked of a store that stands; a demo contest isn't made over one.
+fn answer_of<S: Alter>(rt: &HostRuntime, store: &mut Store<S>, work: Work) -> Result<Done, Refusal>
+    requires { IsNew store.old }
+{
+    match work {
+        Work::Count => Ok(Done::Opened(counts_of(store.lists()))),
+        Work::Thaw(moment) => match thaw(rt.alloc(), store, moment) {
+            Ok(()) => Ok(Done::All),
+            Err(refusal) => Err(refusal),
+        },
+        Work::Walk(first, second) => {
+            walk(rt, store, first, second);
             Ok(Done::All)
         }
-        Task::Walk(path, first, second) => {
-            let mut store = open_store(rt, path, Unknown)?;
-            walk(rt, &mut store, first, second);
-            Ok(Done::All)
-        }
-        Task::Demo(path, teams, problems) => {
-            make_demo(rt.alloc(), open_bare(rt, path, Unknown)?, teams, problems)?;
-            Ok(Done::All)
-        }
+        Work::Demo(_, _) => Err(Refusal::KeyReused),
+    }
+}
+
+fn demo_in<S: Alter + Drop>(
+    alloc: Global,
+    conn: Connection<S>,
+    teams: usize,
+    problems: usize,
+) -> Result<Done, Refusal>
+    requires { IsBare (state S.Store conn) }
+{
+    match make_demo(alloc, conn, teams, problems) {
+        Ok(()) => Ok(Done::All),
+        Err(refusal) => Err(refusal),
     }
 }
 

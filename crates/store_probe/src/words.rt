@@ -2,36 +2,63 @@
 
 use contest_types::Moment;
 
+/// What is to be done with the file at a path.
+#[derive(Clone, Copy)]
+pub(crate) struct Task<'a> {
+    pub(crate) path: &'a str,
+    pub(crate) work: Work,
+}
+
 /// What is to be done with a file.
 #[derive(Clone, Copy)]
-pub(crate) enum Task<'a> {
-    /// To open it.
-    Open(&'a str),
+pub(crate) enum Work {
+    /// To open the contest in it, and to count its rows.
+    Count,
     /// To open it, and to set the thaw.
-    Thaw(&'a str, Moment),
+    Thaw(Moment),
     /// To open it, and to go through calls of the store, which set the thaw to these in turn.
-    Walk(&'a str, Moment, Moment),
+    Walk(Moment, Moment),
     /// To make the demo contest in it, with the first so many teams and problems.
-    Demo(&'a str, usize, usize),
+    Demo(usize, usize),
 }
 
 /// What the words ask for, if they ask for something.
 pub(crate) fn task_of(words: &[String]) -> Option<Task<'_>> {
     match words {
-        [name, path] if name.as_str() == "open" => Some(Task::Open(path.as_str())),
-        [name, path, time] if name.as_str() == "thaw" => match moment_of(time.as_str()) {
-            Some(moment) => Some(Task::Thaw(path.as_str(), moment)),
-            None => None,
-        },
-        [name, path, first, second] => task_of_two(name.as_str(), path.as_str(), first, second),
+        [name, path] => Some(Task {
+            path: path.as_str(),
+            work: work_of_none(name.as_str())?,
+        }),
+        [name, path, time] => Some(Task {
+            path: path.as_str(),
+            work: work_of_one(name.as_str(), time.as_str())?,
+        }),
+        [name, path, first, second] => Some(Task {
+            path: path.as_str(),
+            work: work_of_two(name.as_str(), first.as_str(), second.as_str())?,
+        }),
         _ => None,
     }
 }
 
-fn task_of_two<'a>(name: &str, path: &'a str, first: &str, second: &str) -> Option<Task<'a>> {
+fn work_of_none(name: &str) -> Option<Work> {
     match name {
-        "walk" => Some(Task::Walk(path, moment_of(first)?, moment_of(second)?)),
-        "demo" => Some(Task::Demo(path, number_of(first)?, number_of(second)?)),
+        "open" => Some(Work::Count),
+        _ => None,
+    }
+}
+
+fn work_of_one(name: &str, time: &str) -> Option<Work> {
+    match name {
+        "thaw" => Some(Work::Thaw(moment_of(time)?)),
+        _ => None,
+    }
+}
+
+fn work_of_two(name: &str, first: &str, second: &str) -> Option<Work> {
+    match name {
+        "walk" => Some(Work::Walk(moment_of(first)?, moment_of(second)?)),
+        "demo" => Some(Work::Demo(number_of(first)?, number_of(second)?)),
         _ => None,
     }
 }

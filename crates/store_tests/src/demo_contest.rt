@@ -1,7 +1,8 @@
 //! The demo contest in both stores.
-ghost use Rattle.std.specs.Prelude.{◌≡◌, IfOk};
+ghost use Rattle.std.specs.Prelude.{◌≡◌, IfOk, IsTrue};
 ghost use Rattle.contest_types.specs.State.{new_contest};
 ghost use Rattle.contest_types.specs.declared.contest.Contest.{Contest as TheContest};
+ghost use Rattle.contest_demo.specs.Filling.{IsJustCreated};
 ghost use Rattle.contest_store.specs.InMemory.{committed_of, contest_of};
 
 use crate::memory_changes::counts;
@@ -38,11 +39,24 @@ fn in_memory(alloc: Global) -> Result<MemoryStore, Fail>
     Ok(MemoryStore::new(alloc, Rc::new(alloc, fixed)?))
 }
 
-fn filled_memory(alloc: Global, teams: usize, problems: usize) -> Result<[usize; 9], Fail> {
-    let mut store = in_memory(alloc)?;
-    demo::fill(alloc, &mut store, teams, problems)?;
+/// Fills any store in which nothing stands, and counts what stands then.
+fn filled<S: ContestStore>(
+    alloc: Global,
+    store: &mut S,
+    teams: usize,
+    problems: usize,
+) -> Result<[usize; 9], Fail>
+    requires loaded { IsTrue (S.kept store.old).is_loaded }
+    requires created { IsJustCreated (S.kept store.old) }
+{
+    demo::fill(alloc, store, teams, problems)?;
     store.load(alloc)?;
     Ok(counts(store.lists()))
+}
+
+fn filled_memory(alloc: Global, teams: usize, problems: usize) -> Result<[usize; 9], Fail> {
+    let mut store = in_memory(alloc)?;
+    filled(alloc, &mut store, teams, problems)
 }
 
 fn filled_tables(alloc: Global, teams: usize, problems: usize) -> Result<[usize; 9], Fail> {
@@ -50,9 +64,7 @@ fn filled_tables(alloc: Global, teams: usize, problems: usize) -> Result<[usize;
     match Store::create(alloc, no_tables(alloc)?, contest) {
         Ok(store) => {
             let mut store = store;
-            demo::fill(alloc, &mut store, teams, problems)?;
-            store.load(alloc)?;
-            Ok(counts(store.lists()))
+            filled(alloc, &mut store, teams, problems)
         }
         Err(why) => Err(refused(why)),
     }
