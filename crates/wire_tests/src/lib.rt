@@ -9,6 +9,8 @@ mod exchange;
 #[cfg(test)]
 mod reading;
 #[cfg(test)]
+mod socket;
+#[cfg(test)]
 mod streams;
 #[cfg(test)]
 mod writing;

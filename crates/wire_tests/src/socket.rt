@@ -1,0 +1,52 @@
+//! A request over a connection of the machine itself.
+
+use crate::demo_desk::desk;
+use crate::exchange::{POST, TAKEN};
+use contest_fixtures::{after, text_of};
+use contest_http::{ServeFault, Served, serve_one};
+use contest_types::Counted;
+use std::alloc::Global;
+use std::io::{Read, Write};
+use std::net::{Ipv4Addr, Shutdown, TcpListener, TcpStream};
+use std::test::Fail;
+
+/// Serves the one request of a connection, and then ends what is written to it.
+fn serve_over(
+    alloc: Global,
+    reader: TcpStream,
+    writer: TcpStream,
+) -> Result<Result<Served, ServeFault>, Fail> {
+    let mut desk = desk(alloc)?;
+    let mut reader = Counted::new(reader);
+    let mut writer = Counted::new(writer);
+    let served = serve_one(alloc, &mut reader, &mut writer, &mut desk, after(300_000)?);
+    writer.into_inner().shutdown(Shutdown::Write)?;
+    Ok(served)
+}
+
+/// How the post of a client is served that connects to a listener of its own.
+fn serve_client(
+    alloc: Global,
+    listener: &TcpListener,
+    client: &mut TcpStream,
+) -> Result<Result<Served, ServeFault>, Fail> {
+    client.write_all(POST.as_bytes())?;
+    let (stream, _) = listener.accept()?;
+    let writer = stream.try_clone()?;
+    serve_over(alloc, stream, writer)
+}
+
+#[test]
+fn answers_a_client_that_connects(rt: HostRuntime) -> Result<(), Fail> {
+    let listener = TcpListener::bind(&rt, (Ipv4Addr::LOCALHOST, 0))?;
+    let mut client = TcpStream::connect(&rt, listener.local_addr()?)?;
+    let served = serve_client(rt.alloc(), &listener, &mut client)?;
+    let mut reply = Vec::new(rt.alloc());
+    client.read_to_end(&mut reply)?;
+    assert!(rt;
+        served == Ok(Served::Answered(200)) && text_of(&reply) == TAKEN,
+        "{}",
+        text_of(&reply)
+    );
+    Ok(())
+}
