@@ -18,6 +18,14 @@ pub(crate) fn fits(n: usize) -> bool
     n < i64::MAX as usize
 }
 
+/// Whether cells hold the numbers after both.
+pub(crate) fn both_fit(n: usize, m: usize) -> bool
+    ensures first { IsTrue result → n + 1 < 2 ^ 63 }
+    ensures second { IsTrue result → m + 1 < 2 ^ 63 }
+{
+    fits(n) && fits(m)
+}
+
 pub(crate) fn add_submission<S: Alter>(
     tables: &mut Tables<S>,
     lists: &Lists,
@@ -26,7 +34,7 @@ pub(crate) fn add_submission<S: Alter>(
     ensures { Appends result (shown_by S.Store tables.old) (shown_by S.Store tables.new) (counts_of tables.old) (counts_of tables.new) lists.now (NewSubmission submission.now) }
 {
     let row = lists.submissions().len();
-    if !(fits(row) && fits(submission.team) && fits(submission.number)) {
+    if !(fits(row) && both_fit(submission.team, submission.number)) {
         return Err(tables.give_up(StoreError::Fault));
     }
     tables.insert(
@@ -43,7 +51,7 @@ pub(crate) fn add_proposal<S: Alter>(
     ensures { Appends result (shown_by S.Store tables.old) (shown_by S.Store tables.new) (counts_of tables.old) (counts_of tables.new) lists.now (NewProposal proposal.now) }
 {
     let row = lists.proposals().len();
-    if !(fits(row) && fits(proposal.team) && fits(proposal.number)) {
+    if !(fits(row) && both_fit(proposal.team, proposal.number)) {
         return Err(tables.give_up(StoreError::Fault));
     }
     tables.insert(
@@ -60,7 +68,7 @@ pub(crate) fn add_release<S: Alter>(
     ensures { Appends result (shown_by S.Store tables.old) (shown_by S.Store tables.new) (counts_of tables.old) (counts_of tables.new) lists.now (NewRelease release.now) }
 {
     let row = lists.releases().len();
-    if !(fits(row) && fits(release.team) && fits(release.number) && fits(release.round)) {
+    if !(both_fit(row, release.round) && both_fit(release.team, release.number)) {
         return Err(tables.give_up(StoreError::Fault));
     }
     tables.insert(

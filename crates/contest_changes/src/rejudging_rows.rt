@@ -9,7 +9,7 @@ ghost use Rattle.contest_tables.specs.declared.table_name.TableName.TheVariants.
 ghost use Rattle.contest_changes.specs.Additions.{Admits, Appends, HasAdded};
 ghost use Rattle.contest_changes.specs.Laws.{with_members, member_state_given, state_given};
 
-use crate::list_rows::fits;
+use crate::list_rows::{both_fit, fits};
 use contest_rows::{
     account_cell, is_ready, member_cells, number, rejudging_cells, state_number, type_cell,
 };
@@ -71,7 +71,7 @@ fn add_member<S: Alter>(
         (HasInserted Members (member_row lists.now.fixed.settings (length lists.now.rejudgings + 1) (place + 1) member.now)) (MakesNone (shown_by S.Store tables.old) Full) }
 {
     let rejudging = lists.rejudgings().len();
-    if !(fits(rejudging) && fits(place) && fits(member.team) && fits(member.number)) {
+    if !(both_fit(rejudging, place) && both_fit(member.team, member.number)) {
         return Err(tables.give_up(StoreError::Fault));
     }
     let settings = &lists.fixed().settings;
@@ -112,7 +112,7 @@ pub(crate) fn set_member<S: Alter>(
 ) -> Result<(), StoreError>
     ensures { Appends result (shown_by S.Store tables.old) (shown_by S.Store tables.new) (counts_of tables.old) (counts_of tables.new) lists.now (SetMember n place state.now) }
 {
-    if !(fits(n) && fits(place)) {
+    if !both_fit(n, place) {
         return Err(tables.give_up(StoreError::Fault));
     }
     let settings = &lists.fixed().settings;

@@ -1,6 +1,8 @@
 //! The settings, the accounts and the marks of the contest that the rows of four tables are.
-ghost use Rattle.std.specs.Prelude.{◌≡◌, IfOk};
-ghost use Rattle.std.specs.Option.{option_map};
+ghost use Rattle.std.specs.Prelude.{◌≡◌, IfOk, IfSome, IsOkAnd, None, Some, if◌then◌else◌};
+ghost use Rattle.std.specs.Option.{option_and_then, option_map};
+ghost use Rattle.contest_fixed_rows.specs.AccountRows.{accounts_in};
+ghost use Rattle.contest_fixed_rows.specs.Items.{items_in};
 ghost use Rattle.contest_rows.specs.Cells.{same_row};
 ghost use Rattle.contest_rows.specs.FixedRows.{contest_row};
 ghost use Rattle.contest_fixed_rows.specs.FixedParts.{fixed_if, fixed_in, fixed_of_row, fixed_said, is_desk, only, settings_in, setup_of};
@@ -9,7 +11,7 @@ use crate::accounts::read_accounts;
 use crate::heads::{contest_cells, desk_cells, head_in, marks_in};
 use crate::settings::add_items_in;
 use contest_rows::is_row;
-use contest_types::{ContestHead, Fixed, Settings};
+use contest_types::{ContestHead, Fixed, Marks, Settings};
 use sqlite::Row;
 use std::alloc::{AllocError, Global};
 
@@ -99,15 +101,42 @@ fn fixed_said(
     let Some(marks) = marks_in(contest) else {
         return Ok(None);
     };
-    let Some(settings) = settings_in(alloc, contest, items)? else {
-        return Ok(None);
-    };
-    match read_accounts(alloc, &settings, accounts)? {
-        Some(accounts) => Ok(Some(Fixed {
+    match settings_in(alloc, contest, items)? {
+        Some(settings) => with_accounts(alloc, settings, marks, accounts),
+        None => Ok(None),
+    }
+}
+
+// The settings with the accounts that rows are.
+fn with_accounts(
+    alloc: Global,
+    settings: Settings,
+    marks: Marks,
+    accounts: &[Row],
+) -> Result<Option<Fixed>, AllocError>
+    ensures { IfOk result (λ found. found ≡ option_and_then (λ named. Some (record { settings = settings; accounts = named; marks = marks })) (accounts_in settings accounts.now)) }
+{
+    let accounts = read_accounts(alloc, &settings, accounts);
+    match beside(settings, accounts)? {
+        Some((settings, accounts)) => Ok(Some(Fixed {
             settings,
             accounts,
             marks,
         })),
+        None => Ok(None),
+    }
+}
+
+// Both, where the second was found.
+fn beside<A: Drop, B: Drop>(
+    first: A,
+    second: Result<Option<B>, AllocError>,
+) -> Result<Option<(A, B)>, AllocError>
+    ensures first { IfOk result (λ found. IfSome found (λ both. both.0 ≡ first)) }
+    ensures second { IfOk result (λ found. IsOkAnd second (λ s. option_map (λ both. both.1) found ≡ s)) }
+{
+    match second? {
+        Some(second) => Ok(Some((first, second))),
         None => Ok(None),
     }
 }
@@ -118,14 +147,30 @@ fn settings_in(alloc: Global, contest: &Row, items: &[Row]) -> Result<Option<Set
     let Some(head) = head_in(alloc, contest)? else {
         return Ok(None);
     };
-    let Some(mut settings) = setup_of(alloc, head) else {
-        return Ok(None);
-    };
-    if add_items_in(alloc, &mut settings, items)? {
-        Ok(Some(settings))
-    } else {
-        Ok(None)
+    match setup_of(alloc, head) {
+        Some(settings) => with_items(alloc, settings, items),
+        None => Ok(None),
     }
+}
+
+// The settings with the items that rows are.
+fn with_items(
+    alloc: Global,
+    settings: Settings,
+    items: &[Row],
+) -> Result<Option<Settings>, AllocError>
+    ensures { IfOk result (λ found. found ≡ items_in settings items.now) }
+{
+    let mut settings = settings;
+    let added = add_items_in(alloc, &mut settings, items);
+    value_if(added, settings)
+}
+
+// A value where it was made whole.
+fn value_if<T: Drop>(whole: Result<bool, AllocError>, value: T) -> Result<Option<T>, AllocError>
+    ensures { IfOk result (λ found. IsOkAnd whole (λ w. found ≡ (if w then Some value else None))) }
+{
+    if whole? { Ok(Some(value)) } else { Ok(None) }
 }
 
 fn setup_of(alloc: Global, head: ContestHead) -> Option<Settings>

@@ -2,6 +2,7 @@
 ghost use Rattle.std.specs.Prelude.{◌≡◌, IfOk, map};
 ghost use Rattle.contest_types.specs.Loads.{without_file};
 
+use crate::outcomes::both;
 use contest_types::{
     Account, Clarification, Fixed, Member, MemberState, Proposal, Proposer, Rejudging, Release,
     Rows, Submission,
@@ -65,9 +66,12 @@ pub fn without_file(alloc: Global, submission: &Submission) -> Result<Submission
 pub fn copied_fixed(alloc: Global, fixed: &Fixed) -> Result<Fixed, AllocError>
     ensures { IfOk result (λ copy. copy ≡ fixed.now) }
 {
+    let settings = fixed.settings.copied(alloc);
+    let accounts = copies(alloc, fixed.accounts.as_slice());
+    let (settings, accounts) = both(settings, accounts)?;
     Ok(Fixed {
-        settings: fixed.settings.copied(alloc)?,
-        accounts: Rows::from_vec(copies(alloc, fixed.accounts.as_slice())?),
+        settings,
+        accounts: Rows::from_vec(accounts),
         marks: fixed.marks,
     })
 }

@@ -7,6 +7,7 @@ ghost use Rattle.contest_types.specs.State.{ContestState, add};
 ghost use Rattle.contest_types.specs.declared.refusal.Cause.{Cause as TheCause};
 
 use crate::copies::{CopyRow, copied_fixed};
+use crate::outcomes::value_if;
 use contest_types::{Account, Entry, Fixed, Identified, RowFault, Rows};
 use std::alloc::{AllocError, Global};
 use std::mem::replace;
@@ -28,8 +29,8 @@ fn changed(alloc: Global, fixed: Fixed, entry: &Entry) -> Result<Fixed, AllocErr
     ensures { IfOk result (λ changed. (x : ContestState) → x.fixed ≡ fixed → is_addable x entry.now ≡ true → changed ≡ (add x entry.now).fixed) }
 {
     let mut fixed = fixed;
-    change(alloc, &mut fixed, entry)?;
-    Ok(fixed)
+    let changed = change(alloc, &mut fixed, entry);
+    value_if(changed, fixed)
 }
 
 fn shared(alloc: Global, fixed: Fixed) -> Result<Rc<Fixed>, AllocError>

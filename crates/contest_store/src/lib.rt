@@ -7,6 +7,7 @@ mod fixed_changes;
 mod indexed_submissions;
 mod lists;
 mod memory;
+mod outcomes;
 mod store;
 mod store_error;
 mod valid_fixed;

@@ -239,9 +239,12 @@ impl ContestStore for MemoryStore {
 
     fn append(&mut self, alloc: Global, entry: Entry) -> Result<(), StoreError> {
         if self.fails() {
+            drop(entry);
             return Err(StoreError::Fault);
         }
-        match self.add(alloc, &entry) {
+        let added = self.add(alloc, &entry);
+        drop(entry);
+        match added {
             Ok(()) => Ok(()),
             Err(AllocError) => Err(self.refuse()),
         }
