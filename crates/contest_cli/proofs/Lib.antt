@@ -1,4 +1,2 @@
 mod ExamplesCommands
-mod HostLemmas
 mod CommandLemmas
-mod NumberLemmas

@@ -6,28 +6,16 @@ use Rattle.clap.specs.Walk.{Text}
 use Rattle.sqlite_trees.specs.declared.store.Store.{Ghosts}
 use Rattle.sqlite.specs.Held.{Held, state}
 use Rattle.contest_types.specs.Streams.{Stream, Tells}
-use Rattle.contest_types.specs.declared.refusal.Refusal.TheVariants.{Memory, StoreFault}
 use Rattle.contest_import.specs.declared.import_kind.ImportKind.{ImportKind}
-use Rattle.contest_sqlite.specs.Opening.{IsNumbered}
+use Rattle.contest_machine.specs.Unopened.{IsUnopened}
+use Rattle.contest_tables.specs.Numbered.{IsNumbered}
 use Rattle.contest_commands.specs.Import.{Imports}
-use Rattle.contest_cli.specs.ImportWords.{HasImportFault, NamesImport}
+use Rattle.contest_command_words.specs.ImportWords.{HasImportFault, NamesImport}
 use Rattle.contest_commands.specs.Init.{Inits}
-use Rattle.contest_cli.specs.InitWords.{HasInitFault, NamesInit}
+use Rattle.contest_command_words.specs.InitWords.{HasInitFault, NamesInit}
 use Rattle.contest_words.specs.CommandErrors.{IsMemory, IsWords, exit_status_of, line_of}
 use Rattle.contest_words.specs.declared.command_error.CommandError.{CommandError}
-use Rattle.contest_words.specs.declared.command_error.CommandError.TheVariants.{Clock, File, Refused}
-
--- an SQLite file that can't be opened, or memory for it was refused
-abbrev pub IsNoStore : CommandError → Type 0
-IsNoStore stop = (stop ≡ Refused StoreFault) ⊎ (stop ≡ Refused Memory)
-
--- a file that can't be opened, or memory for it was refused
-abbrev pub IsNoFile : CommandError → Type 0
-IsNoFile stop = (stop ≡ File) ⊎ (stop ≡ Refused Memory)
-
--- one of the two files
-abbrev pub IsUnopened : CommandError → Type 0
-IsUnopened stop = IsNoStore stop ⊎ IsNoFile stop
+use Rattle.contest_words.specs.declared.command_error.CommandError.TheVariants.{Clock}
 
 -- the words of `init` name files
 abbrev pub NamesFiles : List Text → Type 0

@@ -1,9 +1,5 @@
-pub mod InitWords
-pub mod ImportWords
 pub mod Commands
 pub mod FileCommands
-pub mod ServeWords
 pub mod ServeCommand
-pub mod BoardWords
 pub mod BoardCommand
 pub mod Runs

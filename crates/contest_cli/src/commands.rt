@@ -10,11 +10,8 @@ ghost use Rattle.contest_cli.specs.declared.invocation.CommandName.{CommandName}
 
 use crate::file_commands::{board_by_words, import_by_words, init_by_words, serve_by_words};
 use crate::help::{HELP, show_help_of};
-use crate::host::Host;
-use crate::host_network::{HostListener, HostNetwork};
 use crate::invocation::{CommandName, Invocation, invocation_of};
-use crate::machine::Machine;
-use contest_commands::{Listen, Network};
+use contest_machine::{Host, HostListener, HostNetwork, Listen, Machine, Network};
 use contest_replay_cli::replay;
 use contest_types::Refusal;
 use contest_types::streams::Counted;

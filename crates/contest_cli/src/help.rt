@@ -2,12 +2,9 @@
 ghost use Rattle.contest_types.specs.Streams.{stream};
 ghost use Rattle.contest_words.specs.Endings.{ShowsSome};
 
-use crate::board_words::board_app;
-use crate::import_words::import_app;
-use crate::init_words::init_app;
 use crate::invocation::CommandName;
-use crate::serve_words::serve_app;
 use clap::Command;
+use contest_command_words::{board_app, import_app, init_app, serve_app};
 use contest_replay_cli::replay_app;
 use contest_types::Refusal;
 use contest_types::streams::Counted;

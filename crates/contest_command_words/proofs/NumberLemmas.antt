@@ -5,7 +5,7 @@ use Rattle.std.specs.Str.Parse.{IsNumeral, digits_value}
 use Rattle.std.proofs.lemmas.Bool.Decides.{nat_tests}
 use Rattle.contest_types.specs.RelTimeRead.{are_digits}
 use Rattle.contest_types.proofs.RelTimeReading.{numeral, are_numeral}
-use Rattle.contest_cli.specs.ServeWords.{number_to}
+use Rattle.contest_command_words.specs.ServeWords.{number_to}
 
 at_most : (m n : ℕ) → nat_le m n ≡ true → m ≤ n
 at_most m n h = grind (arith, nat_tests)

@@ -3,11 +3,11 @@ use Rattle.std.specs.Prelude.{◌≡◌, ◌≢◌, ◌⊎◌, ℕ, List, [], Op
 use Rattle.clap.specs.Simple.{App, new_app, with_rule}
 use Rattle.clap.specs.Walk.{Text}
 use Rattle.contest_types.specs.MomentText.{IsMomentText}
-use Rattle.contest_commands.specs.declared.asked_board.AskedBoard.{AskedBoard}
-use Rattle.contest_commands.specs.declared.asked_board.BoardFormat.{BoardFormat}
-use Rattle.contest_commands.specs.declared.asked_board.BoardFormat.TheVariants as format
-use Rattle.contest_commands.specs.declared.asked_board.Who.{Who}
-use Rattle.contest_commands.specs.declared.asked_board.Who.TheVariants as who
+use Rattle.contest_command_words.specs.declared.asked_board.AskedBoard.{AskedBoard}
+use Rattle.contest_command_words.specs.declared.asked_board.BoardFormat.{BoardFormat}
+use Rattle.contest_command_words.specs.declared.asked_board.BoardFormat.TheVariants as format
+use Rattle.contest_command_words.specs.declared.asked_board.Who.{Who}
+use Rattle.contest_command_words.specs.declared.asked_board.Who.TheVariants as who
 use Rattle.contest_words.specs.Arguments.{word, option, faults_in, value_of}
 
 -- the command

@@ -2,29 +2,29 @@
 ghost use Rattle.std.specs.Prelude.{◌≡◌, ◌⊎◌, IfErr, IfNone, IfOk, IfSome, map};
 ghost use Rattle.std.specs.Option.{option_map};
 ghost use Rattle.clap.specs.Simple.{app_of};
-ghost use Rattle.contest_cli.specs.BoardWords.{HasBoardFault, NamesBoard, NamesFormat, NamesMoment, NamesNoMoment, NamesWho, board_app};
-ghost use Rattle.contest_commands.specs.declared.asked_board.BoardFormat.{BoardFormat as TheFormat};
+ghost use Rattle.contest_command_words.specs.BoardWords.{HasBoardFault, NamesBoard, NamesFormat, NamesMoment, NamesNoMoment, NamesWho, board_app};
+ghost use Rattle.contest_command_words.specs.declared.asked_board.BoardFormat.{BoardFormat as TheFormat};
 ghost use Rattle.contest_words.specs.CommandErrors.{IsMemory, IsWords, IsWordsOrMemory};
 
+use crate::asked_board::{AskedBoard, BoardFormat, Who};
 use clap::Command;
-use contest_commands::{AskedBoard, BoardFormat, Who};
 use contest_types::Moment;
 use contest_words::{CommandError, headed, matches_in, option, value_in, with_arg, word, word_in};
 use std::alloc::{AllocError, Global};
 
 /// What the words of `board` name.
 #[derive(Clone, Copy)]
-pub(crate) struct BoardWords<'a> {
+pub struct BoardWords<'a> {
     /// The file that keeps the contest.
-    pub(crate) file: &'a str,
+    pub file: &'a str,
     /// The board that is asked for.
-    pub(crate) asked: AskedBoard<'a>,
+    pub asked: AskedBoard<'a>,
     /// The moment that is asked for; none leaves it to the clock.
-    pub(crate) at: Option<Moment>,
+    pub at: Option<Moment>,
 }
 
 /// The command `board`, as clap knows it. The error is want of memory.
-pub(crate) fn board_app<'a>(alloc: Global) -> Result<Command<'a>, AllocError>
+pub fn board_app<'a>(alloc: Global) -> Result<Command<'a>, AllocError>
     ensures { IfOk result (λ c. app_of c ≡ board_app) }
 {
     let board = headed(
@@ -60,7 +60,7 @@ pub(crate) fn board_app<'a>(alloc: Global) -> Result<Command<'a>, AllocError>
 
 /// What the words of `board` name; the first word is the command's own. The error is what is said of words
 /// that have a fault, or want of memory. A call for help counts as a fault.
-pub(crate) fn read_board_words<'a>(
+pub fn read_board_words<'a>(
     alloc: Global,
     words: &'a [&'a str],
 ) -> Result<BoardWords<'a>, CommandError>

@@ -1,7 +1,7 @@
 //! The words of `import`.
 ghost use Rattle.std.specs.Prelude.{◌≡◌, ◌⊎◌, IfOk, IfErr, map};
 ghost use Rattle.clap.specs.Simple.{app_of};
-ghost use Rattle.contest_cli.specs.ImportWords.{HasImportFault, NamesImport, import_app, kind_named};
+ghost use Rattle.contest_command_words.specs.ImportWords.{HasImportFault, NamesImport, import_app, kind_named};
 ghost use Rattle.contest_words.specs.CommandErrors.{IsMemory, IsWords, IsWordsOrMemory};
 
 use clap::Command;
@@ -11,17 +11,17 @@ use std::alloc::{AllocError, Global};
 
 /// What the words of `import` name.
 #[derive(Clone, Copy)]
-pub(crate) struct ImportWords<'a> {
+pub struct ImportWords<'a> {
     /// The file that keeps the contest.
-    pub(crate) file: &'a str,
+    pub file: &'a str,
     /// What is imported.
-    pub(crate) kind: ImportKind,
+    pub kind: ImportKind,
     /// The file that is imported.
-    pub(crate) path: &'a str,
+    pub path: &'a str,
 }
 
 /// The command `import`, as clap knows it. The error is want of memory.
-pub(crate) fn import_app<'a>(alloc: Global) -> Result<Command<'a>, AllocError>
+pub fn import_app<'a>(alloc: Global) -> Result<Command<'a>, AllocError>
     ensures { IfOk result (λ c. app_of c ≡ import_app) }
 {
     let import = headed(
@@ -45,7 +45,7 @@ pub(crate) fn import_app<'a>(alloc: Global) -> Result<Command<'a>, AllocError>
 
 /// What the words of `import` name; the first word is the command's own. The error is what is said of
 /// words that have a fault, or want of memory. A call for help counts as a fault.
-pub(crate) fn read_import_words<'a>(
+pub fn read_import_words<'a>(
     alloc: Global,
     words: &'a [&'a str],
 ) -> Result<ImportWords<'a>, CommandError>

@@ -2,7 +2,7 @@
 ghost use Rattle.std.specs.Prelude.{◌≡◌, IfOk, IfErr, map};
 ghost use Rattle.clap.specs.Simple.{app_of};
 ghost use Rattle.contest_words.specs.Arguments.{faults_in};
-ghost use Rattle.contest_cli.specs.InitWords.{NamesInit, init_app};
+ghost use Rattle.contest_command_words.specs.InitWords.{NamesInit, init_app};
 ghost use Rattle.contest_words.specs.CommandErrors.{RefusesWords};
 
 use clap::Command;
@@ -11,15 +11,15 @@ use std::alloc::{AllocError, Global};
 
 /// What the words of `init` name.
 #[derive(Clone, Copy)]
-pub(crate) struct InitWords<'a> {
+pub struct InitWords<'a> {
     /// The file that keeps the contest.
-    pub(crate) file: &'a str,
+    pub file: &'a str,
     /// The contest, as JSON.
-    pub(crate) contest: &'a str,
+    pub contest: &'a str,
 }
 
 /// The command `init`, as clap knows it. The error is want of memory.
-pub(crate) fn init_app<'a>(alloc: Global) -> Result<Command<'a>, AllocError>
+pub fn init_app<'a>(alloc: Global) -> Result<Command<'a>, AllocError>
     ensures { IfOk result (λ c. app_of c ≡ init_app) }
 {
     let init = headed(
@@ -40,7 +40,7 @@ pub(crate) fn init_app<'a>(alloc: Global) -> Result<Command<'a>, AllocError>
 
 /// What the words of `init` name; the first word is the command's own. The error is what clap says of
 /// words that have a fault, or want of memory. A call for help counts as a fault.
-pub(crate) fn read_init_words<'a>(
+pub fn read_init_words<'a>(
     alloc: Global,
     words: &'a [&'a str],
 ) -> Result<InitWords<'a>, CommandError>

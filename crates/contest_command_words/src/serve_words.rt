@@ -2,7 +2,7 @@
 ghost use Rattle.std.specs.Prelude.{◌≡◌, ◌⊎◌, ◌<◌, ◌≤◌, IfErr, IfOk, IfSome, map};
 ghost use Rattle.std.specs.Option.{option_map};
 ghost use Rattle.clap.specs.Simple.{app_of};
-ghost use Rattle.contest_cli.specs.ServeWords.{HasServeFault, NamesServe, number_to, port_of, requests_of, serve_app};
+ghost use Rattle.contest_command_words.specs.ServeWords.{HasServeFault, NamesServe, number_to, port_of, requests_of, serve_app};
 ghost use Rattle.contest_words.specs.CommandErrors.{IsMemory, IsWords, IsWordsOrMemory};
 
 use clap::Command;
@@ -12,17 +12,17 @@ use std::alloc::{AllocError, Global};
 
 /// What the words of `serve` name.
 #[derive(Clone, Copy)]
-pub(crate) struct ServeWords<'a> {
+pub struct ServeWords<'a> {
     /// The file that keeps the contest.
-    pub(crate) file: &'a str,
+    pub file: &'a str,
     /// How many requests are served.
-    pub(crate) requests: u32,
+    pub requests: u32,
     /// The port that clients connect to; 0 leaves it to the system.
-    pub(crate) port: u16,
+    pub port: u16,
 }
 
 /// The command `serve`, as clap knows it. The error is want of memory.
-pub(crate) fn serve_app<'a>(alloc: Global) -> Result<Command<'a>, AllocError>
+pub fn serve_app<'a>(alloc: Global) -> Result<Command<'a>, AllocError>
     ensures { IfOk result (λ c. app_of c ≡ serve_app) }
 {
     let serve = headed(
@@ -51,7 +51,7 @@ pub(crate) fn serve_app<'a>(alloc: Global) -> Result<Command<'a>, AllocError>
 
 /// What the words of `serve` name; the first word is the command's own. The error is what is said of
 /// words that have a fault, or want of memory. A call for help counts as a fault.
-pub(crate) fn read_serve_words<'a>(
+pub fn read_serve_words<'a>(
     alloc: Global,
     words: &'a [&'a str],
 ) -> Result<ServeWords<'a>, CommandError>

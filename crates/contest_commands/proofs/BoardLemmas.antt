@@ -29,7 +29,7 @@ use Rattle.contest_words.specs.declared.command_error.CommandError.TheVariants.{
 use Rattle.contest_words.proofs.StreamLemmas.{keeps_same}
 use Rattle.contest_commands.specs.Board.{Boards, Gives, IsStoreStop, ShowsKept, StopsBoard, TellsBoard, audience_of}
 use Rattle.contest_commands.specs.Inputs.{KeepsAll}
-use Rattle.contest_commands.specs.declared.asked_board.AskedBoard.{AskedBoard}
+use Rattle.contest_command_words.specs.declared.asked_board.AskedBoard.{AskedBoard}
 
 -- what the store failed with
 pub by_error : (e : StoreError) → IsStoreStop (Refused (refusal_of e))

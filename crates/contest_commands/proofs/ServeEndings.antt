@@ -11,7 +11,7 @@ use Rattle.contest_words.specs.CommandErrors.{exit_status_of, line_of}
 use Rattle.contest_words.specs.declared.command_error.CommandError.{CommandError}
 use Rattle.contest_words.specs.declared.command_error.CommandError.TheVariants.{File, Refused}
 use Rattle.contest_words.proofs.StreamLemmas.{keeps_same}
-use Rattle.contest_commands.specs.Clients.{IsPort}
+use Rattle.contest_machine.specs.Ports.{IsPort}
 use Rattle.contest_commands.specs.Inputs.{KeepsAll}
 use Rattle.contest_commands.specs.Serve.{Serves, ServesTables, StopsAfter, StopsBefore, TellsPort, TellsServing, listening_line}
 

@@ -21,11 +21,11 @@ use Rattle.contest_text.specs.BoardText.{board_text}
 use Rattle.contest_words.specs.CommandErrors.{IsWords, line_of}
 use Rattle.contest_words.specs.declared.command_error.CommandError.{CommandError}
 use Rattle.contest_words.specs.declared.command_error.CommandError.TheVariants.{File, Refused}
-use Rattle.contest_commands.specs.declared.asked_board.AskedBoard.{AskedBoard}
-use Rattle.contest_commands.specs.declared.asked_board.BoardFormat.{BoardFormat}
-use Rattle.contest_commands.specs.declared.asked_board.BoardFormat.TheVariants.{Text, Csv}
-use Rattle.contest_commands.specs.declared.asked_board.Who.{Who}
-use Rattle.contest_commands.specs.declared.asked_board.Who.TheVariants.{Public, Jury, Team}
+use Rattle.contest_command_words.specs.declared.asked_board.AskedBoard.{AskedBoard}
+use Rattle.contest_command_words.specs.declared.asked_board.BoardFormat.{BoardFormat}
+use Rattle.contest_command_words.specs.declared.asked_board.BoardFormat.TheVariants.{Text, Csv}
+use Rattle.contest_command_words.specs.declared.asked_board.Who.{Who}
+use Rattle.contest_command_words.specs.declared.asked_board.Who.TheVariants.{Public, Jury, Team}
 
 -- the audience that looks; none where no team has the id
 abbrev pub audience_of : Setup → Who → Option Audience

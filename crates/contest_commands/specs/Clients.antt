@@ -7,10 +7,6 @@ use Rattle.contest_http.specs.declared.framed.ServeFault.{ServeFault}
 use Rattle.contest_http.specs.declared.framed.ServeFault.TheVariants.{Read, Write}
 use Rattle.contest_http.specs.declared.framed.Served.{Served}
 
--- a port that was asked for, or whichever the system chose where that is 0
-abbrev pub IsPort : (asked port : ℕ) → Type 0
-IsPort asked port = asked ≢ 0 → port ≡ asked
-
 -- what listens is of some type L: which client it gives next, by a reader and a writer or by none, and from whom it has
 -- parted; the moments that the clock shows; and what a reader has left, a writer holds and a desk keeps
 module _ {L R W S : Type 0} (gives : L → Option (R × W) → L → Type 0) (parts : L → Counting R → Counting W → Type 0) (shows : ℕ → Type 0)

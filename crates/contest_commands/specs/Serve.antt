@@ -17,7 +17,8 @@ use Rattle.contest_sqlite.specs.Value.{StoreValue, shown_in, stored}
 use Rattle.contest_words.specs.CommandErrors.{line_of}
 use Rattle.contest_words.specs.declared.command_error.CommandError.{CommandError}
 use Rattle.contest_words.specs.declared.command_error.CommandError.TheVariants.{Clock, File, Net, Refused}
-use Rattle.contest_commands.specs.Clients.{IsPort, ServesClients}
+use Rattle.contest_commands.specs.Clients.{ServesClients}
+use Rattle.contest_machine.specs.Ports.{IsPort}
 use Rattle.contest_commands.specs.Inputs.{KeepsAll}
 
 -- what is told of a port that clients can connect to

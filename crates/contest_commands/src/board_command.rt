@@ -4,12 +4,12 @@ ghost use Rattle.sqlite.specs.Held.{state};
 ghost use Rattle.contest_types.specs.Masks.{is_audience};
 ghost use Rattle.contest_types.specs.Streams.{stream};
 ghost use Rattle.contest_store.specs.Keeping.{LeavesNoMore};
-ghost use Rattle.contest_sqlite.specs.Opening.{IsNumbered};
+ghost use Rattle.contest_tables.specs.Numbered.{IsNumbered};
 ghost use Rattle.contest_words.specs.CommandErrors.{IsMemory, IsWords, IsWordsOrMemory};
 ghost use Rattle.contest_commands.specs.Board.{AreOf, Boards, ShowsKept, StopsBoard, asked_text, audience_of, written};
 
-use crate::asked_board::{AskedBoard, BoardFormat, Who};
 use crate::opening::open_desk;
+use contest_command_words::{AskedBoard, BoardFormat, Who};
 use contest_desk::Desk;
 use contest_score::Board;
 use contest_store::ContestStore;

@@ -4,7 +4,7 @@ ghost use Rattle.sqlite.specs.Held.{state};
 ghost use Rattle.sqlite.specs.State.{HasCleanDisk};
 ghost use Rattle.contest_types.specs.Streams.{Stream, stream};
 ghost use Rattle.contest_desk.specs.Items.{HasStoreError};
-ghost use Rattle.contest_sqlite.specs.Opening.{IsNumbered};
+ghost use Rattle.contest_tables.specs.Numbered.{IsNumbered};
 ghost use Rattle.contest_commands.specs.Import.{Imports, LeavesStep, Steps, StopsImport};
 ghost use Rattle.contest_commands.specs.Inputs.{WasRead};
 

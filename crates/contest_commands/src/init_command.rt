@@ -5,7 +5,7 @@ ghost use Rattle.sqlite.specs.State.{HasCleanDisk};
 ghost use Rattle.contest_types.specs.State.{new_contest};
 ghost use Rattle.contest_types.specs.Streams.{stream};
 ghost use Rattle.contest_types.specs.Valid.{is_valid};
-ghost use Rattle.contest_sqlite.specs.Opening.{IsNumbered};
+ghost use Rattle.contest_tables.specs.Numbered.{IsNumbered};
 ghost use Rattle.contest_commands.specs.Init.{Inits, LeavesContest, LeavesNew, ReadsContest, Sets, SetsFile, StopsContest, StopsFile, StopsInit};
 
 use contest_import::read_contest_json;

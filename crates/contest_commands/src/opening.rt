@@ -4,7 +4,8 @@ ghost use Rattle.sqlite.specs.Held.{state};
 ghost use Rattle.sqlite.specs.State.{HasCleanDisk};
 ghost use Rattle.contest_desk.specs.Serving.{IsSettled};
 ghost use Rattle.contest_sqlite.specs.Creation.{IsOfStore};
-ghost use Rattle.contest_sqlite.specs.Opening.{IsNew, IsNumbered, Opened, ShowsValid};
+ghost use Rattle.contest_sqlite.specs.Opening.{IsNew, Opened, ShowsValid};
+ghost use Rattle.contest_tables.specs.Numbered.{IsNumbered};
 ghost use Rattle.contest_sqlite.specs.Value.{shown_in, stored};
 ghost use Rattle.contest_commands.specs.Inputs.{KeepsAll};
 

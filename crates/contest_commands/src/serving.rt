@@ -3,9 +3,9 @@ ghost use Rattle.std.specs.Prelude.{◌≡◌, IfErr, IfOk, IsTrue};
 ghost use Rattle.contest_commands.specs.Clients.{ServesClients, ServesFewer, ServesNext};
 ghost use Rattle.contest_commands.specs.Served.{HandlesAny, ServesSome, StopsServing};
 
-use crate::network::{Connected, Listen, Network};
 use contest_desk::Desk;
 use contest_http::serve_one;
+use contest_machine::{Connected, Listen, Network};
 use contest_store::ContestStore;
 use contest_types::streams::Counted;
 use contest_words::CommandError;

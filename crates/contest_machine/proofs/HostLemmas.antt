@@ -6,7 +6,7 @@ use Rattle.sqlite.specs.Recovery.{Image}
 use Rattle.sqlite.specs.Start.{FindsIn}
 use Rattle.sqlite.specs.State.{HasCleanDisk, IsLive, Opens, State}
 use Rattle.sqlite.specs.Tree.{Trees}
-use Rattle.contest_sqlite.specs.Opening.{IsNumbered}
+use Rattle.contest_tables.specs.Numbered.{IsNumbered}
 use Rattle.contest_tables.proofs.NumberedLemmas.{found_numbered}
 
 -- its trees are those of the files

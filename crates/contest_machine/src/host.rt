@@ -7,8 +7,8 @@ ghost use Rattle.sqlite.specs.State.{HasCleanDisk};
 ghost use Rattle.sqlite.specs.WalFiles.{image_at};
 ghost use Rattle.contest_types.specs.MomentText.{latest};
 ghost use Rattle.contest_types.specs.declared.refusal.Refusal.TheVariants.{Memory, StoreFault};
-ghost use Rattle.contest_sqlite.specs.Opening.{IsNumbered};
-ghost use Rattle.contest_cli.specs.FileCommands.{IsNoFile, IsNoStore};
+ghost use Rattle.contest_tables.specs.Numbered.{IsNumbered};
+ghost use Rattle.contest_machine.specs.Unopened.{IsNoFile, IsNoStore};
 
 use crate::host_network::HostNetwork;
 use crate::machine::{Machine, Opened, ServedFile};
@@ -22,9 +22,9 @@ use std::time::{Clock, SystemTime, UNIX_EPOCH};
 
 /// The runtime, and what stands for what the files hold that keep a contest.
 #[derive(Drop)]
-pub(crate) struct Host<'a, D: Start> {
-    pub(crate) rt: &'a HostRuntime,
-    pub(crate) disk: D,
+pub struct Host<'a, D: Start> {
+    pub rt: &'a HostRuntime,
+    pub disk: D,
 }
 
 impl<'a, D: Start> Machine for Host<'a, D> {

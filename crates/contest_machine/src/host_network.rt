@@ -1,10 +1,10 @@
 //! The network of the program's machine: its loopback address alone.
 ghost use Rattle.std.specs.Prelude.{◌≡◌, IfErr, IfOk};
-ghost use Rattle.contest_commands.specs.Clients.{IsPort};
+ghost use Rattle.contest_machine.specs.Ports.{IsPort};
 ghost use Rattle.contest_types.specs.Streams.{one_more};
 
 use crate::host::moment_now;
-use contest_commands::{Connected, Listen, Network};
+use crate::network::{Connected, Listen, Network};
 use contest_types::Moment;
 use contest_types::streams::Counted;
 use contest_words::CommandError;
@@ -26,7 +26,7 @@ const PIECE: usize = 65_536;
 
 /// The clock, and the loopback address.
 #[derive(Drop)]
-pub(crate) struct HostNetwork<'a> {
+pub struct HostNetwork<'a> {
     pub(crate) rt: &'a HostRuntime,
 }
 
@@ -47,7 +47,7 @@ impl Network for HostNetwork<'_> {
 /// A port of the loopback address, and how many clients were waited for. The count stays at `u64::MAX`
 /// once it is there.
 #[derive(Drop)]
-pub(crate) struct HostListener {
+pub struct HostListener {
     listener: TcpListener,
     port: u16,
     clients: u64,

@@ -1,10 +1,10 @@
 //! What a command asks of the machine: the time, two files, and who connects.
 ghost use Rattle.std.specs.Prelude.{◌≡◌, IfOk, IfErr};
 ghost use Rattle.sqlite.specs.Held.{Held, state};
-ghost use Rattle.contest_sqlite.specs.Opening.{IsNumbered};
-ghost use Rattle.contest_cli.specs.FileCommands.{IsNoStore, IsUnopened};
+ghost use Rattle.contest_tables.specs.Numbered.{IsNumbered};
+ghost use Rattle.contest_machine.specs.Unopened.{IsNoStore, IsUnopened};
 
-use contest_commands::Network;
+use crate::network::Network;
 use contest_types::Moment;
 use contest_types::streams::Counted;
 use contest_words::CommandError;

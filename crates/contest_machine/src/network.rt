@@ -1,7 +1,7 @@
 //! What a desk that serves asks of the machine: who connects, one after the other, and the time.
 ghost use Rattle.std.specs.Prelude.{◌≡◌, ℕ, Option, Some, None, IfErr, IfOk, IfSome};
 ghost use Rattle.contest_types.specs.Streams.{Counting};
-ghost use Rattle.contest_commands.specs.Clients.{IsPort};
+ghost use Rattle.contest_machine.specs.Ports.{IsPort};
 
 use contest_types::Moment;
 use contest_types::streams::Counted;

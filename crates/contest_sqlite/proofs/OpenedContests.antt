@@ -22,7 +22,8 @@ use Rattle.contest_changes.specs.ContestTables.{loaded_tables}
 use Rattle.contest_changes.proofs.ValidSound.{valid_sound}
 use Rattle.contest_changes.proofs.WideRows.{shown_are_wide}
 use Rattle.contest_sqlite.specs.Loading.{AllRise}
-use Rattle.contest_sqlite.specs.Opening.{IsNumbered, IsRead}
+use Rattle.contest_sqlite.specs.Opening.{IsRead}
+use Rattle.contest_tables.specs.Numbered.{IsNumbered}
 use Rattle.contest_sqlite.specs.Steps.{HoldsDesk}
 use Rattle.contest_sqlite.proofs.FoundContests.{found}
 

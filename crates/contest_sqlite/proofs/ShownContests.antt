@@ -12,7 +12,7 @@ use Rattle.contest_changes.specs.Sound.{IsSound}
 use Rattle.contest_changes.proofs.SoundReadings.{sound_contests_read_back}
 use Rattle.contest_sqlite.specs.Contests.{committed_of, contest_in_trees, contest_of, HoldsContests, no_contest}
 use Rattle.contest_sqlite.specs.Keeping.{IsKept, IsTrusted, StaysKept, kept_of}
-use Rattle.contest_sqlite.specs.Opening.{IsNumbered}
+use Rattle.contest_tables.specs.Numbered.{IsNumbered}
 
 pub shown_is : (db : Trees) (x : ContestState) → IsSound x → rows_in db ≡ table_rows x → contest_in_trees db ≡ Some x
 shown_is db x sound is = ap valid_contest_in is ∙ sound_contests_read_back x sound

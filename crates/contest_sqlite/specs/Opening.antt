@@ -1,19 +1,12 @@
 -- What is found where a store is opened.
-use Rattle.std.specs.Prelude.{◌≡◌, IsTrue, Some, false, true}
-use Rattle.sqlite.specs.State.{HasCleanDisk, State}
+use Rattle.std.specs.Prelude.{◌≡◌, Some, false, true}
+use Rattle.sqlite.specs.State.{State}
 use Rattle.contest_types.specs.State.{ContestState}
 use Rattle.contest_types.specs.Valid.{is_valid}
 use Rattle.contest_store.specs.Keeping.{Kept, LeavesNoMore, Shows}
 use Rattle.contest_store.specs.Lists.{loaded}
-use Rattle.contest_tables.specs.Connected.{IsOfDesk}
-use Rattle.contest_tables.specs.Steps.{AreNumbered}
 use Rattle.contest_sqlite.specs.Contests.{contest_in_trees, HoldsContests, may_leave_of}
 use Rattle.contest_sqlite.specs.Value.{StoreValue}
-
--- the rows of a desk's tables rise by their numbers, as they do in each database that was made or found in files: the
--- connection keeps it true, though no clause of its own says so
-abbrev pub IsNumbered : State → Type 0
-IsNumbered s = HasCleanDisk s → IsTrue s.is_open → IsOfDesk s → AreNumbered s.now.trees
 
 -- the lists are those of the valid contest that the tables showed, and they show it still
 pub record IsRead (old new : State) (lists : ContestState) : Type 0 where

@@ -10,7 +10,7 @@ ghost use Rattle.contest_changes.specs.Kinds.{IsMoment};
 ghost use Rattle.contest_changes.specs.Sound.{IsSound};
 ghost use Rattle.contest_sqlite.specs.Contests.{contest_in_trees};
 ghost use Rattle.contest_sqlite.specs.Creation.{HasContest, HasHeadAlone, HasNoRow, HoldsNone, IsMade, IsOfKindsContest, IsOfStore, IsReadEqual, KeepsAll, KeepsContest, MakesContest, StoodOther};
-ghost use Rattle.contest_sqlite.specs.Opening.{IsNumbered};
+ghost use Rattle.contest_tables.specs.Numbered.{IsNumbered};
 
 use crate::opening::read_desk;
 use contest_fixed_rows::{contest_cells, desk_cells};

@@ -11,7 +11,8 @@ ghost use Rattle.contest_tables.specs.Tables.{TableRows};
 ghost use Rattle.contest_valid.specs.Files.{has_small_files};
 ghost use Rattle.contest_changes.specs.ContestTables.{loaded_tables};
 ghost use Rattle.contest_sqlite.specs.Loading.{AllRise};
-ghost use Rattle.contest_sqlite.specs.Opening.{IsNumbered, IsRead};
+ghost use Rattle.contest_sqlite.specs.Opening.{IsRead};
+ghost use Rattle.contest_tables.specs.Numbered.{IsNumbered};
 ghost use Rattle.contest_sqlite.specs.Steps.{HoldsDesk};
 
 use crate::reads::load_lists;

@@ -52,7 +52,8 @@ impl<S: Alter> Store<S> {
     ghost use Rattle.contest_sqlite.specs.Contests.{committed_of, contest_in_trees, contest_of, may_leave_of};
     ghost use Rattle.contest_sqlite.specs.Creation.{Created, IsOfStore, KeepsAll, StoodEqual, StoodOther};
     ghost use Rattle.contest_sqlite.specs.Keeping.{IsTrusted};
-    ghost use Rattle.contest_sqlite.specs.Opening.{IsNew, IsNumbered, Opened, ShowsValid};
+    ghost use Rattle.contest_sqlite.specs.Opening.{IsNew, Opened, ShowsValid};
+    ghost use Rattle.contest_tables.specs.Numbered.{IsNumbered};
     ghost use Rattle.contest_sqlite.specs.Value.{shown_in, stored};
 
     /// The store over the tables of a contest, which are read at once, outside of a transaction.

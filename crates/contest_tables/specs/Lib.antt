@@ -7,3 +7,4 @@ pub mod Steps
 pub mod Making
 pub mod Changes
 pub mod Forms
+pub mod Numbered

@@ -1,6 +1,6 @@
 use Rattle.contest_words.proofs.ArgumentLemmas.{adds}
-use Rattle.contest_cli.specs.BoardWords.{board_app}
-use Rattle.contest_cli.proofs.board_words.board_app.Goals as goal
+use Rattle.contest_command_words.specs.BoardWords.{board_app}
+use Rattle.contest_command_words.proofs.board_words.board_app.Goals as goal
 
 pub returns : goal.returns
 unfolding board_app

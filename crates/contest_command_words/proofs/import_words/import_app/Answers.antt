@@ -1,6 +1,6 @@
 use Rattle.contest_words.proofs.ArgumentLemmas.{adds}
-use Rattle.contest_cli.specs.ImportWords.{import_app}
-use Rattle.contest_cli.proofs.import_words.import_app.Goals as goal
+use Rattle.contest_command_words.specs.ImportWords.{import_app}
+use Rattle.contest_command_words.proofs.import_words.import_app.Goals as goal
 
 pub returns : goal.returns
 unfolding import_app

@@ -2,8 +2,8 @@ use Rattle.std.proofs.Common.{◌≡◌, ◌∙◌, true, ap, refl, codes}
 use Rattle.clap.specs.Faults.{is_simple_and_free}
 use Rattle.clap.proofs.OnLiterals.{clap_on_literals}
 use Rattle.contest_words.specs.Arguments.{wants_word}
-use Rattle.contest_cli.specs.ImportWords.{import_app}
-use Rattle.contest_cli.proofs.import_words.read_import_words.Goals as goal
+use Rattle.contest_command_words.specs.ImportWords.{import_app}
+use Rattle.contest_command_words.proofs.import_words.read_import_words.Goals as goal
 
 free : is_simple_and_free import_app ≡ true
 unfolding clap_on_literals import_app

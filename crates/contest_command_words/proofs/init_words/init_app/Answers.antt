@@ -1,6 +1,6 @@
 use Rattle.contest_words.proofs.ArgumentLemmas.{adds}
-use Rattle.contest_cli.specs.InitWords.{init_app}
-use Rattle.contest_cli.proofs.init_words.init_app.Goals as goal
+use Rattle.contest_command_words.specs.InitWords.{init_app}
+use Rattle.contest_command_words.proofs.init_words.init_app.Goals as goal
 
 pub returns : goal.returns
 unfolding init_app

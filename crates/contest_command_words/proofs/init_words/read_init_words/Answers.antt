@@ -2,8 +2,8 @@ use Rattle.std.proofs.Common.{◌≡◌, ◌∙◌, true, ap, refl, codes}
 use Rattle.clap.specs.Faults.{is_simple_and_free}
 use Rattle.clap.proofs.OnLiterals.{clap_on_literals}
 use Rattle.contest_words.specs.Arguments.{wants_word}
-use Rattle.contest_cli.specs.InitWords.{init_app}
-use Rattle.contest_cli.proofs.init_words.read_init_words.Goals as goal
+use Rattle.contest_command_words.specs.InitWords.{init_app}
+use Rattle.contest_command_words.proofs.init_words.read_init_words.Goals as goal
 
 free : is_simple_and_free init_app ≡ true
 unfolding clap_on_literals init_app

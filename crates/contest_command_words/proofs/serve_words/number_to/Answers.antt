@@ -1,6 +1,6 @@
 use Rattle.std.proofs.Common.{◌∙◌, ap, Some}
-use Rattle.contest_cli.proofs.NumberLemmas.{number_none, number_some}
-use Rattle.contest_cli.proofs.serve_words.number_to.Goals as goal
+use Rattle.contest_command_words.proofs.NumberLemmas.{number_none, number_some}
+use Rattle.contest_command_words.proofs.serve_words.number_to.Goals as goal
 
 pub returns-in-None-clause-value : goal.returns-in-None-clause-value
 returns-in-None-clause-value c = rw c.as_bytes.ensures.value at (number_none c.args.most c.as_bytes.result.now c.in-None.ensures)

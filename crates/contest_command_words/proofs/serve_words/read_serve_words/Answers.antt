@@ -2,8 +2,8 @@ use Rattle.std.proofs.Common.{◌≡◌, ◌∙◌, true, ap, refl, codes}
 use Rattle.clap.specs.Faults.{is_simple_and_free}
 use Rattle.clap.proofs.OnLiterals.{clap_on_literals}
 use Rattle.contest_words.specs.Arguments.{wants_word}
-use Rattle.contest_cli.specs.ServeWords.{serve_app}
-use Rattle.contest_cli.proofs.serve_words.read_serve_words.Goals as goal
+use Rattle.contest_command_words.specs.ServeWords.{serve_app}
+use Rattle.contest_command_words.proofs.serve_words.read_serve_words.Goals as goal
 
 free : is_simple_and_free serve_app ≡ true
 unfolding clap_on_literals serve_app

@@ -1,6 +1,6 @@
 use Rattle.contest_words.proofs.ArgumentLemmas.{adds}
-use Rattle.contest_cli.specs.ServeWords.{serve_app}
-use Rattle.contest_cli.proofs.serve_words.serve_app.Goals as goal
+use Rattle.contest_command_words.specs.ServeWords.{serve_app}
+use Rattle.contest_command_words.proofs.serve_words.serve_app.Goals as goal
 
 pub returns : goal.returns
 unfolding serve_app

@@ -1,7 +1,7 @@
 use Rattle.sqlite.specs.Files.{file_state}
 use Rattle.sqlite.specs.WalFiles.{image_at}
-use Rattle.contest_cli.proofs.HostLemmas.{are_found, is_numbered}
-use Rattle.contest_cli.proofs.host.open_store.Goals as goal
+use Rattle.contest_machine.proofs.HostLemmas.{are_found, is_numbered}
+use Rattle.contest_machine.proofs.host.open_store.Goals as goal
 
 pub returns-in-Ok-clause-found : goal.returns-in-Ok-clause-found
 returns-in-Ok-clause-found g c clean =

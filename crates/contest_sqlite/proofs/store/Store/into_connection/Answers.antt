@@ -6,7 +6,7 @@ use Rattle.contest_tables.specs.Connected.{connection_of, shown_by}
 use Rattle.contest_sqlite.specs.Contests.{committed_of, may_leave_of}
 use Rattle.contest_sqlite.specs.Keeping.{IsTrusted}
 use Rattle.contest_sqlite.specs.Laws.{settled_at}
-use Rattle.contest_sqlite.specs.Opening.{IsNumbered}
+use Rattle.contest_tables.specs.Numbered.{IsNumbered}
 use Rattle.contest_sqlite.proofs.ShownContests.{kept_numbered, trusted}
 use Rattle.contest_sqlite.proofs.store.Store.into_connection.Goals as goal
 

@@ -1,0 +1,4 @@
+pub mod InitWords
+pub mod ImportWords
+pub mod ServeWords
+pub mod BoardWords

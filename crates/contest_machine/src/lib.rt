@@ -1,0 +1,13 @@
+//! What a command asks of the machine that it runs on, and the machine of the program: its clock, its
+//! files, and its loopback address.
+#![tactic(auto)]
+
+mod host;
+mod host_network;
+mod machine;
+mod network;
+
+pub use host::Host;
+pub use host_network::{HostListener, HostNetwork};
+pub use machine::{Machine, Opened, ServedFile};
+pub use network::{Connected, Listen, Network};
