@@ -81,10 +81,23 @@ fn finds_submission(alloc: Global, desk: &mut Desk<MemoryStore>) -> Result<bool,
 /// One request of a source, answered as far as there is room.
 pub fn served_once(alloc: Global, source: Source<'_>, room: Full) -> Result<Exchange, Fail> {
     let mut desk = desk(alloc)?;
+    let exchange = served_by(alloc, &mut desk, source, room);
+    drop(desk);
+    exchange
+}
+
+// The same by a desk. To give back a desk at an early return costs a proof much more than a reference.
+fn served_by(
+    alloc: Global,
+    desk: &mut Desk<MemoryStore>,
+    source: Source<'_>,
+    room: Full,
+) -> Result<Exchange, Fail> {
+    let now = after(300_000)?;
     let mut reader = Counted::new(source);
     let mut writer = Counted::new(room);
-    let served = serve_one(alloc, &mut reader, &mut writer, &mut desk, after(300_000)?);
-    let stands = finds_submission(alloc, &mut desk)?;
+    let served = serve_one(alloc, &mut reader, &mut writer, desk, now);
+    let stands = finds_submission(alloc, desk)?;
     Ok(Exchange {
         served,
         written: writer.into_inner().taken,

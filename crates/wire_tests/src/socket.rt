@@ -10,18 +10,15 @@ use std::io::{Read, Write};
 use std::net::{Ipv4Addr, Shutdown, TcpListener, TcpStream};
 use std::test::Fail;
 
-/// Serves the one request of a connection, and then ends what is written to it.
+/// Serves the one request of a connection by a new desk, at 9:05.
 fn serve_over(
     alloc: Global,
-    reader: TcpStream,
-    writer: TcpStream,
+    reader: &mut Counted<TcpStream>,
+    writer: &mut Counted<TcpStream>,
 ) -> Result<Result<Served, ServeFault>, Fail> {
+    let now = after(300_000)?;
     let mut desk = desk(alloc)?;
-    let mut reader = Counted::new(reader);
-    let mut writer = Counted::new(writer);
-    let served = serve_one(alloc, &mut reader, &mut writer, &mut desk, after(300_000)?);
-    writer.into_inner().shutdown(Shutdown::Write)?;
-    Ok(served)
+    Ok(serve_one(alloc, reader, writer, &mut desk, now))
 }
 
 /// How the post of a client is served that connects to a listener of its own.
@@ -32,8 +29,11 @@ fn serve_client(
 ) -> Result<Result<Served, ServeFault>, Fail> {
     client.write_all(POST.as_bytes())?;
     let (stream, _) = listener.accept()?;
-    let writer = stream.try_clone()?;
-    serve_over(alloc, stream, writer)
+    let mut reader = Counted::new(stream.try_clone()?);
+    let mut writer = Counted::new(stream);
+    let served = serve_over(alloc, &mut reader, &mut writer)?;
+    writer.into_inner().shutdown(Shutdown::Write)?;
+    Ok(served)
 }
 
 #[test]
