@@ -23,10 +23,11 @@ use crate::files::{open_bare, open_store};
 use crate::tasks::{counts_of, thaw};
 use crate::walk::walk;
 use crate::words::{Task, Work, task_of};
+use contest_machine::{Host, Machine};
 use contest_sqlite::Store;
 use contest_store::ContestStore;
 use contest_types::Refusal;
-use sqlite::{Alter, Connection, Unknown};
+use sqlite::{Alter, Connection, Start, Unknown};
 use std::alloc::{AllocError, Global};
 use std::process::ExitCode;
 use std::{env, io};
@@ -43,7 +44,7 @@ enum Done {
 fn main(rt: HostRuntime) -> ExitCode {
     let said = match words_of(&rt) {
         Ok(words) => match task_of(&words) {
-            Some(task) => tell(&rt, &answer(&rt, task)),
+            Some(Task { path, work }) => tell(&rt, &answer_on_host(&rt, Unknown, path, work)),
             None => tell_usage(&rt),
         },
         Err(refusal) => tell(&rt, &Err(refusal)),
@@ -62,17 +63,29 @@ fn words_of(rt: &HostRuntime) -> Result<Vec<String>, Refusal> {
     }
 }
 
-fn answer(rt: &HostRuntime, task: Task<'_>) -> Result<Done, Refusal> {
-    let Task { path, work } = task;
-    if let Work::Demo(teams, problems) = work {
-        let conn = open_bare(rt, path, Unknown)?;
-        return demo_in(rt.alloc(), conn, teams, problems);
-    }
-    let mut store = open_store(rt, path, Unknown)?;
-    answer_of(rt, &mut store, work)
+// What is asked on the program's machine, where `disk` stands for what the files hold.
+fn answer_on_host<D: Start>(
+    rt: &HostRuntime,
+    disk: D,
+    path: &str,
+    work: Work,
+) -> Result<Done, Refusal> {
+    answer(rt, Host { rt, disk }, path, work)
 }
 
-// These two are for any disk: a proof over one kind of disk alone takes many times as long.
+fn answer<M: Machine>(
+    rt: &HostRuntime,
+    machine: M,
+    path: &str,
+    work: Work,
+) -> Result<Done, Refusal> {
+    if let Work::Demo(teams, problems) = work {
+        let conn = open_bare(machine, path)?;
+        return demo_in(rt.alloc(), conn, teams, problems);
+    }
+    let mut store = open_store(rt.alloc(), machine, path)?;
+    answer_of(rt, &mut store, work)
+}
 
 // What is asked of a store that stands; a demo contest isn't made over one.
 fn answer_of<S: Alter>(rt: &HostRuntime, store: &mut Store<S>, work: Work) -> Result<Done, Refusal>
