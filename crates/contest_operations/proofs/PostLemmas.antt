@@ -3,7 +3,6 @@ use Rattle.std.proofs.Common.{◌≡◌, ◌∙◌, ◌+◌, ◌<◌, ◌≤◌,
 use Rattle.std.specs.Prelude.{slice_get, if◌then◌else◌}
 use Rattle.std.specs.Option.{option_map}
 use Rattle.std.proofs.lemmas.Option.{slice_get-map}
-use Rattle.contest_types.specs.Loads.{without_file}
 use Rattle.contest_types.specs.Masks.{knows_all_of}
 use Rattle.contest_types.specs.declared.audience.Audience.TheVariants as audience
 use Rattle.contest_view.specs.Objects.{submission_data}
@@ -18,7 +17,7 @@ use Rattle.contest_rules.specs.declared.submitting.WantedSubmission.{WantedSubmi
 use Rattle.contest_types.proofs.ValidParts.{parts}
 use Rattle.contest_types.proofs.SettingsTest.{is_settings}
 use Rattle.contest_operations.specs.Outcomes.{telling}
-use Rattle.contest_operations.specs.OwnSubmissions.{loaded_for}
+use Rattle.contest_operations.specs.OwnSubmissions.{bare, loaded_for}
 use Rattle.contest_operations.specs.PostSubmission.{own_submission, repeat_outcome, decision_outcome, submission_outcome}
 use Rattle.contest_operations.proofs.OwnLemmas.{loaded_same, loaded_decides}
 
@@ -46,16 +45,16 @@ deciding_is x f now team w items slice r d same are seen is wish_outcome =
     let over : r ≡ submit f now team items w = is ∙ ap (λ ss. submit f now team ss w) seen in
     ap (decision_outcome x.fixed team (submissions_of team x.submissions)) (decision_is x f now team w items r same are over ∙ wish_outcome)
 
--- the file of a submission isn't in its value
-own_unfiled : (f : FixedPart) (team : ℕ) (s : Submission) → own_submission f team (without_file s) ≡ own_submission f team s
-own_unfiled f team s =
+-- its file and its key aren't in a submission's value
+own_bare : (f : FixedPart) (team : ℕ) (s : Submission) → own_submission f team (bare s) ≡ own_submission f team s
+own_bare f team s =
     let go : (b : Bool) → submission_data f s.team s.number s.time s.problem s.language (if b then Some (record { file = []; entry_point = s.entry_point }) else None)
     ≡ submission_data f s.team s.number s.time s.problem s.language (if b then Some (record { file = s.file; entry_point = s.entry_point }) else None) = elim [ true ↦ refl | false ↦ refl ] in
     go (knows_all_of (audience.Team (team + 1)) s.team)
 
-repeating_unfiled : (f : FixedPart) (team : ℕ) (o : Option Submission) → repeat_outcome f team (option_map without_file o) ≡ repeat_outcome f team o
-repeating_unfiled f team None = refl
-repeating_unfiled f team (Some s) = ap telling (own_unfiled f team s)
+repeating_bare : (f : FixedPart) (team : ℕ) (o : Option Submission) → repeat_outcome f team (option_map bare o) ≡ repeat_outcome f team o
+repeating_bare f team None = refl
+repeating_bare f team (Some s) = ap telling (own_bare f team s)
 
 -- the row that stands at a place is answered from what is loaded
 pub repeating_is : (x : ContestState) (f : FixedPart) (team place : ℕ) (key : Option (List ℕ)) (items slice : List Submission) (o : Option Submission) → x.fixed ≡ f
@@ -63,7 +62,7 @@ pub repeating_is : (x : ContestState) (f : FixedPart) (team place : ℕ) (key : 
     → repeat_outcome x.fixed team (slice_get (submissions_of team x.submissions) place) ≡ repeat_outcome f team o
 repeating_is x f team place key items slice o same are seen at =
     let own = submissions_of team x.submissions in
-    let rows : map without_file slice ≡ map without_file own = ap (map without_file) (seen ∙ are) ∙ loaded_same key own in
-    let get : option_map without_file (slice_get own place) ≡ option_map without_file o =
-    sym (slice_get-map without_file own place) ∙ (ap (λ ss. slice_get ss place) (sym rows) ∙ (slice_get-map without_file slice place ∙ ap (option_map without_file) (sym at))) in
-    sym (repeating_unfiled x.fixed team (slice_get own place)) ∙ (ap (repeat_outcome x.fixed team) get ∙ (repeating_unfiled x.fixed team o ∙ ap (λ g. repeat_outcome g team o) same))
+    let rows : map bare slice ≡ map bare own = ap (map bare) (seen ∙ are) ∙ loaded_same key own in
+    let get : option_map bare (slice_get own place) ≡ option_map bare o =
+    sym (slice_get-map bare own place) ∙ (ap (λ ss. slice_get ss place) (sym rows) ∙ (slice_get-map bare slice place ∙ ap (option_map bare) (sym at))) in
+    sym (repeating_bare x.fixed team (slice_get own place)) ∙ (ap (repeat_outcome x.fixed team) get ∙ (repeating_bare x.fixed team o ∙ ap (λ g. repeat_outcome g team o) same))

@@ -1,9 +1,8 @@
--- A team's own submissions as they are loaded to decide on its next one: without their files, but for
--- the one that has the key that is asked with (own).
+-- A team's own submissions as they are loaded to decide on its next one: without their files and keys,
+-- but for the one that has the key that is asked with (own).
 -- Words of private functions: nothing public is said with them.
-use Rattle.std.specs.Prelude.{ℕ, ◌==◌, ◌&&◌, List, Option, Some, None, map, find, slice_get, slice_set}
+use Rattle.std.specs.Prelude.{ℕ, ◌==◌, ◌&&◌, List, [], Option, Some, None, map, find, slice_get, slice_set}
 use Rattle.std.specs.Option.{option_map}
-use Rattle.contest_types.specs.Loads.{without_file}
 use Rattle.contest_types.specs.declared.submission.Submission.{Submission}
 use Rattle.contest_rules.specs.Submitting.{has_key, place_of_key}
 
@@ -15,14 +14,18 @@ keyed_row team (Some key) rows = option_map (λ (s : Submission). (team, s.numbe
 abbrev pub with_file : List ℕ → Submission → Submission
 with_file file s = record s { file = file }
 
--- the rows without their files, but for this one at a place
-abbrev pub with_row : List Submission → ℕ → Option Submission → List Submission
-with_row own place None = map without_file own
-with_row own place (Some s) = slice_set (map without_file own) place s
+-- a row without its file and its key
+abbrev pub bare : Submission → Submission
+bare s = record s { file = []; key = None }
 
-abbrev pub with_file_at : List Submission → Option ℕ → List Submission
-with_file_at own None = map without_file own
-with_file_at own (Some place) = with_row own place (slice_get own place)
+-- the rows without both, but for this one at a place
+abbrev pub with_row : List Submission → ℕ → Option Submission → List Submission
+with_row own place None = map bare own
+with_row own place (Some s) = slice_set (map bare own) place s
+
+abbrev pub loaded_at : List Submission → Option ℕ → List Submission
+loaded_at own None = map bare own
+loaded_at own (Some place) = with_row own place (slice_get own place)
 
 abbrev pub loaded_for : Option (List ℕ) → List Submission → List Submission
-loaded_for key own = with_file_at own (place_of_key key own)
+loaded_for key own = loaded_at own (place_of_key key own)

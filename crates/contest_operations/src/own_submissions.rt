@@ -1,14 +1,14 @@
 //! A team's own submissions, as far as its next one is decided by them.
-ghost use Rattle.std.specs.Prelude.{◌≡◌, ◌&&◌, ◌==◌, ◌<◌, ℕ, List, true, Some, IfOk, find, length, option_map, slice_get, slice_set};
+ghost use Rattle.std.specs.Prelude.{◌≡◌, ◌&&◌, ◌==◌, ◌<◌, ℕ, List, true, Some, IfOk, IfSome, find, length, map, option_map, slice_get, slice_set};
+ghost use Rattle.std.specs.List.{position};
 ghost use Rattle.contest_types.specs.Loads.{loaded_submissions};
 ghost use Rattle.contest_types.specs.State.{ContestState, submissions_of};
 ghost use Rattle.contest_types.specs.Valid.{is_valid};
 ghost use Rattle.contest_types.specs.declared.submission.Submission.{Submission};
-ghost use Rattle.contest_rules.specs.Submitting.{has_key};
-ghost use Rattle.contest_operations.specs.OwnSubmissions.{keyed_row, loaded_for, with_file};
+ghost use Rattle.contest_rules.specs.Submitting.{has_key, place_of_key};
+ghost use Rattle.contest_operations.specs.OwnSubmissions.{bare, keyed_row, loaded_for, with_file};
 ghost use Rattle.contest_operations.specs.Commands.{file_at};
 
-use contest_rules::place_of_key;
 use contest_store::{CopyRow, Lists};
 use contest_types::{Id, Rows, Submission};
 use std::alloc::{AllocError, Global};
@@ -29,14 +29,32 @@ pub fn keyed_row(lists: &Lists, team: usize, key: &Option<Id>) -> Option<(usize,
 fn row_with<'a>(lists: &'a Lists, team: usize, key: &Id) -> Option<&'a Submission>
     ensures { option_map (λ s. s.now) result ≡ find (λ s. (s.team == team) && has_key key.now s) lists.now.submissions }
 {
+    match place_with(lists, team, key) {
+        Some(place) => lists.submission_of(team, place),
+        None => None,
+    }
+}
+
+// Where the submission with a key stands among those of the team, from 0.
+fn place_with(lists: &Lists, team: usize, key: &Id) -> Option<usize>
+    ensures { result ≡ position (has_key key.now) (submissions_of team lists.now.submissions) }
+{
     let submissions = lists.submissions();
-    for place in lists.places_of(team) {
-        let submission = &submissions[*place];
-        if has_key(submission, key) {
-            return Some(submission);
+    for (own_place, place) in lists.places_of(team).iter().enumerate() {
+        if has_key(&submissions[*place], key) {
+            return Some(own_place);
         }
     }
     None
+}
+
+fn place_of_key(lists: &Lists, team: usize, key: &Option<Id>) -> Option<usize>
+    ensures { result ≡ place_of_key key.now (submissions_of team lists.now.submissions) }
+{
+    match key {
+        Some(key) => place_with(lists, team, key),
+        None => None,
+    }
 }
 
 // Whether a submission was posted with this key.
@@ -49,8 +67,8 @@ fn has_key(submission: &Submission, key: &Id) -> bool
     }
 }
 
-/// The submissions of the team at a place, from 0, in the order in which they were accepted. Files are
-/// large: only that of the one which has the key is there.
+/// The submissions of the team at a place, from 0, in the order in which they were accepted. A team may
+/// have many: only the one which has the key is whole, the others are without their file and key.
 ///
 /// # Errors
 ///
@@ -66,39 +84,83 @@ pub fn own_submissions(
         → IfOk result (λ own. own.items ≡ loaded_for key.now (submissions_of team x.submissions)) }
 {
     let own = rows_of_team(alloc, lists, team)?;
-    match place_of_key(&own, key) {
-        Some(place) => Ok(with_file_at(own, place, file)),
+    match place_of_key(lists, team, key) {
+        Some(place) => match whole_row(alloc, lists, team, place, file)? {
+            Some(row) => Ok(with_row(own, place, row)),
+            None => Ok(own),
+        },
         None => Ok(own),
     }
 }
 
 fn rows_of_team(alloc: Global, lists: &Lists, team: usize) -> Result<Vec<Submission>, AllocError>
-    ensures { IfOk result (λ own. own.items ≡ submissions_of team lists.now.submissions) }
+    ensures { IfOk result (λ own. own.items ≡ map bare (submissions_of team lists.now.submissions)) }
 {
     let submissions = lists.submissions();
     let mut own = Vec::new(alloc);
     for place in lists.places_of(team) {
-        own.push(submissions[*place].copied(alloc)?)?;
+        own.push(bare(alloc, &submissions[*place])?)?;
     }
     Ok(own)
 }
 
-// The rows with the file of the one at a place.
-fn with_file_at(own: Vec<Submission>, place: usize, file: Option<Rows<u8>>) -> Vec<Submission>
-    requires { place < length own.items }
-    ensures { (bytes : List ℕ) (s : Submission) → slice_get own.items place ≡ Some s → file ≡ Some bytes → result.items ≡ slice_set own.items place (with_file bytes s) }
+// A submission without its file and its key.
+fn bare(alloc: Global, submission: &Submission) -> Result<Submission, AllocError>
+    ensures { IfOk result (λ copy. copy ≡ bare submission.now) }
 {
-    match file {
-        Some(file) => put_file(own, place, file),
-        None => own,
+    Ok(Submission {
+        team: submission.team,
+        number: submission.number,
+        time: submission.time,
+        problem: submission.problem,
+        language: submission.language,
+        entry_point: submission.entry_point.clone()?,
+        file: Rows::new(alloc),
+        key: None,
+    })
+}
+
+// The row at a place among the team's own, with its file.
+fn whole_row(
+    alloc: Global,
+    lists: &Lists,
+    team: usize,
+    place: usize,
+    file: Option<Rows<u8>>,
+) -> Result<Option<Submission>, AllocError>
+    ensures { (bytes : List ℕ) (s : Submission) → slice_get (submissions_of team lists.now.submissions) place ≡ Some s → file ≡ Some bytes
+        → IfOk result (λ row. row ≡ Some (with_file bytes s)) }
+{
+    match lists.submission_of(team, place) {
+        Some(row) => with_file(alloc, row, file),
+        None => Ok(None),
     }
 }
 
-fn put_file(own: Vec<Submission>, place: usize, file: Rows<u8>) -> Vec<Submission>
-    requires { place < length own.items }
-    ensures { (s : Submission) → slice_get own.items place ≡ Some s → result.items ≡ slice_set own.items place (with_file file s) }
+fn with_file(
+    alloc: Global,
+    row: &Submission,
+    file: Option<Rows<u8>>,
+) -> Result<Option<Submission>, AllocError>
+    ensures { (bytes : List ℕ) → file ≡ Some bytes → IfOk result (λ filed. filed ≡ Some (with_file bytes row.now)) }
+{
+    match file {
+        Some(file) => {
+            let mut filed = row.copied(alloc)?;
+            filed.file = file;
+            Ok(Some(filed))
+        }
+        None => Ok(None),
+    }
+}
+
+// The rows with this one at a place.
+fn with_row(own: Vec<Submission>, place: usize, row: Submission) -> Vec<Submission>
+    ensures { place < length own.items → result.items ≡ slice_set own.items place row }
 {
     let mut own = own;
-    own[place].file = file;
+    if place < own.len() {
+        own[place] = row;
+    }
     own
 }
