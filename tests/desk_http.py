@@ -62,6 +62,11 @@ def get(path, fields=b"", method=b"GET"):
     return b"%s %s HTTP/1.1\r\nHost: x\r\n%s\r\n" % (method, path, fields)
 
 
+def heed_interrupts():
+    """A shell has what it starts in the background ignore SIGINT, and so would the server that comes of it."""
+    signal.signal(signal.SIGINT, signal.SIG_DFL)
+
+
 class Server:
     """The program, which serves the contest in a folder, and its clock."""
 
@@ -70,7 +75,8 @@ class Server:
         self.at("2024-03-02 09:05:00")
         self.process = subprocess.Popen(
             [test.program, "serve", "cup.db", "--requests", str(requests), "--port", port],
-            cwd=folder, env=fake_clock.shown_by(self.clock), stdout=subprocess.PIPE, stderr=subprocess.PIPE)
+            cwd=folder, env=fake_clock.shown_by(self.clock), stdout=subprocess.PIPE, stderr=subprocess.PIPE,
+            preexec_fn=heed_interrupts)
         test.processes.append(self.process)
         line = self.process.stdout.readline().decode()
         found = re.fullmatch(r"listening on 127\.0\.0\.1:(\d+)\n", line)

@@ -1,3 +1,4 @@
+pub mod SpellingLaws
 pub mod CastLemmas
 pub mod HeldRows
 pub mod RisingLists

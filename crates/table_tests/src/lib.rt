@@ -1,7 +1,13 @@
-//! Tests of the tables of a contest over a database in memory: that the calls succeed, and what the
-//! tables show after them.
+//! Tests of the tables of a contest, and of its changes in them, over a database in memory: that the calls
+//! succeed, and what the tables show after them.
 #![tactic(auto)]
 
+#[cfg(test)]
+mod changes;
+#[cfg(test)]
+mod rows;
+#[cfg(test)]
+mod sixteen;
 #[cfg(test)]
 mod standing;
 #[cfg(test)]

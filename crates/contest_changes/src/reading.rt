@@ -1,6 +1,6 @@
 //! The lists of a contest from the rows of its tables.
 ghost use Rattle.std.specs.Prelude.{◌≡◌, Some, None, true, false, IfOk};
-ghost use Rattle.contest_spelling.specs.Spelling.{lists_in, tables_of, with_clarifications_in, with_lists_in, with_proposals_in, with_rejudgings_in, with_releases_in, with_submissions_in};
+ghost use Rattle.contest_changes.specs.Spelling.{lists_in, tables_of, with_clarifications_in, with_lists_in, with_proposals_in, with_rejudgings_in, with_releases_in, with_submissions_in};
 
 use crate::LoadedRows;
 use contest_fixed_rows::read_fixed;

@@ -2,8 +2,8 @@
 
 ghost use Rattle.std.specs.Prelude.{◌≤◌, length};
 
-use crate::answers::{Answer, answer_to, replay};
-use crate::files::{FIRST, FIRST_BOARD};
+use crate::replay_answers::{Answer, answer_to, replay};
+use crate::replay_files::{FIRST, FIRST_BOARD};
 use contest_fixtures::text_of;
 use std::alloc::Global;
 use std::io;
