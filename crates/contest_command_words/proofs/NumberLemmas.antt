@@ -1,25 +1,11 @@
 -- The number that the digits of a word write.
-use Rattle.std.proofs.Common.{ℕ, ◌≡◌, ◌≤◌, Bool, List, true, false, Some, None, refl, arith}
-use Rattle.std.specs.Prelude.{◌&&◌, nat_le}
+use Rattle.std.proofs.Common.{ℕ, ◌≡◌, ◌≤◌, List, Some, None, refl}
 use Rattle.std.specs.Str.Parse.{IsNumeral, digits_value}
-use Rattle.std.proofs.lemmas.Bool.Decides.{nat_tests}
-use Rattle.contest_types.specs.RelTimeRead.{are_digits}
-use Rattle.contest_types.proofs.RelTimeReading.{numeral, are_numeral}
+use Rattle.contest_types.proofs.NumeralLemmas.{writes_none, writes_one}
 use Rattle.contest_command_words.specs.ServeWords.{number_to}
 
-at_most : (m n : ℕ) → nat_le m n ≡ true → m ≤ n
-at_most m n h = grind (arith, nat_tests)
-
-is_most : (m n : ℕ) → m ≤ n → nat_le m n ≡ true
-is_most m n h = grind (arith, nat_tests)
-
-tests_agree : (most : ℕ) (text : List ℕ) (b c : Bool) → are_digits text ≡ b → nat_le (digits_value 10 text) most ≡ c → (IsNumeral 10 text × (digits_value 10 text ≤ most) → ⊥) → (b && c) ≡ false
-tests_agree most text true true eb ec h = absurd (h (numeral text eb, at_most _ _ ec))
-tests_agree most text true false eb ec h = refl
-tests_agree most text false c eb ec h = refl
-
 pub number_none : (most : ℕ) (text : List ℕ) → (IsNumeral 10 text × (digits_value 10 text ≤ most) → ⊥) → None ≡ number_to most text
-number_none most text h = rw (tests_agree most text _ _ refl refl h) refl
+number_none most text h = rw (writes_none most text h) refl
 
 pub number_some : (most : ℕ) (text : List ℕ) → IsNumeral 10 text → digits_value 10 text ≤ most → Some (digits_value 10 text) ≡ number_to most text
-number_some most text n l = rw (are_numeral text n, is_most _ _ l) refl
+number_some most text n l = rw (writes_one most text n l) refl

@@ -3,3 +3,4 @@ pub mod Steps
 pub mod FieldLemmas
 pub mod JsonLemmas
 pub mod TokenLemmas
+pub mod RecordLemmas

@@ -1,7 +1,7 @@
 //! The records of a CSV file, one after the other (RFC 4180 as the crate csv reads it).
-ghost use Rattle.std.specs.Prelude.{◌≡◌, ◌≤◌, ◌<◌, ◌^◌, ◌∷◌, [], Ok, true, false, IfErr, length};
+ghost use Rattle.std.specs.Prelude.{◌≡◌, ◌≤◌, ◌<◌, ◌^◌, ◌∷◌, [], Ok, Some, true, false, IfErr, length};
 ghost use Rattle.csv.specs.Reading.{default_config, records, stops_reader, strip_bom};
-ghost use Rattle.csv.specs.Records.{fields_of};
+ghost use Rattle.csv.specs.Records.{field_at, fields_of};
 
 use contest_types::Refusal;
 use csv::{ByteRecord, ErrorKind, Reader, ReaderBuilder};
@@ -60,5 +60,16 @@ fn stopped(kind: ErrorKind) -> Refusal
         ErrorKind::Io(_) => Refusal::Memory,
         ErrorKind::OutOfMemory => Refusal::Memory,
         _ => unreachable!(),
+    }
+}
+
+/// The field at a place that is there.
+pub fn field(row: &ByteRecord, place: usize) -> &[u8]
+    requires { place < length (fields_of row.now) }
+    ensures { field_at (fields_of row.now) place ≡ Some result.now }
+{
+    match row.get(place) {
+        Some(field) => field,
+        None => unreachable!(),
     }
 }

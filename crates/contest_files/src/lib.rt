@@ -7,7 +7,7 @@ mod fields;
 mod json_members;
 mod token;
 
-pub use csv_records::CsvRecords;
+pub use csv_records::{CsvRecords, field};
 pub use fields::{flag, flag_or_empty, ordinal, time_span, time_span_or_empty};
 pub use json_members::{
     flag_in, flag_or_false, id_in, id_member, name_in, number_in, number_or, number_to, only_item,

@@ -1,19 +1,13 @@
 -- The length of a body by its digits.
-use Rattle.std.proofs.Common.{ℕ, ◌≡◌, ◌≤◌, ◌∷◌, [], Bool, true, false, List, refl, arith}
+use Rattle.std.proofs.Common.{ℕ, ◌≡◌, ◌≤◌, ◌∷◌, [], Bool, true, false, List, refl}
 use Rattle.std.specs.Prelude.{nat_le, Ok, Err}
 use Rattle.std.specs.Str.Parse.{IsNumeral, digits_value}
-use Rattle.std.proofs.lemmas.Bool.Decides.{nat_tests}
 use Rattle.contest_types.specs.RelTimeRead.{are_digits}
 use Rattle.contest_types.specs.declared.limits.TheConstants.{REQUEST_BODY}
 use Rattle.contest_types.specs.declared.refusal.Refusal.TheVariants.{BodyTooLarge, Malformed}
+use Rattle.contest_types.proofs.NumeralLemmas.{at_most, is_most}
 use Rattle.contest_types.proofs.RelTimeReading.{are_numeral, numeral}
 use Rattle.contest_http.specs.Plans.{body_length}
-
-at_most : (m n : ℕ) → nat_le m n ≡ true → m ≤ n
-at_most m n h = grind (arith, nat_tests)
-
-is_most : (m n : ℕ) → m ≤ n → nat_le m n ≡ true
-is_most m n h = grind (arith, nat_tests)
 
 pub length_some : (v : List ℕ) → IsNumeral 10 v → digits_value 10 v ≤ REQUEST_BODY → body_length (v ∷ []) ≡ Ok (digits_value 10 v)
 length_some v n most = rw (are_numeral v n, is_most _ _ most) refl

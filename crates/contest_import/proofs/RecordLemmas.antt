@@ -1,15 +1,8 @@
 -- The fields of a record.
-use Rattle.std.proofs.Common.{ℕ, zero, suc, ◌≡◌, ◌<◌, List, [], ◌∷◌, Option, Some, None, length, refl, arith}
+use Rattle.std.proofs.Common.{◌≡◌, List, [], ◌∷◌, Option, Some, None, length, refl, arith}
 use Rattle.csv.specs.Records.{field_at}
 use Rattle.contest_files.specs.FieldTexts.{Text}
 use Rattle.contest_import.specs.CsvFiles.{FourFields, four_of}
-
--- a record of four fields has a field at each place
-pub field_there : (fs : List Text) (i : ℕ) → i < length fs → field_at fs i ≡ None → ⊥
-unfolding field_at
-field_there [] i l e = omega (arith, l)
-field_there (f ∷ fs) zero l e = cc e
-field_there (f ∷ fs) (suc i) l e = field_there fs i (omega (arith, l)) e
 
 pub four_by : (fs : List Text) (a b c d : Text) → length fs ≡ 4 → field_at fs 0 ≡ Some a → field_at fs 1 ≡ Some b → field_at fs 2 ≡ Some c → field_at fs 3 ≡ Some d
     → Some (record { first = a; second = b; third = c; fourth = d }) ≡ four_of fs

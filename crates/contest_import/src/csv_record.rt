@@ -1,8 +1,9 @@
 //! The fields of a CSV record that has four.
-ghost use Rattle.std.specs.Prelude.{◌≡◌, ◌<◌, Some, length};
-ghost use Rattle.csv.specs.Records.{field_at, fields_of};
+ghost use Rattle.std.specs.Prelude.{◌≡◌, Some};
+ghost use Rattle.csv.specs.Records.{fields_of};
 ghost use Rattle.contest_import.specs.CsvFiles.{four_of, holds_by, is_header};
 
+use contest_files::field;
 use csv::ByteRecord;
 use std::marker::Model;
 
@@ -36,17 +37,6 @@ pub(crate) fn four_fields(row: &ByteRecord) -> Option<CsvRecord<'_>>
         third: field(row, 2),
         fourth: field(row, 3),
     })
-}
-
-/// The field at a place that is there.
-fn field(row: &ByteRecord, place: usize) -> &[u8]
-    requires { place < length (fields_of row.now) }
-    ensures { field_at (fields_of row.now) place ≡ Some result.now }
-{
-    match row.get(place) {
-        Some(field) => field,
-        None => unreachable!(),
-    }
 }
 
 /// Whether a record holds these four names.

@@ -9,6 +9,7 @@ ghost use Rattle.contest_rules.specs.Submitting.{has_key, place_of_key};
 ghost use Rattle.contest_operations.specs.OwnSubmissions.{bare, keyed_row, loaded_for, with_file};
 ghost use Rattle.contest_operations.specs.Commands.{file_at};
 
+use contest_rules::has_key;
 use contest_store::{CopyRow, Lists};
 use contest_types::{Id, Rows, Submission};
 use std::alloc::{AllocError, Global};
@@ -54,16 +55,6 @@ fn place_of_key(lists: &Lists, team: usize, key: &Option<Id>) -> Option<usize>
     match key {
         Some(key) => place_with(lists, team, key),
         None => None,
-    }
-}
-
-// Whether a submission was posted with this key.
-fn has_key(submission: &Submission, key: &Id) -> bool
-    ensures { result ≡ has_key key.now submission.now }
-{
-    match &submission.key {
-        Some(own) => own == key,
-        None => false,
     }
 }
 

@@ -1,16 +1,9 @@
 -- The fields of a record.
-use Rattle.std.proofs.Common.{ℕ, zero, suc, ◌≡◌, ◌<◌, List, [], ◌∷◌, Option, Some, None, length, refl, arith}
+use Rattle.std.proofs.Common.{◌≡◌, List, [], ◌∷◌, Option, Some, None, length, refl, arith}
 use Rattle.std.specs.Option.{option_and_then}
 use Rattle.csv.specs.Records.{field_at}
 use Rattle.contest_files.specs.FieldTexts.{Text}
 use Rattle.contest_replay.specs.ReplayRecord.{FiveFields, five_of}
-
--- a record of five fields has a field at each place
-pub field_there : (fs : List Text) (i : ℕ) → i < length fs → field_at fs i ≡ None → ⊥
-unfolding field_at
-field_there [] i l e = omega (arith, l)
-field_there (f ∷ fs) zero l e = cc e
-field_there (f ∷ fs) (suc i) l e = field_there fs i (omega (arith, l)) e
 
 pub five_by : (fs : List Text) (a b c d e : Text) → length fs ≡ 5 → field_at fs 0 ≡ Some a → field_at fs 1 ≡ Some b → field_at fs 2 ≡ Some c → field_at fs 3 ≡ Some d → field_at fs 4 ≡ Some e
     → Some (record { kind = a; id = b; f1 = c; f2 = d; f3 = e }) ≡ five_of fs

@@ -12,6 +12,7 @@ use Rattle.contest_types.specs.declared.proposal.Proposal.{Proposal}
 use Rattle.contest_types.specs.declared.refusal.Refusal.{Refusal}
 use Rattle.contest_types.specs.declared.refusal.Refusal.TheVariants.{UnknownReference, AlreadyReleased, NothingToVerify, SameJudge, TypeDiffers}
 use Rattle.contest_types.specs.declared.submission.Release.{Release}
+use Rattle.contest_types.proofs.LastLemmas.{last_more}
 use Rattle.contest_rules.specs.Laws.{VerifiedIsAddable}
 use Rattle.contest_rules.specs.Verdicts.{first_release, named_verdict}
 use Rattle.contest_rules.specs.Verifying.{is_proposer, last_proposal, later_for, verify_for, verify_of}
@@ -40,10 +41,6 @@ verified_is_addable x now account w v h =
           subst (λ u. is_addable x (NewRelease u) ≡ true) (sym t.1) (release_fits x now n.team n.number n.verdict named.there named.is_type t.0))
     ] in
     go (named_verdict x.fixed x.submissions w) refl h
-
-last_more : {X : Type 0} (o : Option X) (xs : List X) (x : X) → last_or o (xs ++ x ∷ []) ≡ Some x
-last_more o [] x = refl
-last_more o (y ∷ ys) x = last_more (Some y) ys x
 
 one_more : (team number : ℕ) (ps : List Proposal) (p : Proposal) → last_proposal team number (ps ++ p ∷ []) ≡ later_for team number (last_proposal team number ps) p
 one_more team number ps p =

@@ -10,6 +10,6 @@ mod verifying;
 
 pub use decision::Decision;
 pub use proposing::{NewVerdict, decide_proposal};
-pub use submitting::{WantedSubmission, decide_submission, place_of_key};
+pub use submitting::{WantedSubmission, decide_submission, has_key};
 pub use verdicts::WantedVerdict;
 pub use verifying::decide_verify;

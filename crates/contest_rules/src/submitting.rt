@@ -112,8 +112,8 @@ fn lacks_entry_point(fixed: &Fixed, language: usize, entry_point: &Option<Name>)
     }
 }
 
-/// Where the submission with a key stands among a team's own, from 0. It takes no memory.
-pub fn place_of_key(own: &[Submission], key: &Option<Id>) -> Option<usize>
+// Where the submission with a key stands among a team's own, from 0.
+fn place_of_key(own: &[Submission], key: &Option<Id>) -> Option<usize>
     ensures place { result ≡ place_of_key key.now own.now }
     ensures within { IfSome result (λ place. place < length own.now) }
 {
@@ -130,8 +130,8 @@ fn place_with(own: &[Submission], key: &Id) -> Option<usize>
     own.iter().position(|submission| has_key(submission, key))
 }
 
-// Whether a submission was posted with this key.
-fn has_key(submission: &Submission, key: &Id) -> bool
+/// Whether a submission was posted with this idempotency key.
+pub fn has_key(submission: &Submission, key: &Id) -> bool
     ensures { result ≡ has_key key.now submission.now }
 {
     match &submission.key {

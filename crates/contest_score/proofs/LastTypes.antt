@@ -7,11 +7,8 @@ use Rattle.std.proofs.lemmas.List.Elements.{filter-append, All-filter}
 use Rattle.contest_types.specs.State.{releases_on}
 use Rattle.contest_types.specs.Sight.{Judgement, judgement_of, type_of}
 use Rattle.contest_types.specs.declared.submission.Release.{Release}
+use Rattle.contest_types.proofs.LastLemmas.{last_more}
 use Rattle.contest_score.specs.LastVerdicts.{last_type, released_with}
-
-last_more : {X : Type 0} (o : Option X) (xs : List X) (x : X) → last_or o (xs ++ x ∷ []) ≡ Some x
-last_more o [] x = refl
-last_more o (y ∷ ys) x = last_more (Some y) ys x
 
 -- one more release
 pub last_type_more : (vs : List Release) (v : Release) (team number : ℕ) → last_type (vs ++ v ∷ []) team number ≡ released_with (last_type vs) v team number

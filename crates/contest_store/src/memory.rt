@@ -237,6 +237,7 @@ impl ContestStore for MemoryStore {
         }
     }
 
+    // The entry is dropped by name: where it ends at a return, each of its kinds is a step of the proof.
     fn append(&mut self, alloc: Global, entry: Entry) -> Result<(), StoreError> {
         if self.fails() {
             drop(entry);

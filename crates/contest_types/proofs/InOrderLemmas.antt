@@ -65,6 +65,10 @@ found_in {X} p (y ∷ xs) x h t =
     record { item = rest.item; found = rw f rest.found; passes = rest.passes; there = inr rest.there }) in
     elim (cases_Bool (p y)) [ inl e ↦ record { item = y; found = rw e refl; passes = e; there = inl refl } | inr f ↦ later f ]
 
+-- where none is found, none passes
+pub none_passes : {X : Type 0} (p : X → Bool) (xs : List X) (x : X) → find p xs ≡ None → Has xs x → p x ≡ true → ⊥
+none_passes p xs x e h t = cc (sym e ∙ (found_in p xs x h t).found)
+
 pub find_has : {X : Type 0} (p : X → Bool) (xs : List X) (x : X) → find p xs ≡ Some x → Has xs x
 find_has p [] x h = absurd (cc h)
 find_has {X} p (y ∷ xs) x h =

@@ -14,6 +14,7 @@ pub mod MomentLemmas
 mod ExamplesMoments
 pub mod Printed
 pub mod RelTimeReading
+pub mod NumeralLemmas
 pub mod OrderLemmas
 pub mod SightLemmas
 pub mod ExampleContest
@@ -42,6 +43,7 @@ pub mod InOrder
 pub mod KeyOrder
 pub mod ProblemOrder
 pub mod InOrderLemmas
+pub mod LastLemmas
 pub mod Rising
 pub mod SeenWhole
 pub mod DashedNumbers

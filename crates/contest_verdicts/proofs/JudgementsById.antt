@@ -17,7 +17,7 @@ use Rattle.contest_types.specs.declared.limits.TheConstants.{TEAMS}
 use Rattle.contest_types.specs.declared.submission.Release.{Release}
 use Rattle.contest_types.specs.declared.submission.Submission.{Submission}
 use Rattle.contest_types.proofs.AddSettings.{tests_of}
-use Rattle.contest_types.proofs.InOrderLemmas.{find_has, found_in}
+use Rattle.contest_types.proofs.InOrderLemmas.{find_has, found_in, none_passes}
 use Rattle.contest_types.proofs.Rising.{find_passes}
 use Rattle.contest_types.proofs.SeenWhole.{listed_seen, seen_listed, one_submission, team_there}
 use Rattle.contest_types.proofs.ValidParts.{parts}
@@ -28,10 +28,6 @@ use Rattle.contest_verdicts.specs.Judgements.{has_id, item_where, judgement_data
 use Rattle.contest_verdicts.specs.LastRows.{last_row}
 use Rattle.contest_verdicts.proofs.JudgementIds.{one_submission_id}
 use Rattle.contest_verdicts.proofs.JudgementLemmas.{items_are, items_of_seen, seen_is}
-
--- where none is found, none passes
-none_passes : {X : Type 0} (p : X → Bool) (xs : List X) (x : X) → find p xs ≡ None → Has xs x → p x ≡ true → ⊥
-none_passes p xs x e h t = cc (sym e ∙ (found_in p xs x h t).found)
 
 find_same : {X : Type 0} (p q : X → Bool) → ((x : X) → p x ≡ q x) → (xs : List X) → find p xs ≡ find q xs
 find_same p q same [] = refl

@@ -8,11 +8,8 @@ use Rattle.std.proofs.lemmas.List.{take_more}
 use Rattle.std.proofs.lemmas.List.Elements.{filter-append}
 use Rattle.std.proofs.lemmas.Option.{slice_get-get_or}
 use Rattle.contest_types.specs.State.{SubmissionRef}
+use Rattle.contest_types.proofs.LastLemmas.{last_more}
 use Rattle.contest_verdicts.specs.LastRows.{is_on, last_row, placed_with}
-
-last_more : {X : Type 0} (o : Option X) (xs : List X) (x : X) → last_or o (xs ++ x ∷ []) ≡ Some x
-last_more o [] x = refl
-last_more o (y ∷ ys) x = last_more (Some y) ys x
 
 one_more : {R : Type 0} (of : R → SubmissionRef) (rows : List R) (row : R) (team number : ℕ) → last_row of (rows ++ row ∷ []) team number ≡ (if is_on of team number row then Some row else last_row of rows team number)
 one_more of rows row team number =

@@ -13,7 +13,7 @@ use Rattle.contest_types.specs.declared.audience.Audience.{Audience}
 use Rattle.contest_types.specs.declared.limits.TheConstants.{TEAMS}
 use Rattle.contest_types.specs.declared.submission.Submission.{Submission}
 use Rattle.contest_types.proofs.AddSettings.{tests_of}
-use Rattle.contest_types.proofs.InOrderLemmas.{find_has, found_in}
+use Rattle.contest_types.proofs.InOrderLemmas.{find_has, found_in, none_passes}
 use Rattle.contest_types.proofs.PlaceLemmas.{and_left, and_right, both_true}
 use Rattle.contest_types.proofs.Rising.{find_passes}
 use Rattle.contest_types.proofs.SeenWhole.{listed_seen, seen_listed, one_submission, team_there}
@@ -27,10 +27,6 @@ use Rattle.contest_view.proofs.CollectionLemmas.{find_mapped}
 use Rattle.contest_view.proofs.SeenApart.{number_small, within_limit}
 use Rattle.contest_view.proofs.SeenKeys.{same_object}
 use Rattle.contest_view.proofs.SubmissionIds.{one_id}
-
--- where none is found, none passes
-none_passes : {X : Type 0} (p : X → Bool) (xs : List X) (x : X) → find p xs ≡ None → Has xs x → p x ≡ true → ⊥
-none_passes p xs x e h t = cc (sym e ∙ (found_in p xs x h t).found)
 
 -- this one is asked for
 abbrev pub is_asked : Audience → ContestState → List ℕ → Submission → Bool

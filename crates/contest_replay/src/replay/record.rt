@@ -1,8 +1,9 @@
 //! The five fields of a replay's record.
-ghost use Rattle.std.specs.Prelude.{◌≡◌, ◌<◌, Some, length};
-ghost use Rattle.csv.specs.Records.{fields_of, field_at};
+ghost use Rattle.std.specs.Prelude.{◌≡◌};
+ghost use Rattle.csv.specs.Records.{fields_of};
 ghost use Rattle.contest_replay.specs.ReplayRecord.{five_of};
 
+use contest_files::field;
 use csv::ByteRecord;
 use std::marker::Model;
 
@@ -38,15 +39,4 @@ pub(crate) fn five_fields(row: &ByteRecord) -> Option<ReplayRecord<'_>>
         f2: field(row, 3),
         f3: field(row, 4),
     })
-}
-
-/// The field at a place that is there.
-fn field(row: &ByteRecord, place: usize) -> &[u8]
-    requires { place < length (fields_of row.now) }
-    ensures { field_at (fields_of row.now) place ≡ Some result.now }
-{
-    match row.get(place) {
-        Some(field) => field,
-        None => unreachable!(),
-    }
 }

@@ -1,7 +1,0 @@
-use Rattle.std.proofs.Common.{sym}
-use Rattle.csv.specs.Records.{fields_of}
-use Rattle.contest_import.proofs.RecordLemmas.{field_there}
-use Rattle.contest_import.proofs.csv_record.field.Goals as goal
-
-pub unreachable-requires : goal.unreachable-requires
-unreachable-requires c = field_there (fields_of c.args.row.now) c.args.place c.requires (sym c.in-None.ensures.value)

@@ -1,0 +1,7 @@
+-- The last of a list.
+use Rattle.std.proofs.Common.{◌≡◌, List, [], ◌∷◌, ◌++◌, Option, Some, refl}
+use Rattle.std.specs.List.{last_or}
+
+pub last_more : {X : Type 0} (o : Option X) (xs : List X) (x : X) → last_or o (xs ++ x ∷ []) ≡ Some x
+last_more o [] x = refl
+last_more o (y ∷ ys) x = last_more (Some y) ys x
