@@ -5,15 +5,18 @@
 
 A wrong body has to be found refused, a harmless one not refused, an unreadable one unreadable, and one whose proof
 names what it took away as such; two bodies of one function are told apart; a round in which a function is refused that
-no edit touches is not believed; what was refused isn't tried again until a byte of it changes. Ends with the line
-'N passed, N failed'.
+no edit touches is not believed; what was refused isn't tried again until a byte of it changes; beside `rt ci` a crate
+waits for the libraries below it. Ends with the line 'N passed, N failed'.
 """
 
+import importlib.machinery
+import importlib.util
 import pathlib
 import re
 import subprocess
 import sys
 import tempfile
+import types
 
 sys.dont_write_bytecode = True
 
@@ -160,6 +163,28 @@ def judge_disbelief(tally, root):
     tally.see("and found refused", kinds == [judging.Kind.REFUSED], str(verdicts))
 
 
+def judge_waiting(tally, root):
+    """Beside `rt ci` a crate is tried once that says of each library below it that it stands, or once it has ended."""
+    loader = importlib.machinery.SourceFileLoader("wrong_bodies", str(HERE / "wrong_bodies"))
+    script = importlib.util.module_from_spec(importlib.util.spec_from_loader("wrong_bodies", loader))
+    sys.modules["wrong_bodies"] = script
+    loader.exec_module(script)
+    libraries, said = [types.SimpleNamespace(name="low"), types.SimpleNamespace(name="toy")], root / "said"
+    begun = [
+        ("nothing", "", False),
+        ("one of both", "rt: low proved\nrt: toy: its tests are proved\n", False),
+        ("one that isn't proved", "rt: low proved\nrt: toy NOT PROVED\n", False),
+        ("both", "rt: toy proved\nrt: low is kept: an earlier run proved the same\n", True),
+        ("the end", "rt: low NOT PROVED\n0 passed, 2 failed\n", True),
+    ]
+    tally.see("it waits for a file", not script.are_proved(libraries, said))
+    for what, text, wanted in begun:
+        said.write_text(text, encoding="utf-8")
+        tally.see(f"after {what}", script.are_proved(libraries, said) == wanted)
+    status, text = wrong_bodies(root, "--all", "--beside-ci", said)
+    tally.see("it tries them with what stands", status == 0 and text.endswith("\n1 passed, 0 failed, 0 skipped\n"), text)
+
+
 def report_of(functions):
     return "".join(f"fn {name}: {status}\n" for name, status in functions.items()) + "logic=not-proved\n"
 
@@ -173,6 +198,7 @@ def main():
         judge_verdicts(tally, root)
         judge_digests(tally, root)
         judge_disbelief(tally, root)
+        judge_waiting(tally, root)
     print(f"{tally.passed} passed, {tally.failed} failed")
     return 1 if tally.failed else 0
 

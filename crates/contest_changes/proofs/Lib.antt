@@ -1,4 +1,3 @@
-pub mod SpellingLaws
 pub mod CastLemmas
 pub mod HeldRows
 pub mod RisingLists

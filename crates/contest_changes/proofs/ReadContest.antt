@@ -14,7 +14,7 @@ use Rattle.contest_rows.specs.Submissions.{submission_in}
 use Rattle.contest_rows.specs.Tables.{Tables}
 use Rattle.contest_fixed_rows.specs.FixedParts.{fixed_in}
 use Rattle.contest_fixed_rows.proofs.OptionSteps.{bound}
-use Rattle.contest_changes.specs.Spelling.{lists_in, with_clarifications_in, with_lists_in, with_proposals_in, with_rejudgings_in, with_releases_in, with_submissions_in, without_rows}
+use Rattle.contest_fixed_rows.specs.Spelling.{lists_in, with_clarifications_in, with_lists_in, with_proposals_in, with_rejudgings_in, with_releases_in, with_submissions_in, without_rows}
 use Rattle.contest_changes.specs.ContestTables.{with_file, with_files}
 use Rattle.contest_changes.specs.Kinds.{IsMoment, IsOfKindsRejudging, IsOfKindsSubmission}
 use Rattle.contest_changes.proofs.ReadCells.{made}

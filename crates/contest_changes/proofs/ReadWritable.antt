@@ -26,7 +26,7 @@ use Rattle.contest_types.proofs.SettingsTest.{is_settings}
 use Rattle.contest_types.proofs.ValidParts.{parts}
 use Rattle.contest_rows.specs.Laws.{IsWritableClarification, IsWritableProposal, IsWritableRejudging, IsWritableRelease, IsWritableState, IsWritableSubmission}
 use Rattle.contest_fixed_rows.specs.Laws.{IsWritableAccount}
-use Rattle.contest_changes.specs.SpellingLaws.{IsWritable}
+use Rattle.contest_fixed_rows.specs.SpellingLaws.{IsWritable}
 use Rattle.contest_changes.specs.Kinds.{HasIdIfAny, IsMoment, IsOfKindsAccount, IsOfKindsRejudging, IsOfKindsSubmission}
 use Rattle.contest_changes.proofs.ReadCells.{at_most}
 use Rattle.contest_changes.proofs.ReadContest.{IsRead}

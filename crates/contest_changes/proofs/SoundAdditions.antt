@@ -26,7 +26,7 @@ use Rattle.contest_types.proofs.AddEntry.{adding}
 use Rattle.contest_types.proofs.PlaceLemmas.{and_left}
 use Rattle.contest_types.proofs.ValidParts.{four, parts}
 use Rattle.contest_rows.specs.Laws.{IsWritableClarification, IsWritableProposal, IsWritableRejudging, IsWritableRelease, IsWritableState, IsWritableSubmission}
-use Rattle.contest_changes.specs.SpellingLaws.{IsWritable}
+use Rattle.contest_fixed_rows.specs.SpellingLaws.{IsWritable}
 use Rattle.contest_changes.specs.Kinds.{IsOfKinds}
 use Rattle.contest_changes.specs.Laws.{AdditionsStaySound}
 use Rattle.contest_changes.specs.Sound.{IsSound}

@@ -9,9 +9,9 @@ use Rattle.contest_types.specs.declared.submission.Submission.{Submission}
 use Rattle.contest_rows.specs.ListRows.{loaded_submission_row, submission_row}
 use Rattle.contest_rows.specs.Tables.{rows_of}
 use Rattle.contest_rows.proofs.ListLaws.{rows_from}
-use Rattle.contest_changes.specs.SpellingLaws.{loaded_rows_of}
-use Rattle.contest_changes.specs.Spelling.{lists_in}
-use Rattle.contest_changes.proofs.SpellingLaws.{contests_read_back}
+use Rattle.contest_fixed_rows.specs.SpellingLaws.{loaded_rows_of}
+use Rattle.contest_fixed_rows.specs.Spelling.{lists_in}
+use Rattle.contest_fixed_rows.proofs.SpellingLaws.{contests_read_back}
 use Rattle.contest_tables.specs.Statements.{loaded_row}
 use Rattle.contest_tables.specs.declared.table_name.TableName.TheVariants.{Submissions}
 use Rattle.contest_changes.specs.ContestTables.{contest_in, if_valid, loaded_tables, table_rows, with_file, with_files}

@@ -3,9 +3,9 @@ use Rattle.std.proofs.Common.{◌≡◌, true, Some, sym, subst}
 use Rattle.std.specs.List.{AllByRecursion}
 use Rattle.contest_types.specs.State.{ContestState}
 use Rattle.contest_types.specs.Valid.{is_valid}
-use Rattle.contest_changes.specs.SpellingLaws.{AreRows}
-use Rattle.contest_changes.specs.Spelling.{lists_in}
-use Rattle.contest_changes.proofs.SpellingLaws.{contests_write_back}
+use Rattle.contest_fixed_rows.specs.SpellingLaws.{AreRows}
+use Rattle.contest_fixed_rows.specs.Spelling.{lists_in}
+use Rattle.contest_fixed_rows.proofs.SpellingLaws.{contests_write_back}
 use Rattle.contest_tables.specs.Steps.{Rises}
 use Rattle.contest_tables.specs.Tables.{TableRows}
 use Rattle.contest_tables.specs.declared.table_name.TableName.TheVariants.{Accounts, Submissions}

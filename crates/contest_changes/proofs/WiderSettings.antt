@@ -19,7 +19,7 @@ use Rattle.contest_types.specs.declared.submission.Submission.{Submission}
 use Rattle.contest_types.proofs.SetupLemmas.{below_wider}
 use Rattle.contest_rows.specs.Laws.{IsWritableClarification, IsWritableProposal, IsWritableRejudging, IsWritableRelease, IsWritableState, IsWritableSubmission}
 use Rattle.contest_fixed_rows.specs.Laws.{IsWritableAccount, IsWritableSetup}
-use Rattle.contest_changes.specs.SpellingLaws.{IsWritable}
+use Rattle.contest_fixed_rows.specs.SpellingLaws.{IsWritable}
 
 -- every place of the first is one of the second
 pub record IsNoShorter (s t : Setup) : Type 0 where

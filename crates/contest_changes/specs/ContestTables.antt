@@ -8,7 +8,7 @@ use Rattle.contest_types.specs.State.{ContestState}
 use Rattle.contest_types.specs.Valid.{is_valid}
 use Rattle.contest_types.specs.declared.submission.Submission.{Submission}
 use Rattle.contest_rows.specs.Tables.{Tables, rows_of}
-use Rattle.contest_changes.specs.Spelling.{lists_in}
+use Rattle.contest_fixed_rows.specs.Spelling.{lists_in}
 use Rattle.contest_tables.specs.Statements.{loaded_row}
 use Rattle.contest_tables.specs.Tables.{TableRows}
 use Rattle.contest_tables.specs.declared.table_name.TableName.TheVariants.{Desk, Contest, Items, Accounts, Submissions, Proposals, Releases, Rejudgings, Members, Clarifications}

@@ -4,5 +4,3 @@ pub mod Kinds
 pub mod OneRow
 pub mod Additions
 pub mod Laws
-pub mod Spelling
-pub mod SpellingLaws

@@ -5,7 +5,7 @@ use Rattle.sqlite_trees.specs.Tree.{IsAscending}
 use Rattle.contest_types.specs.Accounts.{comes_before}
 use Rattle.contest_types.specs.State.{ContestState}
 use Rattle.contest_types.specs.Valid.{is_valid}
-use Rattle.contest_changes.specs.SpellingLaws.{IsWritable}
+use Rattle.contest_fixed_rows.specs.SpellingLaws.{IsWritable}
 
 pub record IsSound (x : ContestState) : Type 0 where
   pub valid : is_valid x ≡ true

@@ -1,12 +1,5 @@
-//! Laws of what the tables of a contest spell, and of what a change does to them: functions that do nothing.
-ghost use Rattle.contest_changes.specs.SpellingLaws.{ContestsReadBack, ContestsWriteBack};
+//! Laws of what a change of a contest does to its tables: functions that do nothing.
 ghost use Rattle.contest_changes.specs.Laws.{AdditionsStaySound, SoundContestsReadBack, ValidContestsAreSound, SubmissionIsAdded, ProposalIsAdded, ReleaseIsAdded, ClarificationIsAdded, RejudgingIsAdded, MemberIsAdded, AccountIsAdded, TypeIsAdded, LanguageIsAdded, GroupIsAdded, ProblemIsAdded, TeamIsAdded, MarksAreChanged, RejudgingIsChanged, MemberIsChanged};
-
-/// A contest is read of its own rows, and of no others.
-pub fn contests_are_their_rows()
-    ensures read { ContestsReadBack }
-    ensures written { ContestsWriteBack }
-{}
 
 /// What may be added to a sound contest leaves a sound one.
 pub fn additions_stay_sound()

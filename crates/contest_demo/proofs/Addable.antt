@@ -1,5 +1,5 @@
 -- The entries of the demo contest may be added to any contest that was just set up.
-use Rattle.std.proofs.Common.{◌≡◌, ℕ, zero, suc, true, false, List, [], ◌∷◌, codes, refl, subst, sym}
+use Rattle.std.proofs.Common.{◌≡◌, ℕ, zero, suc, true, List, [], ◌∷◌, codes, refl, subst, sym}
 use Rattle.std.specs.Prelude.{◌++◌, take}
 use Rattle.contest_types.specs.Addable.{are_addable}
 use Rattle.contest_types.specs.State.{new_contest}

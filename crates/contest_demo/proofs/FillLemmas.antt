@@ -1,5 +1,5 @@
 -- Changes that are made one after the other and then committed, by a store that was just created.
-use Rattle.std.proofs.Common.{◌≡◌, ◌∙◌, ℕ, Bool, true, List, Result, Option, Ok, Err, arith, refl, subst₂, sym, ap, inl, inr}
+use Rattle.std.proofs.Common.{◌≡◌, ◌∙◌, ℕ, Bool, true, List, Result, Ok, Err, arith, refl, subst₂, sym, ap, inl, inr}
 use Rattle.std.specs.Prelude.{IsTrue, Some}
 use Rattle.contest_types.specs.Addable.{are_addable}
 use Rattle.contest_types.specs.State.{add_all}

@@ -7,3 +7,4 @@ pub mod ItemLaws
 pub mod ItemsWritten
 pub mod AccountLaws
 pub mod FixedLaws
+pub mod SpellingLaws

@@ -3,3 +3,5 @@ pub mod AccountRows
 pub mod Heads
 pub mod FixedParts
 pub mod Laws
+pub mod Spelling
+pub mod SpellingLaws

@@ -1,6 +1,7 @@
-//! Laws of the rows of the fixed part: functions that do nothing, and whose contracts say that it and
-//! its rows are one to one.
+//! Laws of the rows of a contest: functions that do nothing, and whose contracts say that its fixed part, and
+//! the whole of it, and their rows are one to one.
 ghost use Rattle.contest_fixed_rows.specs.Laws.{AccountsReadBack, AccountsWriteBack, FixedReadsBack, FixedWritesBack};
+ghost use Rattle.contest_fixed_rows.specs.SpellingLaws.{ContestsReadBack, ContestsWriteBack};
 
 /// Accounts are read of their own rows, and of no others.
 pub fn accounts_are_their_rows()
@@ -12,4 +13,10 @@ pub fn accounts_are_their_rows()
 pub fn fixed_parts_are_their_rows()
     ensures read { FixedReadsBack }
     ensures written { FixedWritesBack }
+{}
+
+/// A contest is read of its own rows, and of no others.
+pub fn contests_are_their_rows()
+    ensures read { ContestsReadBack }
+    ensures written { ContestsWriteBack }
 {}

@@ -1,4 +1,5 @@
-//! The settings, the accounts and the marks of a contest as rows of their tables, and those that rows are.
+//! The settings, the accounts and the marks of a contest as rows of their tables, and those that rows are;
+//! and the lists of a contest that the rows of all its tables are.
 #![tactic(auto)]
 
 mod accounts;
@@ -6,6 +7,8 @@ mod fixed_part;
 mod heads;
 mod items;
 pub mod laws;
+mod loaded_rows;
+mod reading;
 mod settings;
 mod team_items;
 
@@ -13,4 +16,6 @@ pub use accounts::account_cells;
 pub use fixed_part::read_fixed;
 pub use heads::{contest_cells, desk_cells, marks_cells};
 pub use items::{group_cells, language_cells, problem_cells, type_cells};
+pub use loaded_rows::LoadedRows;
+pub use reading::read_lists;
 pub use team_items::{joined_ids, team_cells};

@@ -1,5 +1,5 @@
 //! The machine that the program runs on.
-ghost use Rattle.std.specs.Prelude.{◌≡◌, ◌≢◌, ◌≤◌, ◌/◌, Err, IfOk, IfErr, SomeIff};
+ghost use Rattle.std.specs.Prelude.{◌≡◌, ◌≢◌, ◌≤◌, ◌/◌, IfOk, IfErr, SomeIff};
 ghost use Rattle.std.specs.Time.{system_time_nanos};
 ghost use Rattle.std.specs.IoError.{error_kind};
 ghost use Rattle.sqlite.specs.Files.{AreFoundIn, file_state};
@@ -15,9 +15,9 @@ use crate::machine::{Machine, Opened, ServedFile};
 use contest_types::streams::Counted;
 use contest_types::{Moment, Refusal};
 use contest_words::CommandError;
-use sqlite::{Alter, Connection, Error, ErrorCode, FileFrom, FileStore, Start};
+use sqlite::{Connection, Error, ErrorCode, FileFrom, FileStore, Start};
 use std::fs::{File, Files};
-use std::io::{self, ErrorKind, Read};
+use std::io::{self, ErrorKind};
 use std::time::{Clock, SystemTime, UNIX_EPOCH};
 
 /// The runtime, and what stands for what the files hold that keep a contest.
@@ -50,7 +50,8 @@ impl<'a, D: Start> Machine for Host<'a, D> {
         path: &str,
     ) -> Result<Opened<FileStore<FileFrom<D>>, File>, CommandError> {
         let conn = open_store(self.rt, file, self.disk)?;
-        with_reader(conn, open_file(self.rt, path))
+        let reader = open_file(self.rt, path)?;
+        Ok(Opened { conn, reader })
     }
 
     fn open_store(self, file: &str) -> Result<Connection<FileStore<FileFrom<D>>>, CommandError> {
@@ -69,20 +70,6 @@ impl<'a, D: Start> Machine for Host<'a, D> {
     fn close(mut store: FileStore<FileFrom<D>>) {
         let _ = store.checkpoint();
         drop(store.close());
-    }
-}
-
-// Both files, where the second could be opened too. (Of any types, so that giving a connection back is one step.)
-fn with_reader<S: Alter + Drop, F: Read + Drop>(
-    conn: Connection<S>,
-    reader: Result<Counted<F>, CommandError>,
-) -> Result<Opened<S, F>, CommandError>
-    ensures conn { IfOk result (λ opened. opened.conn ≡ conn) }
-    ensures err { IfErr result (λ stop. reader ≡ Err stop) }
-{
-    match reader {
-        Ok(reader) => Ok(Opened { conn, reader }),
-        Err(stop) => Err(stop),
     }
 }
 

@@ -18,7 +18,7 @@ use Rattle.contest_rows.specs.Submissions.{is_submission_row, submission_if, sub
 use Rattle.contest_rows.specs.Tables.{Tables}
 use Rattle.contest_fixed_rows.specs.FixedParts.{fixed_in}
 use Rattle.contest_fixed_rows.proofs.OptionSteps.{bound, where_true}
-use Rattle.contest_changes.specs.Spelling.{lists_in, with_clarifications_in, with_lists_in, with_proposals_in, with_rejudgings_in, with_releases_in, with_submissions_in, without_rows}
+use Rattle.contest_fixed_rows.specs.Spelling.{lists_in, with_clarifications_in, with_lists_in, with_proposals_in, with_rejudgings_in, with_releases_in, with_submissions_in, without_rows}
 use Rattle.contest_changes.proofs.ReadCells.{made, of_found}
 use Rattle.contest_changes.proofs.ReadRows.{each_read}
 

@@ -16,9 +16,9 @@ use Rattle.contest_types.specs.declared.submission.Submission.{Submission}
 use Rattle.contest_store.specs.Lists.{loaded}
 use Rattle.contest_rows.specs.Cells.{number_of}
 use Rattle.contest_rows.specs.ListRows.{loaded_submission_row}
-use Rattle.contest_changes.specs.SpellingLaws.{AreSubmissionRows}
-use Rattle.contest_changes.specs.Spelling.{lists_in}
-use Rattle.contest_changes.proofs.SpellingLaws.{contests_write_back}
+use Rattle.contest_fixed_rows.specs.SpellingLaws.{AreSubmissionRows}
+use Rattle.contest_fixed_rows.specs.Spelling.{lists_in}
+use Rattle.contest_fixed_rows.proofs.SpellingLaws.{contests_write_back}
 use Rattle.contest_tables.specs.Statements.{loaded_row}
 use Rattle.contest_tables.specs.Tables.{TableRows}
 use Rattle.contest_tables.specs.declared.table_name.TableName.TheVariants.{Submissions}

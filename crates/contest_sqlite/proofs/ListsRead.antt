@@ -3,8 +3,8 @@ use Rattle.std.proofs.Common.{◌≡◌, ◌∙◌, Some, sym, ap}
 use Rattle.sqlite.specs.State.{State}
 use Rattle.contest_store.specs.Lists.{loaded}
 use Rattle.contest_types.specs.State.{ContestState}
-use Rattle.contest_changes.specs.Spelling.{lists_in}
-use Rattle.contest_changes.proofs.SpellingLaws.{contests_read_back}
+use Rattle.contest_fixed_rows.specs.Spelling.{lists_in}
+use Rattle.contest_fixed_rows.proofs.SpellingLaws.{contests_read_back}
 use Rattle.contest_tables.specs.Steps.{Content, Holds, Showing}
 use Rattle.contest_tables.specs.Tables.{TableRows}
 use Rattle.contest_changes.specs.ContestTables.{loaded_tables, table_rows}

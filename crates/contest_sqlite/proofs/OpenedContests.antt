@@ -9,7 +9,7 @@ use Rattle.contest_types.specs.State.{ContestState}
 use Rattle.contest_types.specs.Valid.{is_valid}
 use Rattle.contest_store.specs.Lists.{loaded}
 use Rattle.contest_store.specs.declared.store_error.StoreError.{StoreError}
-use Rattle.contest_changes.specs.Spelling.{lists_in}
+use Rattle.contest_fixed_rows.specs.Spelling.{lists_in}
 use Rattle.contest_tables.specs.Connected.{IsAtRest, IsOfDesk}
 use Rattle.contest_tables.specs.Steps.{AreNumbered, Call, Content, Full, Holds, MakesNone, Showing}
 use Rattle.contest_tables.specs.Tables.{TableRows, rows_in}

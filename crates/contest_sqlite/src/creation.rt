@@ -3,7 +3,7 @@ ghost use Rattle.std.specs.Prelude.{◌≡◌, ◌⊎◌, ◌↔◌, [], IfErr, 
 ghost use Rattle.sqlite.specs.State.{HasCleanDisk, Survives};
 ghost use Rattle.contest_types.specs.State.{new_contest};
 ghost use Rattle.contest_types.specs.Valid.{is_valid};
-ghost use Rattle.contest_changes.specs.Spelling.{without_rows};
+ghost use Rattle.contest_fixed_rows.specs.Spelling.{without_rows};
 ghost use Rattle.contest_tables.specs.Connected.{IsBare, counts_of, shown_by};
 ghost use Rattle.contest_tables.specs.Steps.{Call, HasFirst, MakesNone, Step};
 ghost use Rattle.contest_changes.specs.Kinds.{IsMoment};

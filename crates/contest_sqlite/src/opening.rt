@@ -4,7 +4,7 @@ ghost use Rattle.sqlite.specs.State.{HasCleanDisk, Survives};
 ghost use Rattle.contest_types.specs.State.{ContestState};
 ghost use Rattle.contest_types.specs.Valid.{is_valid};
 ghost use Rattle.contest_store.specs.Lists.{loaded};
-ghost use Rattle.contest_changes.specs.Spelling.{lists_in};
+ghost use Rattle.contest_fixed_rows.specs.Spelling.{lists_in};
 ghost use Rattle.contest_tables.specs.Connected.{shown_by, counts_of};
 ghost use Rattle.contest_tables.specs.Steps.{Call, Content, Full, Holds, MakesNone, Showing};
 ghost use Rattle.contest_tables.specs.Tables.{TableRows};

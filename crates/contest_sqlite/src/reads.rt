@@ -1,7 +1,7 @@
 //! The lists of a contest, read from its tables.
 ghost use Rattle.std.specs.Prelude.{◌≡◌, IfOk, Some};
 ghost use Rattle.sqlite.specs.State.{HasCleanDisk};
-ghost use Rattle.contest_changes.specs.Spelling.{lists_in, tables_of};
+ghost use Rattle.contest_fixed_rows.specs.Spelling.{lists_in, tables_of};
 ghost use Rattle.contest_tables.specs.Connected.{shown_by, counts_of};
 ghost use Rattle.contest_tables.specs.Steps.{Call, Step, Content, Full, Holds, MakesNone, Showing, Within};
 ghost use Rattle.contest_tables.specs.Tables.{TableRows};
@@ -9,7 +9,7 @@ ghost use Rattle.contest_changes.specs.ContestTables.{loaded_tables};
 ghost use Rattle.contest_sqlite.specs.Loading.{AllRise, no_rows, with_loaded};
 ghost use Rattle.contest_sqlite.specs.Steps.{HoldsDesk};
 
-use contest_changes::{LoadedRows, read_lists};
+use contest_fixed_rows::{LoadedRows, read_lists};
 use contest_store::{Lists, StoreError};
 use contest_tables::{ALL_TABLES, TableName, Tables};
 use sqlite::{Alter, Row};

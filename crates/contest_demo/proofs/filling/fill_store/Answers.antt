@@ -1,8 +1,6 @@
-use Rattle.std.proofs.Common.{◌∙◌, ap, subst, sym}
-use Rattle.contest_types.specs.Addable.{are_addable}
+use Rattle.std.proofs.Common.{subst}
 use Rattle.contest_demo.specs.Demo.{demo_entries}
 use Rattle.contest_demo.specs.Filling.{AddsAll}
-use Rattle.contest_demo.proofs.Addable.{demo_addable}
 use Rattle.contest_demo.proofs.FillLemmas.{may_add, may_be_own, own_want}
 use Rattle.contest_demo.proofs.filling.fill_store.Goals as goal
 

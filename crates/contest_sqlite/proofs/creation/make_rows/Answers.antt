@@ -1,4 +1,4 @@
-use Rattle.contest_changes.specs.Spelling.{without_rows}
+use Rattle.contest_fixed_rows.specs.Spelling.{without_rows}
 use Rattle.contest_tables.specs.Connected.{counts_of, shown_by}
 use Rattle.contest_tables.specs.Steps.{HasFirst}
 use Rattle.contest_sqlite.specs.Creation.{HasContest, HoldsNone}

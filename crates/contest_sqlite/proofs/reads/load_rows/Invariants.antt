@@ -1,4 +1,4 @@
-use Rattle.contest_changes.specs.Spelling.{tables_of}
+use Rattle.contest_fixed_rows.specs.Spelling.{tables_of}
 use Rattle.contest_tables.specs.Connected.{shown_by, counts_of}
 use Rattle.contest_sqlite.proofs.RowsLoaded.{LoadsFirst}
 use Rattle.contest_sqlite.proofs.reads.load_rows.Given as goal

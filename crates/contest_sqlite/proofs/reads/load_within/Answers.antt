@@ -1,5 +1,5 @@
 use Rattle.std.proofs.Common.{◌∙◌, ap, sym}
-use Rattle.contest_changes.specs.Spelling.{lists_in}
+use Rattle.contest_fixed_rows.specs.Spelling.{lists_in}
 use Rattle.contest_tables.specs.Connected.{shown_by}
 use Rattle.contest_tables.specs.Steps.{Full}
 use Rattle.contest_sqlite.proofs.LaterSteps.{given_up_then}

@@ -2,7 +2,7 @@ use Rattle.std.proofs.Common.{◌≡◌, Some, true, ap, subst, subst₂, sym}
 use Rattle.sqlite.specs.State.{HasCleanDisk, Survives}
 use Rattle.sqlite.specs.Held.{state}
 use Rattle.contest_types.specs.State.{ContestState, new_contest}
-use Rattle.contest_changes.specs.Spelling.{without_rows}
+use Rattle.contest_fixed_rows.specs.Spelling.{without_rows}
 use Rattle.contest_tables.specs.Connected.{IsBare, counts_of, shown_by}
 use Rattle.contest_sqlite.specs.Contests.{contest_in_trees}
 use Rattle.contest_sqlite.specs.Creation.{Created, KeepsAll, StoodEqual, StoodOther}

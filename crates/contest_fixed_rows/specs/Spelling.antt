@@ -11,7 +11,7 @@ use Rattle.contest_rows.specs.Releases.{release_in}
 use Rattle.contest_rows.specs.Submissions.{submission_in}
 use Rattle.contest_rows.specs.Tables.{Tables}
 use Rattle.contest_fixed_rows.specs.FixedParts.{fixed_in}
-use Rattle.contest_changes.specs.declared.loaded_rows.LoadedRows.{LoadedRows}
+use Rattle.contest_fixed_rows.specs.declared.loaded_rows.LoadedRows.{LoadedRows}
 
 abbrev pub tables_of : LoadedRows → Tables
 tables_of r = record {

@@ -28,8 +28,8 @@ use Rattle.contest_rows.proofs.RowLaws.{proposals_read_back, proposals_write_bac
 use Rattle.contest_fixed_rows.specs.FixedParts.{fixed_in}
 use Rattle.contest_fixed_rows.proofs.FixedLaws.{fixed_reads_back, fixed_writes_back}
 use Rattle.contest_fixed_rows.proofs.OptionSteps.{bound}
-use Rattle.contest_changes.specs.SpellingLaws.{AreSubmissionRows, ContestsReadBack, ContestsWriteBack}
-use Rattle.contest_changes.specs.Spelling.{lists_in, with_clarifications_in, with_lists_in, with_proposals_in, with_rejudgings_in, with_releases_in, with_submissions_in, without_rows}
+use Rattle.contest_fixed_rows.specs.SpellingLaws.{AreSubmissionRows, ContestsReadBack, ContestsWriteBack}
+use Rattle.contest_fixed_rows.specs.Spelling.{lists_in, with_clarifications_in, with_lists_in, with_proposals_in, with_rejudgings_in, with_releases_in, with_submissions_in, without_rows}
 
 -- submissions are read without their files
 submissions_from : (s : Setup) → IsValid s → (n : ℕ) (xs : List Submission) → AllByRecursion (IsWritableSubmission s) xs →

@@ -1,5 +1,5 @@
-use Rattle.contest_changes.proofs.SpellingLaws.{contests_read_back, contests_write_back}
-use Rattle.contest_changes.proofs.laws.contests_are_their_rows.Goals as goal
+use Rattle.contest_fixed_rows.proofs.SpellingLaws.{contests_read_back, contests_write_back}
+use Rattle.contest_fixed_rows.proofs.laws.contests_are_their_rows.Goals as goal
 
 pub returns-clause-read : goal.returns-clause-read
 returns-clause-read c = contests_read_back

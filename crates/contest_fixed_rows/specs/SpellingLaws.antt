@@ -12,7 +12,7 @@ use Rattle.contest_rows.specs.Laws.{IsWritableClarification, IsWritableProposal,
 use Rattle.contest_rows.specs.ListRows.{clarification_row, loaded_submission_row, members_rows, proposal_row, rejudging_row, release_row}
 use Rattle.contest_rows.specs.Tables.{Tables, rows_of}
 use Rattle.contest_fixed_rows.specs.Laws.{IsWritableFixed, AreRowsOf}
-use Rattle.contest_changes.specs.Spelling.{lists_in}
+use Rattle.contest_fixed_rows.specs.Spelling.{lists_in}
 
 -- the texts, times and places of a contest are of their kinds
 pub record IsWritable (x : ContestState) : Type 0 where

@@ -1,9 +1,9 @@
 //! The lists of a contest from the rows of its tables.
 ghost use Rattle.std.specs.Prelude.{◌≡◌, Some, None, true, false, IfOk};
-ghost use Rattle.contest_changes.specs.Spelling.{lists_in, tables_of, with_clarifications_in, with_lists_in, with_proposals_in, with_rejudgings_in, with_releases_in, with_submissions_in};
+ghost use Rattle.contest_fixed_rows.specs.Spelling.{lists_in, tables_of, with_clarifications_in, with_lists_in, with_proposals_in, with_rejudgings_in, with_releases_in, with_submissions_in};
 
 use crate::LoadedRows;
-use contest_fixed_rows::read_fixed;
+use crate::fixed_part::read_fixed;
 use contest_rows::{read_list, read_rejudgings};
 use contest_store::Lists;
 use std::alloc::{AllocError, Global};
