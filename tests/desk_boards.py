@@ -1,34 +1,28 @@
-#!/usr/bin/env python3
+#!/usr/bin/env -S python3 -B
 """Holds the boards of `desk board` beside those that a contest in a file must show.
 
     desk_boards.py [--program PATH] [--made N] [--seed N]
 
 The worked boards of tests/replay are asked of a file with the same contest, and then N made contests (300), for anyone, for
-the jury and for a team, as text and as CSV; these are second_opinion.py's. A contest is set up by `desk init` and `desk
+the jury and for a team, as text and as CSV; these are lib/replay_opinion.py's. A contest is set up by `desk init` and `desk
 import`, and its submissions, with their verdicts released, are written by sqlite3: those up to the moment that is asked for,
 since a board counts all that stand. Then the first example's CSV, and what is refused.
 
-Takes faketime. Ends with the line `N passed, M failed`; the exit status is 0 where M is 0.
+Takes faketime. Ends with the line `N passed, M failed`; the exit status is 0 if M is 0.
 """
 
-import argparse
 import concurrent.futures
 import os
-import pathlib
-import sqlite3
 import sys
-import tempfile
 
-sys.dont_write_bytecode = True
+from lib import clock, demo, program, replay_files
+from lib.demo import START
+from lib.desk_opinion import moment
+from lib.import_opinion import compact
+from lib.program import FAULT, FILE, ROOT, Program, refused
+from lib.replay_opinion import Refused, Shown, WrongWords, board_csv, board_text, read_replay, read_words, reltime_text
+from lib.sqlite import insert, opened
 
-import desk_files
-import fake_clock
-import replay_files
-from desk_opinion import compact, moment
-from second_opinion import Refused, Shown, WrongWords, board_csv, board_text, read_replay, read_words, reltime_text
-
-ROOT = pathlib.Path(__file__).resolve().parent.parent
-START = 1_709_370_000_000
 LANGUAGES = '[{"id":"cpp","name":"C++","entry_point_required":false}]'
 FIRST_CSV = "rank,team_id,team,solved,time,last,A\n1,t1,Alpha,1,30,10,+3/10\n2,t2,Beta,1,30,30,+1/30\n"
 
@@ -41,7 +35,8 @@ def files_of(contest):
     types = [{"id": key, "name": row[0], "solved": row[1], "penalty": row[2]} for key, row in contest.types.items()]
     problems = [{"id": key, "label": row[0], "name": row[1], "ordinal": row[2]} for key, row in contest.problems.items()]
     teams = [{"id": key, "name": row[0], "hidden": row[1], "group_ids": []} for key, row in contest.teams.items()]
-    return {"head": compact(head), "judgement-types": compact(types), "languages": LANGUAGES, "problems": compact(problems), "teams": compact(teams)}
+    files = {"judgement-types": compact(types), "languages": LANGUAGES, "problems": compact(problems), "teams": compact(teams)}
+    return {"init": compact(head), **files}
 
 
 def submissions_of(contest, until):
@@ -54,31 +49,19 @@ def submissions_of(contest, until):
     return sorted(rows, key=lambda row: row[:3])
 
 
-def write(path, contest, shown, thawed):
-    """Writes the submissions and their verdicts, and the thaw at the end."""
-    with sqlite3.connect(path) as database:
+def kept(desk, contest, shown, thawed):
+    """A folder in which cup.db keeps the contest, with its submissions and their verdicts, and the thaw at the end."""
+    folder = demo.made(desk, files_of(contest))
+    with opened(folder / "cup.db") as database:
         released = 0
         for seq, (time, team, number, problem, verdict) in enumerate(submissions_of(contest, shown.now), 1):
-            row = (seq, team, number, START + time, problem, "cpp", None, b"x", None)
-            database.execute("INSERT INTO submissions VALUES (?, ?, ?, ?, ?, ?, ?, ?, ?)", row)
+            insert(database, "submissions", (seq, team, number, START + time, problem, "cpp", None, b"x", None))
             if verdict is not None:
                 released += 1
-                database.execute("INSERT INTO proposals VALUES (?, ?, ?, ?, ?, ?)", (released, team, number, verdict, "import", START + time))
-                database.execute("INSERT INTO releases VALUES (?, ?, ?, ?, ?, ?)", (released, team, number, 1, verdict, START + time))
+                insert(database, "proposals", (released, team, number, verdict, "import", START + time))
+                insert(database, "releases", (released, team, number, 1, verdict, START + time))
         if thawed and contest.freeze is not None:
             database.execute("UPDATE contest SET thaw = ?", (START + contest.duration,))
-    database.close()
-
-
-def kept(desk, what, contest, shown, thawed):
-    """A folder in which cup.db keeps the contest."""
-    folder = pathlib.Path(tempfile.mkdtemp(dir=desk.folder))
-    for name, text in files_of(contest).items():
-        (folder / name).write_text(text, encoding="utf-8")
-        words = ("init", "cup.db", name) if name == "head" else ("import", "cup.db", name, name)
-        given = desk.run(folder, *words, before=fake_clock.at("2024-03-02 08:00:00"))
-        desk.note(given[0] == 0, f"{what}, {words}: {given}")
-    write(folder / "cup.db", contest, shown, thawed)
     return folder
 
 
@@ -88,8 +71,7 @@ def same(desk, what, folder, contest, shown, wanted=None):
     words = ("board", "cup.db", "--audience", who, "--at", moment(START + shown.now))
     text = board_text(contest, shown) if wanted is None else wanted
     for form, right in (("text", text), ("csv", board_csv(contest, shown))):
-        given = desk.run(folder, *words, "--format", form)
-        desk.note(given == (0, right, ""), f"{what}, {' '.join(words)}: {given}, wanted {right!r}")
+        desk.answers(f"{what}, {' '.join(words)}", (0, right, ""), folder, *words, "--format", form)
 
 
 def try_worked(desk):
@@ -99,7 +81,7 @@ def try_worked(desk):
         jury, thawed, at = read_words(["replay", *options])
         contest, wanted = read_replay(file.read_bytes()), file.with_suffix(".txt").read_text(encoding="utf-8")
         shown = Shown(contest, jury, thawed, at)
-        same(desk, file.stem, kept(desk, file.stem, contest, shown, thawed), contest, shown, wanted)
+        same(desk, file.stem, kept(desk, contest, shown, thawed), contest, shown, wanted)
 
 
 def made_case(seed, index):
@@ -116,61 +98,38 @@ def try_made(desk):
     """Made contests, for each who may look."""
 
     def one(index):
-        (_, thawed, at), contest = made_case(desk.seed, index)
+        (_, thawed, at), contest = made_case(desk.options.seed, index)
         shown = Shown(contest, False, thawed, at)
-        folder = kept(desk, f"contest {index}", contest, shown, thawed)
+        folder = kept(desk, contest, shown, thawed)
         teams = list(contest.teams)
         own = teams[index % len(teams) :][:1] if teams else []
         for jury, team in [(False, None), (True, None), *((False, team) for team in own)]:
             same(desk, f"contest {index}", folder, contest, Shown(contest, jury, thawed, at, team))
 
     with concurrent.futures.ThreadPoolExecutor(os.cpu_count() or 1) as pool:
-        list(pool.map(one, range(desk.made_contests)))
+        list(pool.map(one, range(desk.options.made)))
 
 
 def try_first(desk):
     """The first example: the lines of `desk replay`, and its CSV; the words, the clock and the file at fault."""
     contest = read_replay((ROOT / "examples/first.csv").read_bytes())
     shown = Shown(contest, False, False, None)
-    folder = kept(desk, "first", contest, shown, False)
+    folder = kept(desk, contest, shown, False)
     end, board = moment(START + shown.now), (ROOT / "examples/first.public.txt").read_text(encoding="utf-8")
-    clock = fake_clock.at(end.replace("T", " ").replace("+00:00", "5"))
+    then = clock.at(clock.text_of(START + shown.now))
     csv, nobody = ("--format", "csv"), "error: 'public-' of '--audience' is no team's id\n"
     no_moment = "error: '9:30' of '--at' is no moment, as 2024-03-02T10:30:00Z\n"
-    calls = [((), clock, (0, board, "")), (("--at", end), (), (0, board, "")), (("--at", end, *csv), (), (0, FIRST_CSV, "")),
-             (csv, clock, (0, FIRST_CSV, "")), (("--audience", "public-"), clock, (2, "", nobody)),
+    calls = [((), then, (0, board, "")), (("--at", end), (), (0, board, "")), (("--at", end, *csv), (), (0, FIRST_CSV, "")),
+             (csv, then, (0, FIRST_CSV, "")), (("--audience", "public-"), then, (2, "", nobody)),
              (("--at", "9:30"), (), (2, "", no_moment)),
              (("--format", "json"), (), (2, "", "error: '--format <FORMAT>' is text or csv\n"))]  # fmt: skip
     for words, before, wanted in calls:
-        given = desk.run(folder, "board", "cup.db", *words, before=before)
-        desk.note(given == wanted, f"board cup.db {words}: {given}, wanted {wanted}")
-    given = desk.run(folder, "board", "cup.db", before=fake_clock.at("1960-01-01 00:00:00"))
-    desk.note(given == (1, "", "refused: Clock\n"), f"a clock before 1970: {given}")
-    given = desk.run(folder, "board", "none.db", "--at", end)
-    desk.note(given == desk_files.FAULT, f"a file that keeps no contest: {given}")
+        desk.answers(f"board cup.db {words}", wanted, folder, "board", "cup.db", *words, before=before)
+    desk.answers("a clock before 1970", refused("Clock"), folder, "board", "cup.db", before=clock.at("1960-01-01 00:00:00"))
+    desk.answers("a file that keeps no contest", FAULT, folder, "board", "none.db", "--at", end)
     with open("/dev/full", "w", encoding="utf-8") as full:
-        given = desk.run(folder, "board", "cup.db", "--at", end, stdout=full)
-    desk.note(given == desk_files.FILE, f"an output that is full: {given}")
-
-
-def main():
-    parser = argparse.ArgumentParser(description=__doc__, formatter_class=argparse.RawDescriptionHelpFormatter)
-    parser.add_argument("--program", default=str(ROOT / "crates/desk/out/desk"))
-    parser.add_argument("--made", type=int, default=300, metavar="N")
-    parser.add_argument("--seed", type=int, default=20, metavar="N")
-    options = parser.parse_args()
-    if not pathlib.Path(options.program).is_file():
-        parser.error(f"there is no program {options.program}: build it, or name one by --program")
-    with tempfile.TemporaryDirectory() as folder:
-        desk = desk_files.Desk(options.program, None, folder, 0)
-        desk.made_contests, desk.seed = options.made, options.seed
-        for part in (try_worked, try_made, try_first):
-            before = desk.passed
-            part(desk)
-            print(f"{part.__name__[4:]}: {desk.passed - before} held", flush=True)
-        print(f"{desk.passed} passed, {desk.failed} failed")
-    return 1 if desk.failed else 0
+        desk.answers("an output that is full", FILE, folder, "board", "cup.db", "--at", end, stdout=full)
 
 
 if __name__ == "__main__":
-    sys.exit(main())
+    sys.exit(program.main(__doc__, Program, (try_worked, try_made, try_first), program="desk", made=300, seed=20))

@@ -1,19 +1,19 @@
-#!/usr/bin/env python3
+#!/usr/bin/env -S python3 -B
 """Makes contests with `desk init` and `desk import`, as a director does, and holds what they answer and leave.
 
     desk_files.py [--program PATH] [--probe PATH] [--kills N]
 
-tables/desk_commands.txt has calls with their answers. Then come files that can't be read or written, a full disk, a
-moment at which the clock is no moment, the session of README.md, a contest whose rows are counted one by one, and
-imports that are killed. What is in a file afterwards is asked of sqlite3, and of store_probe, which opens a file as the
-desk does. A call that is refused leaves what the file shows as it was, and one that is done leaves all of it in the file
-alone, without its log.
+tables/desk_commands.txt has calls with their files and answers. Then come files that are too large, another's, no files or
+on a full disk, a clock that is set back or shows no moment, the demo contest, whose rows are held beside those of
+tables/store_demo.sql, the session of README.md, and N imports of 500 teams (200) that are killed at a random moment: whoever
+opens the file next finds all of them or none. What is in a file afterwards is asked of sqlite3, and of probe, which opens a
+file as the desk does. A call that is refused leaves what the file shows as it was, and one that is done leaves all of it in
+the file alone, without its log.
 
-Takes sqlite3, faketime and setpriv, and runs as root, which may mount a small disk and be another user. Ends with the line
-`N passed, M failed`; the exit status is 0 where M is 0.
+Takes sqlite3, faketime and setpriv, and runs as root, which may mount a disk of 1 MB and be another user. Ends with the line
+`N passed, M failed`; the exit status is 0 if M is 0.
 """
 
-import argparse
 import concurrent.futures
 import os
 import pathlib
@@ -25,20 +25,13 @@ import sys
 import tempfile
 import time
 
-sys.dont_write_bytecode = True
+from lib import clock, demo, program, sqlite
+from lib.demo import CONTEST
+from lib.program import DONE, FAULT, FILE, ROOT, TESTS, Program, ran, refused
+from lib.sqlite import dump
 
-import fake_clock
-import store_files
-
-TESTS = pathlib.Path(__file__).resolve().parent
-ROOT = TESTS.parent
-CONTEST = '{"id":"demo","name":"Demo Cup","duration":"5:00:00","scoreboard_freeze_duration":"1:00:00"}\n'
-PAST = CONTEST.replace('"duration"', '"start_time":"2024-03-02T09:00:00.000+00:00","duration"')
 TEAMS = "id,name,group_ids,hidden\n" + "".join(f"n{n},Team {n},,\n" for n in range(1, 501))
 LIMIT = 16_777_216
-DONE = (0, "", "")
-FAULT = (1, "", "refused: E24 StoreFault\n")
-FILE = (1, "", "refused: File\n")
 # Another user, who may neither read nor write what root alone may.
 NOBODY = ["setpriv", "--reuid=65534", "--regid=65534", "--clear-groups"]
 
@@ -51,35 +44,26 @@ def cases():
         yield title, re.findall(r"(?m)^([>$]) (.*)\n((?:(?![>$] ).*\n)*)", rest.rstrip("\n") + "\n")
 
 
-class Desk:
-    """The program, the folder in which each case has one of its own, and what was counted."""
+class Desk(Program):
+    """The program and probe, where another user may come to them, and what was counted."""
 
-    def __init__(self, program, probe, folder, kills):
-        self.program, self.probe, self.folder, self.kills = program, probe, pathlib.Path(folder), kills
-        self.made = self.passed = self.failed = 0
+    def __init__(self, options, folder):
+        super().__init__(options, folder)
+        folder.chmod(0o755)
+        self.path, self.probe = (shutil.copy(it, folder) for it in (options.program, options.probe))
+        for copied in (self.path, self.probe):
+            os.chmod(copied, 0o755)
 
     def new_folder(self):
-        self.made += 1
-        folder = self.folder / f"case{self.made}"
-        folder.mkdir()
+        folder = super().new_folder()
         (folder / "contest.json").write_text(CONTEST, encoding="utf-8")
-        (folder / "past.json").write_text(PAST, encoding="utf-8")
+        (folder / "past.json").write_text(demo.STARTED, encoding="utf-8")
         (folder / "teams.csv").write_text(TEAMS, encoding="utf-8")
         return folder
 
-    def run(self, folder, *words, before=(), **options):
-        done = subprocess.run([*before, self.program, *words], stderr=subprocess.PIPE, cwd=folder, timeout=120,
-                              **{"stdout": subprocess.PIPE, **options})
-        return done.returncode, (done.stdout or b"").decode(), done.stderr.decode()
-
-    def note(self, is_right, what):
-        self.passed, self.failed = self.passed + is_right, self.failed + (not is_right)
-        if not is_right:
-            print(f"FAILED: {what}", flush=True)
-
     def answers(self, what, wanted, folder, *words, **options):
-        """The call has this answer. Where it is refused, each database in the folder shows what it did; where it is done, each
-        shows all that it does without its log too."""
+        """The call has this answer. If it is refused, each database in the folder shows what it did; if it is done, each shows
+        all that it does without its log too."""
         was = shown(folder)
         given = self.run(folder, *words, **options)
         is_done = given[0] == 0
@@ -89,9 +73,11 @@ class Desk:
 
     def opens(self, what, folder, counts):
         """The contest in cup.db has so many rows of each kind."""
-        done = subprocess.run([self.probe, "open", folder / "cup.db"], capture_output=True, timeout=120)
-        given = done.stdout.decode()
-        self.note(given == f"open: {counts}\n", f"{what}: {given!r}, wanted {counts}")
+        self.same(what, self.found(folder), f"open: {counts}\n")
+
+    def found(self, folder):
+        """What probe finds in cup.db."""
+        return ran([self.probe, "open", folder / "cup.db"])[1].decode()
 
 
 def shown(folder, with_logs=True):
@@ -99,15 +85,6 @@ def shown(folder, with_logs=True):
     databases = [path for path in sorted(folder.glob("**/*.db")) if path.is_file()]
     dumps = {path.name: dump(path, with_logs) for path in databases}
     return {name: text for name, text in dumps.items() if "CREATE" in text}
-
-
-def dump(path, with_log=True):
-    """All that sqlite3 shows of a file. It reads a copy elsewhere, since there may be no room beside it."""
-    with tempfile.TemporaryDirectory() as folder:
-        for name in (path.name, f"{path.name}-wal") if with_log else (path.name,):
-            if (path.parent / name).is_file():
-                shutil.copy(path.parent / name, folder)
-        return store_files.sqlite(pathlib.Path(folder, path.name), ".dump")
 
 
 def wanted_of(answer):
@@ -136,14 +113,14 @@ def try_commands(desk):
 def try_limits(desk):
     """Files of as many bytes as there may be, and of one more; a table that is full."""
     folder = desk.new_folder()
-    large = (1, "", "refused: E6 BodyTooLarge\n")
+    large = refused("E6 BodyTooLarge")
     for size, init, added in ((LIMIT, DONE, (0, "added 0\n", "")), (LIMIT + 1, large, large)):
         (folder / "large.json").write_text(CONTEST.ljust(size), encoding="utf-8")
         (folder / "empty.json").write_text("[]".ljust(size), encoding="utf-8")
         desk.answers(f"a contest of {size} bytes", init, folder, "init", "cup.db", "large.json")
         desk.answers(f"{size} bytes of no team", added, folder, "import", "cup.db", "teams", "empty.json")
     (folder / "many.csv").write_text(TEAMS + "n501,Team 501,,\n", encoding="utf-8")
-    desk.answers("501 teams", (1, "", "refused: E22 ImportRow 501 TableFull\n"), folder, "import", "cup.db", "teams-csv", "many.csv")
+    desk.answers("501 teams", refused("E22 ImportRow 501 TableFull"), folder, "import", "cup.db", "teams-csv", "many.csv")
     for added in (500, 0):
         desk.answers("500 teams", (0, f"added {added}\n", ""), folder, "import", "cup.db", "teams-csv", "teams.csv")
     desk.opens("500 teams", folder, "0 0 0 0 500 0 0 0 0 0 0")
@@ -154,24 +131,24 @@ def try_bytes(desk):
     folder = desk.new_folder()
     desk.run(folder, "init", "cup.db", "contest.json")
     head = b"id,name,group_ids,hidden\n"
-    malformed = (1, "", "refused: E22 ImportRow 2 Malformed\n")
+    malformed = refused("E22 ImportRow 2 Malformed")
     for what, data, wanted in (
         ("a byte 0xFF", head + b"t1,Alpha,,\nt2,B\xffta,,\n", malformed),
         ("a NUL byte", head + b"t1,Alpha,,\nt2,B\0ta,,\n", malformed),
         ("a mark at the start", b"\xef\xbb\xbf" + head + b"t1,Alpha,,\n", (0, "added 1\n", "")),
-        ("two marks at the start", b"\xef\xbb\xbf" * 2 + head + b"t1,Alpha,,\n", (1, "", "refused: E1 Malformed\n")),
+        ("two marks at the start", b"\xef\xbb\xbf" * 2 + head + b"t1,Alpha,,\n", refused("E1 Malformed")),
     ):
         (folder / "teams.csv").write_bytes(data)
         desk.answers(what, wanted, folder, "import", "cup.db", "teams-csv", "teams.csv")
     (folder / "groups.json").write_bytes(b'[{"id":"g","name":"\xff"}]')
-    desk.answers("a byte 0xFF in JSON", (1, "", "refused: E1 Malformed\n"), folder, "import", "cup.db", "groups", "groups.json")
+    desk.answers("a byte 0xFF in JSON", refused("E1 Malformed"), folder, "import", "cup.db", "groups", "groups.json")
 
 
 def try_paths(desk):
     """Files that are missing, no files, or another's."""
     folder = desk.new_folder()
     desk.run(folder, "init", "cup.db", "contest.json")
-    for what, none in store_files.NO_PATHS:
+    for what, none in sqlite.NO_PATHS:
         if "pipe" not in none:
             path = none.format(folder=folder, good=folder / "cup.db")
             desk.answers(what, FAULT, folder, "init", path, "contest.json")
@@ -205,7 +182,7 @@ def try_alone(desk):
 
 
 def try_streams(desk):
-    """Where standard output fails the rows are kept; where standard error does, the status still tells."""
+    """If standard output fails the rows are kept."""
     folder = desk.new_folder()
     desk.run(folder, "init", "cup.db", "contest.json")
     with open("/dev/full", "wb") as full:
@@ -240,61 +217,36 @@ def try_clock(desk):
     desk.run(folder, "init", "cup.db", "past.json")
     (folder / "one.csv").write_text("id,name,group_ids,hidden\nt1,Alpha,,\n", encoding="utf-8")
     (folder / "two.csv").write_text("id,name,group_ids,hidden\nt2,Beta,,\n", encoding="utf-8")
-    clock = (1, "", "refused: Clock\n")
-    closed = (1, "", "refused: E23 SettingsClosed\n")
+    no_moment, early = refused("Clock"), "1969-12-31 23:59:59"
     for moment, name, wanted in (
-        ("1969-12-31 23:59:59", "one.csv", clock),
+        (early, "one.csv", no_moment),
         ("2024-03-02 08:59:59", "one.csv", (0, "added 1\n", "")),
         ("2024-03-02 09:00:00", "one.csv", (0, "added 0\n", "")),
-        ("2024-03-02 09:00:00", "two.csv", closed),
+        ("2024-03-02 09:00:00", "two.csv", refused("E23 SettingsClosed")),
     ):
-        desk.answers(f"at {moment}", wanted, folder, "import", "cup.db", "teams-csv", name, before=fake_clock.at(moment))
-    desk.answers("a clock of no moment, before FILE", clock, folder, "import", ".", "teams-csv", "one.csv", before=fake_clock.at("1969-12-31 23:59:59"))
+        desk.answers(f"at {moment}", wanted, folder, "import", "cup.db", "teams-csv", name, before=clock.at(moment))
+    desk.answers("a clock of no moment, before FILE", no_moment, folder, "import", ".", "teams-csv", "one.csv", before=clock.at(early))
 
 
 def try_rows(desk):
     """Imported rows stand in their tables as in tables/store_demo.sql, token digests and all; without groups they are those
     of the demo contest that the library makes."""
-    folder = imported_demo(desk, DEMO)
-    store_files.sqlite(folder / "demo.db", store_files.TABLES + store_files.ROWS)
+    folder = demo.made(desk, demo.FILES)
+    sqlite.asked(folder / "demo.db", sqlite.TABLES + demo.ROWS)
     same_rows(desk, folder)
     desk.opens("the demo contest", folder, "3 2 3 2 4 7 0 0 0 0 0")
-    plain = {kind: file.replace("north guests", "").replace("south", "") for kind, file in DEMO.items() if kind[0] != "groups"}
-    folder = imported_demo(desk, plain)
-    subprocess.run([desk.probe, "demo", folder / "demo.db", "4", "2"], capture_output=True, timeout=120)
+    plain = {kind: file.replace("north guests", "").replace("south", "") for kind, file in demo.FILES.items() if kind != "groups"}
+    folder = demo.made(desk, plain)
+    ran([desk.probe, "demo", folder / "demo.db", "4", "2"])
     same_rows(desk, folder)
     desk.opens("the demo contest without groups", folder, "3 2 0 2 4 7 0 0 0 0 0")
-
-
-def imported_demo(desk, files):
-    """A folder with the demo contest in cup.db, made by imports at eight o'clock of its day."""
-    folder = desk.new_folder()
-    (folder / "contest.json").write_text(PAST, encoding="utf-8")
-    desk.answers("the demo contest", DONE, folder, "init", "cup.db", "contest.json")
-    for (kind, _), file in files.items():
-        (folder / "file").write_text(file, encoding="utf-8")
-        desk.run(folder, "import", "cup.db", kind, "file", before=fake_clock.at("2024-03-02 08:00:00"))
-    return folder
 
 
 def same_rows(desk, folder):
     """The settings and the accounts in cup.db are those in demo.db."""
     rows = "SELECT * FROM desk; SELECT * FROM contest; SELECT * FROM items; SELECT *, hex(token) FROM accounts ORDER BY id"
-    made, wanted = (store_files.sqlite(folder / name, rows) for name in ("cup.db", "demo.db"))
+    made, wanted = (sqlite.asked(folder / name, rows) for name in ("cup.db", "demo.db"))
     desk.note(made == wanted != "", f"the demo contest's rows: {made}, wanted {wanted}")
-
-
-# The files of the contest in tables/store_demo.sql.
-DEMO = {
-    ("judgement-types", "types"): '[{"id":"AC","name":"correct","solved":true},{"id":"WA","name":"wrong answer","solved":false,"penalty":true},{"id":"CE","name":"compile error","solved":false}]',
-    ("languages", "languages"): '[{"id":"cpp","name":"C++"},{"id":"java","name":"Java","entry_point_required":true}]',
-    ("groups", "groups"): '[{"id":"north","name":"North"},{"id":"south","name":"South"},{"id":"guests","name":"G\\u00e4ste"}]',
-    ("problems", "problems"): '[{"id":"a","label":"A","name":"Apples","ordinal":0},{"id":"b","label":"B","name":"Bridges","ordinal":1}]',
-    ("teams-csv", "teams"): "id,name,group_ids,hidden\nt1,Alpha,north guests,\nt2,Beta,south,\nt3,Gamma,,false\nt9,Staff,,true\n",
-    ("accounts-csv", "accounts"): "id,role,team_id,token\n"
-    "j2,judge,,token-j2\nj1,judge,,token-j1\na9,team,t9,token-a9\na1,team,t1,token-a1\na2,team,t2,token-a2\n"
-    "a3,team,t3,token-a3\nadm,admin,,token-adm\n",
-}
 
 
 def try_readme(desk):
@@ -307,16 +259,11 @@ def try_readme(desk):
     folder = desk.new_folder()
     (folder / "examples").symlink_to(ROOT / "examples")
     calls = re.findall(r"(?m)^\$ (.*)\n((?:(?!\$ ).*\n)*)", session[1])
-    script = "\n".join(f"{call}\necho '-- done'" for call, _ in calls).replace("./desk", self_path(desk))
-    done = subprocess.run(["bash", "-c", f"exec 2>&1\n{script}"], capture_output=True, cwd=folder, timeout=300)
-    given = done.stdout.decode().split("-- done\n")
+    script = "\n".join(f"{call}\necho '-- done'" for call, _ in calls).replace("./desk", f"'{desk.path}'")
+    given = ran(["bash", "-c", f"exec 2>&1\n{script}"], cwd=folder, timeout=300)[1].decode().split("-- done\n")
     for (call, wanted), printed in zip(calls, given):
         desk.note(printed == wanted, f"README.md: {call}: {printed!r}, wanted {wanted!r}")
     desk.note(len(given) == len(calls) + 1, "README.md: not all calls were made")
-
-
-def self_path(desk):
-    return f"'{desk.program}'"
 
 
 def kill(desk, base, delay):
@@ -325,22 +272,22 @@ def kill(desk, base, delay):
         folder = pathlib.Path(name)
         for file in base.iterdir():
             shutil.copy(file, folder)
-        with subprocess.Popen([desk.program, "import", "cup.db", "teams-csv", "teams.csv"], cwd=folder,
+        with subprocess.Popen([desk.path, "import", "cup.db", "teams-csv", "teams.csv"], cwd=folder,
                               stdout=subprocess.PIPE, stderr=subprocess.PIPE) as running:
             time.sleep(delay)
             running.kill()
             told = running.communicate()[0].decode()
-        opened = subprocess.run([desk.probe, "open", folder / "cup.db"], capture_output=True, timeout=120).stdout.decode()
+        opened = desk.found(folder)
     none, every = "open: 0 0 0 0 0 0 0 0 0 0 0\n", "open: 0 0 0 0 500 0 0 0 0 0 0\n"
     right = opened == every or (opened == none and told == "")
     return None if right else f"killed after {delay:.4f} s: {told!r}, then {opened!r}", opened == every
 
 
 def try_kills(desk):
-    """Imports that are killed leave all their rows or none, and all where that was told."""
+    """Imports that are killed leave all their rows or none, and all if that was told."""
     base = desk.new_folder()
     desk.run(base, "init", "cup.db", "contest.json")
-    full, chance, kills = desk.new_folder(), random.Random(18), desk.kills
+    full, chance, kills = desk.new_folder(), random.Random(18), desk.options.kills
     for file in base.glob("cup.db*"):
         shutil.copy(file, full)
     start = time.monotonic()
@@ -356,29 +303,7 @@ def try_kills(desk):
     desk.note(0 < stood < kills, "kills came all too early or all too late to say anything")
 
 
-def main():
-    parser = argparse.ArgumentParser(description=__doc__, formatter_class=argparse.RawDescriptionHelpFormatter)
-    parser.add_argument("--program", default=str(ROOT / "crates/desk/out/desk"))
-    parser.add_argument("--probe", default=str(ROOT / "crates/store_probe/out/store_probe"))
-    parser.add_argument("--kills", type=int, default=200, metavar="N")
-    options = parser.parse_args()
-    for program in (options.program, options.probe):
-        if not pathlib.Path(program).is_file():
-            parser.error(f"there is no program {program}: build it, or name one by --program or --probe")
-    with tempfile.TemporaryDirectory() as folder:
-        os.chmod(folder, 0o755)
-        # Another user may not come to where the programs are.
-        programs = [shutil.copy(program, folder) for program in (options.program, options.probe)]
-        for program in programs:
-            os.chmod(program, 0o755)
-        desk = Desk(*programs, folder, options.kills)
-        for part in (try_commands, try_limits, try_bytes, try_paths, try_alone, try_streams, try_full_disk, try_clock, try_rows, try_readme, try_kills):
-            before = desk.passed
-            part(desk)
-            print(f"{part.__name__[4:].replace('_', ' ')}: {desk.passed - before} held", flush=True)
-        print(f"{desk.passed} passed, {desk.failed} failed")
-    return 1 if desk.failed else 0
-
-
 if __name__ == "__main__":
-    sys.exit(main())
+    PARTS = (try_commands, try_limits, try_bytes, try_paths, try_alone, try_streams, try_full_disk, try_clock, try_rows, try_readme,
+             try_kills)  # fmt: skip
+    sys.exit(program.main(__doc__, Desk, PARTS, program="desk", probe="probe", kills=200))

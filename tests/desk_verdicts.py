@@ -1,41 +1,41 @@
-#!/usr/bin/env python3
+#!/usr/bin/env -S python3 -B
 """Has judges and teams speak to `desk serve` on a file, and holds each reply beside what it must be.
 
     desk_verdicts.py [--program PATH] [--requests N] [--pairs N] [--seed N] [--leak]
 
-First the walks about verdicts of crates/desk_walks/stdin, reply by reply, over HTTP. Then N requests (20,000) made from a
-seed, by every role, before the freeze, in it and after it: the replies are those of desk_opinion.py. Then N pairs (5,000)
-of worlds that differ only in what a team may not see, its rows written by sqlite3: each reply to that team, at one moment,
-is the same in both. With --leak one verdict that the team may see differs too, and the pairs have to tell it.
+Contests are made by `desk init` and `desk import`, with verification and without, and the clock is stopped by faketime. First
+come the walks about verdicts and clarifications of crates/walks/stdin, reply by reply, over HTTP, and the last clarification that
+the jury may write to a team. Then N requests (20,000) made from a seed, by every role, before the freeze, in it and after it, and
+at last beside final results, which sqlite3 sets between two servers: the replies are those of lib/desk_opinion.py. Then N pairs
+(5,000) of worlds that a team, or the public, may not tell apart: they differ in hidden teams' submissions, in verdicts on others'
+frozen submissions, in others' clarifications, in which of these the jury answers, by whom and under which key, and in the order
+of acceptance, nothing else. Their rows are written by sqlite3, and each reply to that team, at one moment before the thaw, is the
+same in both. With --leak a verdict that the team may see differs too, and the pairs have to tell it.
 
-Takes faketime. Ends with the line `N passed, M failed`; the exit status is 0 where M is 0.
+Takes faketime. Ends with the line `N passed, M failed`; the exit status is 0 if M is 0.
 """
 
-import argparse
+import base64
 import collections
 import copy
-import json
-import pathlib
-import random
+import hashlib
 import re
 import shutil
-import sqlite3
 import sys
-import tempfile
 
-sys.dont_write_bytecode = True
+from lib import demo, desk_opinion, program
+from lib.clarifier import AT_ALL, TEXTS, Clarifier
+from lib.clock import text_of
+from lib.demo import AT_REHEARSAL, REHEARSAL, START
+from lib.desk_opinion import moment
+from lib.import_opinion import compact
+from lib.program import ROOT, Program
+from lib.replay_opinion import reltime_text
+from lib.server import Server
+from lib.sqlite import insert, opened
 
-import desk_files
-import desk_http
-import desk_opinion
-import fake_clock
-from desk_opinion import compact, moment
-
-ROOT = desk_http.ROOT
-START = 1_709_370_000_000
 END = START + 18_000_000
 FREEZE = START + 14_400_000
-HEAD = {"id": "demo", "name": "Demo Cup", "duration": 18_000_000, "freeze": 3_600_000, "penalty": 20}
 TYPES = [{"id": "AC", "name": "correct", "solved": True, "penalty": False},
          {"id": "WA", "name": "wrong answer", "solved": False, "penalty": True},
          {"id": "CE", "name": "compile error", "solved": False, "penalty": False}]  # fmt: skip
@@ -45,47 +45,43 @@ PROBLEMS = [{"id": "b", "label": "B", "name": "B", "ordinal": 1}, {"id": "c", "l
 GROUPS = [{"id": "north", "name": "North"}]
 TEAMS = [("t1", "Alpha", False, []), ("t2", "Beta", False, []), ("t9", "Staff", True, []), ("t3", "Gamma", False, ["north"])]
 ACCOUNTS = [("a1", "team", "t1"), ("a2", "team", "t2"), ("a3", "team", "t3"), ("a9", "team", "t9"), ("adm", "admin", ""),
-            ("j1", "judge", ""), ("j2", "judge", "")]  # fmt: skip
-WALKS = ["Judgements, where nobody verifies", "Verdicts are verified", "The scoreboard in the freeze", "Ranks"]
+            ("b1", "team", "t1"), ("j1", "judge", ""), ("j2", "judge", "")]  # fmt: skip
+WALKS = ["Judgements, where nobody verifies", "Verdicts are verified", "The scoreboard in the freeze", "Ranks",
+         "A team asks, and the jury answers", "When clarifications are taken", "No clarifications beside final results",
+         "What a clarification says", "What refuses a clarification first", "Keys of clarifications", "How many requests a team makes",
+         "In which order clarifications stand", "A hidden team asks, and is written to", "Alpha beside others' clarifications",
+         "Alpha beside none of others'"]  # fmt: skip
 
 
 def contest_of(verification, thaw=None):
     """The contest, as the second opinion keeps it."""
-    contest = desk_opinion.new_contest({**HEAD, "verification": verification}, START, thaw, None)
+    contest = desk_opinion.new_contest({**REHEARSAL, "verification": verification}, START, thaw, None)
     rows = {"types": TYPES, "languages": LANGUAGES, "problems": PROBLEMS, "groups": GROUPS}
     rows["teams"] = [{"id": row, "name": name, "hidden": hidden, "group_ids": groups} for row, name, hidden, groups in TEAMS]
-    digest = desk_opinion.hashlib.sha256
+    digest = hashlib.sha256
     rows["accounts"] = [{"id": row, "role": role, "team": team or None, "digest": digest(f"token-{row}".encode()).hexdigest()}
                         for row, role, team in ACCOUNTS]  # fmt: skip
     return {**contest, **copy.deepcopy(rows)}
 
 
-def made(test, verification, thaw=None):
+def made(desk, verification, thaw=None, finalized=None):
     """A folder with the same contest in cup.db, made by the program at eight o'clock."""
-    folder, clock = test.new_folder(), fake_clock.at("2024-03-02 08:00:00")
-    head = {"id": "demo", "name": "Demo Cup", "duration": "5:00:00.000", "scoreboard_freeze_duration": "1:00:00.000",
-            "start_time": moment(START), "verification": verification}  # fmt: skip
-    files = {"judgement-types": TYPES, "languages": LANGUAGES, "problems": PROBLEMS, "groups": GROUPS}
-    files["teams"] = contest_of(False)["teams"]
-    texts = {"head.json": compact(head), **{kind: compact(rows) for kind, rows in files.items()}}
+    head = {"id": REHEARSAL["id"], "name": REHEARSAL["name"], "duration": reltime_text(REHEARSAL["duration"]),
+            "scoreboard_freeze_duration": reltime_text(REHEARSAL["freeze"]), "start_time": moment(START),
+            "verification": verification}  # fmt: skip
+    files = {"init": head, "judgement-types": TYPES, "languages": LANGUAGES, "problems": PROBLEMS, "groups": GROUPS}
+    files = {name: compact(rows) for name, rows in {**files, "teams": contest_of(False)["teams"]}.items()}
     records = [",".join([row, role, team, f"token-{row}"]) for row, role, team in ACCOUNTS]
-    texts["accounts-csv"] = "\n".join(["id,role,team_id,token", *records]) + "\n"
-    for name, text in texts.items():
-        (folder / name).write_text(text, encoding="utf-8")
-    calls = [("init", "cup.db", "head.json")] + [("import", "cup.db", kind, kind) for kind in [*files, "accounts-csv"]]
-    for call in calls:
-        status = test.run(folder, *call, before=clock)
-        test.note(status[0] == 0, f"{call}: {status}")
-    if thaw is not None:
-        with sqlite3.connect(folder / "cup.db") as database:
-            database.execute("UPDATE contest SET thaw = ?", (thaw,))
-        database.close()
+    files["accounts-csv"] = "\n".join(["id,role,team_id,token", *records]) + "\n"
+    folder = demo.made(desk, files)
+    mark(folder, thaw, finalized)
     return folder
 
 
-def clock_of(milliseconds):
-    """The moment as faketime reads it, which cuts a fraction off: half a millisecond later."""
-    return moment(milliseconds).replace("T", " ").replace("+00:00", "5")
+def mark(folder, thaw, finalized):
+    """Sets the marks for which there is no command yet."""
+    with opened(folder / "cup.db") as database:
+        database.execute("UPDATE contest SET thaw = ?, finalized = ?", (thaw, finalized))
 
 
 def sent(who, key, method, path, body):
@@ -119,24 +115,30 @@ def same(given, wanted, method):
     return wanted.startswith(text + " ") and body == b"" and (size is None or length == str(size))
 
 
-def try_walks(test):
-    """The walks about verdicts, over HTTP."""
-    text = (ROOT / "crates/desk_walks/stdin").read_text(encoding="utf-8")
-    for walk in text.split("\n== ")[1:]:
-        title, _, rest = walk.partition("\n")
-        if title not in WALKS:
-            continue
-        thaw = re.search(r"(?m)^thawed from: (.*)$", rest)
-        until = None if thaw is None else milliseconds_of(thaw[1])
-        server = desk_http.Server(test, made(test, "verdicts are verified" in rest, until))
-        for step in f"\n{rest}".split("\n\n")[1:]:
-            name, when, asked, wanted = step.strip().split("\n")
-            _, at, who = when.split(" ")
-            method, path, *body = asked.split(" ", 2)
-            server.at(clock_of(milliseconds_of(at)))
-            given = told(server.ask(sent(who, None, method, path, "".join(body))), method)
-            test.note(same(given, wanted, method), f"{title}, {name}: {given}, wanted {wanted}")
+def try_walks(desk):
+    """The walks about verdicts and clarifications, over HTTP."""
+    text = (ROOT / "crates/walks/stdin").read_text(encoding="utf-8")
+    walks = dict(walk.split("\n", 1) for walk in text.split("\n== ")[1:])
+    for title in WALKS:
+        marks = [re.search(rf"(?m)^{word} from: (.*)$", walks[title]) for word in ("thawed", "final")]
+        marks = [None if one is None else milliseconds_of(one[1]) for one in marks]
+        server = Server(desk, made(desk, "verdicts are verified" in walks[title], *marks))
+        for step in f"\n{walks[title]}".split("\n\n")[1:]:
+            name, *lines, wanted = step.strip().split("\n")
+            times = int(lines.pop(0).removeprefix("times: ")) if lines[0].startswith("times: ") else 1
+            (_, at, who), (method, path, *body) = lines[0].split(" ", 2), lines[1].split(" ", 2)
+            who, _, key = who.partition(" key ")
+            server.at(text_of(milliseconds_of(at)))
+            asked = sent(who, key or None, method, path, spelled("".join(body)))
+            for _ in range(times):
+                given = told(server.ask(asked), method)
+            desk.note(same(given, wanted, method), f"{title}, {name}: {given}, wanted {wanted}")
         server.stop()
+
+
+def spelled(body):
+    """A body, in which `<3 zeros>` stands for the base64 of so many bytes."""
+    return re.sub(r"<(\d+) zeros>", lambda found: base64.b64encode(bytes(int(found[1]))).decode(), body)
 
 
 def milliseconds_of(text):
@@ -145,17 +147,8 @@ def milliseconds_of(text):
     return START + ((hours - 9) * 3600 + minutes * 60 + seconds) * 1000 + int(found[4] or 0)
 
 
-class Chance:
+class Asker(Clarifier):
     """What is asked next, by a seed."""
-
-    def __init__(self, seed):
-        self.random = random.Random(seed)
-
-    def one(self, choices):
-        return self.random.choice(choices)
-
-    def often(self, value, others, part):
-        return value if self.random.random() < part else self.one(others)
 
     def submission(self, contest):
         made = contest["submissions"]
@@ -163,11 +156,13 @@ class Chance:
 
     def request(self, contest):
         """Who asks, a key, a method, a path and a body."""
+        if self.random.random() < 0.35:
+            return self.about_clarifications(contest, [row for row, _, _ in ACCOUNTS])
         role = self.random.random()
         if role < 0.3:
             team = self.one(["1", "2", "3", "9"])
             body = {"problem_id": self.one("abc"), "language_id": "cpp", "files": [{"data": self.one(["YWJj", "", "YWJk"])}]}
-            return f"token-a{team}", self.often(None, ["k1", "k2", "k3"], 0.8), "POST", "/contests/demo/submissions", compact(body)
+            return f"token-a{team}", self.often(None, ["k1", "k2", "k3"], 0.8), "POST", f"{AT_REHEARSAL}/submissions", compact(body)
         if role < 0.6:
             judge = self.often(f"token-{self.one(['j1', 'j2', 'adm'])}", ["token-a1", "public"], 0.95)
             body = {"submission_id": self.submission(contest), "judgement_type_id": self.often(self.one(["AC", "WA"]), ["CE", "TLE"], 0.9)}
@@ -176,26 +171,45 @@ class Chance:
         which = self.submission(contest)
         paths = ["scoreboard", "scoreboard", "judgements", f"judgements/{which}.{self.often('1', ['2', '01'], 0.9)}", "submissions",
                  f"submissions/{which}", f"submissions/{which}/files", "state"]  # fmt: skip
-        path = self.often("/contests/demo/" + self.one(paths), ["/jury/proposals", "/jury/verifications"], 0.85)
+        path = self.often(f"{AT_REHEARSAL}/{self.one(paths)}", ["/jury/proposals", "/jury/verifications"], 0.85)
         return who, None, self.often("GET", ["HEAD"], 0.95), path, ""
 
 
-def try_requests(test):
+def try_limits(desk):
+    """The last clarification that the jury may write to one team, and one more."""
+    folder, room = made(desk, False), desk_opinion.JURY_LIMIT - 1
+    with opened(folder / "cup.db") as database:
+        rows = ((number, 1, number, 1, "j1", None, None, "So.", START, None) for number in range(1, room + 1))
+        database.executemany(f"INSERT INTO clarifications VALUES ({', '.join('?' * 10)})", rows)
+    server = Server(desk, folder)
+    for who, team, wanted in (("adm", "t1", f'"id":"c1-{room + 1}"'), ("j1", "t1", '"message":"TeamLimit"'), ("j1", "t2", '"id":"c2-1"'),
+                              ("j1", None, '"id":"g-1"'), ("a1", None, f'"id":"c1-{room + 2}"')):  # fmt: skip
+        given = told(server.ask(sent(f"token-{who}", None, "POST", AT_ALL, compact({"text": "So.", "to_team_id": team}))), "POST")
+        desk.note(wanted in given[0], f"{who} writes to {team}: {given}, wanted {wanted}")
+    server.stop()
+
+
+def try_requests(desk):
     """Requests of every role at contests that grow, beside the second opinion."""
-    kinds, left, number = collections.Counter(), test.requests, 0
+    kinds, left, number = collections.Counter(), desk.options.requests, 0
     while left > 0:
-        chance = Chance(f"{test.seed}/{number}")
+        chance = Asker(f"{desk.options.seed}/{number}")
         verification, thaw = bool(number % 2), chance.one([None, END + 600_000, FREEZE + 1_200_000])
-        contest = contest_of(verification, thaw)
-        server = desk_http.Server(test, made(test, verification, thaw))
-        now, number = START - 600_000, number + 1
-        for _ in range(min(left, 400)):
-            now += chance.random.randint(0, 110_000)
-            server.at(clock_of(now))
+        contest, folder = contest_of(verification, thaw), made(desk, verification, thaw)
+        server = Server(desk, folder)
+        now, number, count = START - 600_000, number + 1, min(left, 400)
+        for step in range(count):
+            now += chance.random.randint(0, 44_000_000 // count)
+            if step == count * 9 // 10:
+                server.stop()
+                contest["finalized"] = now
+                mark(folder, thaw, now)
+                server = Server(desk, folder)
+            server.at(text_of(now))
             asked = chance.request(contest)
             wanted, contest = desk_opinion.handled(contest, now, *asked)
             given = told(server.ask(sent(*asked)), asked[2])
-            test.note(same(given, wanted, asked[2]), f"{asked} at {moment(now)}: {given}, wanted {wanted}")
+            desk.note(same(given, wanted, asked[2]), f"{asked} at {moment(now)}: {given}, wanted {wanted}")
             kinds[re.sub(r"[\[{].*", "", wanted) + re.sub(r"\d.*", "", asked[3].rpartition("/")[2])] += 1
             left -= 1
         server.stop()
@@ -238,102 +252,153 @@ def partner(chance, rows, own):
 
 
 def mixed(chance, rows):
-    """The rows in another order of acceptance, which keeps each team's own."""
+    """The rows in another order of acceptance, which keeps that of each team's own."""
     order = [row["team"] for row in rows]
     chance.random.shuffle(order)
-    own = {team: iter(sorted((row for row in rows if row["team"] == team), key=placed)) for team in order}
+    own = {team: iter(sorted((row for row in rows if row["team"] == team), key=lambda row: row["number"])) for team in order}
     return [next(own[team]) for team in order]
 
 
-def write(database, rows):
-    """Puts the rows of a world into the tables in place of those that stand."""
-    for table in ("submissions", "proposals", "releases"):
+def id_of(row):
+    """A clarification's id."""
+    return f"g-{row['number']}" if row["team"] is None else f"c{row['team'] + 1}-{row['number']}"
+
+
+def hears(team, row):
+    """Whether the team at a place hears a clarification; the public is at none."""
+    return row["team"] in (None, team)
+
+
+def words(chance, teams):
+    """Clarifications of the teams at these places, and of all (None): number, who wrote it, time, problem, text and, of a team's
+    own, the key."""
+    rows = []
+    for team in teams:
+        for number in range(1, chance.random.randint(0, 4) + 1):
+            row = {"team": team, "number": number, "is_by_jury": team is None or chance.one([True, False])}
+            row["time"] = START + 60_000 * chance.random.randint(0, 20)
+            row |= {"problem": chance.one([None, None, "a", "b"]), "text": chance.one(TEXTS), "reply": None}
+            rows.append({**row, "key": None if row["is_by_jury"] else chance.often(f"k{number}", [None], 0.7)})
+    return rows
+
+
+def answering(chance, row, rows):
+    """A clarification that answers one of these which its writer hears, or none."""
+    ids = [id_of(one) for one in rows if row["is_by_jury"] or hears(row["team"], one)]
+    return {**row, "reply": chance.often(None, ids or [None], 0.4)}
+
+
+def signed(chance, rows):
+    """Clarifications with an account that wrote each, and with keys of the jury's accounts."""
+    used, made = set(), []
+    for row in rows:
+        team = "" if row["is_by_jury"] else TEAMS[row["team"]][0]
+        account, key = chance.one([one for one, _, of in ACCOUNTS if of == team]), row["key"]
+        if row["is_by_jury"]:
+            wanted = account, chance.one(["k1", "k2", "k3", "k4"])
+            key = None if wanted in used else wanted[1]
+            used.add(wanted)
+        made.append({**row, "account": account, "key": key})
+    return made
+
+
+def told_words(chance):
+    """Clarifications of one world."""
+    rows = words(chance, [None, *range(len(TEAMS))])
+    return signed(chance, [answering(chance, row, rows) for row in rows])
+
+
+def partner_words(chance, rows, own):
+    """Those of another world, of which the team at a place hears the same: what it doesn't hear is another, and so are who wrote
+    for the jury, under which key, and which of the unheard ones that answers."""
+    heard, others = [row for row in rows if hears(own, row)], words(chance, [team for team in range(len(TEAMS)) if team != own])
+    ids = [id_of(row) for row in heard]
+    free = [row for row in heard if row["is_by_jury"] and row["reply"] not in ids]
+    made = [row for row in heard if row not in free] + [answering(chance, row, others) for row in free]
+    made += [answering(chance, row, heard + others) for row in others]
+    return mixed(chance, signed(chance, made))
+
+
+def write(database, rows, told):
+    """Puts the rows of a world, and its clarifications, into the tables in place of those that stand."""
+    for table in ("submissions", "proposals", "releases", "clarifications"):
         database.execute(f"DELETE FROM {table}")
     for seq, row in enumerate(rows, 1):
-        values = (seq, row["team"] + 1, row["number"], row["time"], PROBLEMS[row["problem"]]["id"], "cpp", None, bytes(row["number"] % 5), None)
-        database.execute("INSERT INTO submissions VALUES (?, ?, ?, ?, ?, ?, ?, ?, ?)", values)
+        file = bytes(row["number"] % 5)
+        values = (seq, row["team"] + 1, row["number"], row["time"], PROBLEMS[row["problem"]]["id"], "cpp", None, file, None)
+        insert(database, "submissions", values)
     seq = 0
     for row in rows:
         for n, verdict in enumerate(row["types"], 1):
             seq += 1
-            values = (seq, row["team"] + 1, row["number"], TYPES[verdict]["id"], "import" if n == 1 else "j1", END)
-            database.execute("INSERT INTO proposals VALUES (?, ?, ?, ?, ?, ?)", values)
-            values = (seq, row["team"] + 1, row["number"], n, TYPES[verdict]["id"], row["time"])
-            database.execute("INSERT INTO releases VALUES (?, ?, ?, ?, ?, ?)", values)
-    database.commit()
+            which, verdict = (seq, row["team"] + 1, row["number"]), TYPES[verdict]["id"]
+            insert(database, "proposals", (*which, verdict, "import" if n == 1 else "j1", END))
+            insert(database, "releases", (*which, n, verdict, row["time"]))
+    for seq, row in enumerate(told, 1):
+        whose = 0 if row["team"] is None else row["team"] + 1
+        parts = ("account", "problem", "reply", "text", "time", "key")
+        insert(database, "clarifications", (seq, whose, row["number"], int(row["is_by_jury"]), *(row[part] for part in parts)))
 
 
-def questions(rows, own, chance):
-    """What the team asks in both worlds, and one post."""
+def questions(rows, told, own, chance):
+    """What the team asks in both worlds: a key, a method, a path and a body each. It posts between what it reads."""
     ids = [f"s{row['team'] + 1}-{row['number']}" for row in rows] or ["s1-1"]
     paths = ["scoreboard", "judgements", "submissions", f"judgements/{chance.one(ids)}.1", f"submissions/{chance.one(ids)}/files"]
-    asked = [("GET", f"/contests/demo/{path}", "") for path in paths]
-    return asked + [("POST", "/contests/demo/submissions", '{"problem_id":"a","language_id":"cpp","files":[{"data":"YWJj"}]}')]
+    paths += ["clarifications", *(f"clarifications/{chance.one(told)}" for _ in range(3))]
+    reads = [(None, "GET", f"{AT_REHEARSAL}/{path}", "") for path in paths]
+    posts = [(None, f"{AT_REHEARSAL}/submissions", '{"problem_id":"a","language_id":"cpp","files":[{"data":"YWJj"}]}')]
+    for key in ("k1", "k2", None):
+        row = {"text": chance.one(TEXTS[:2]), "problem_id": chance.one([None, "a"]), "reply_to_id": chance.often(None, told, 0.4)}
+        posts.append((key, AT_ALL, compact(row)))
+    return reads + [(key, "POST", path, body) for key, path, body in posts + own] + reads[2:3] + reads[5:6]
 
 
-def answers(test, folder, rows, who, now, asked):
+def repeats(told, own):
+    """The posts of what the team at a place asked under keys, once more."""
+    names = {"text": "text", "problem_id": "problem", "reply_to_id": "reply"}
+    asked = [row for row in told if row["team"] == own and not row["is_by_jury"] and row["key"]]
+    return [(row["key"], AT_ALL, compact({name: row[part] for name, part in names.items()})) for row in asked]
+
+
+def answers(desk, folder, rows, told, who, now, asked):
     """The replies to a team in one world."""
-    with sqlite3.connect(folder / "cup.db") as database:
-        write(database, rows)
-    database.close()
-    server = desk_http.Server(test, folder, requests=len(asked))
-    server.at(clock_of(now))
-    replies = [server.ask(sent(who, None, *one)) for one in asked]
+    with opened(folder / "cup.db") as database:
+        write(database, rows, told)
+    server = Server(desk, folder, requests=len(asked))
+    server.at(text_of(now))
+    replies = [server.ask(sent(who, *one)) for one in asked]
     server.stop()
     return replies
 
 
-def try_worlds(test):
-    """Pairs of worlds that differ only in what a team may not see."""
-    first = made(test, False)
-    second = test.new_folder()
+def try_worlds(desk):
+    """Pairs of worlds that differ only in what a team, or the public, may not see."""
+    first = made(desk, False)
+    second = desk.new_folder()
     shutil.copy(first / "cup.db", second / "cup.db")
     differed = 0
-    for number in range(test.pairs):
-        chance = Chance(f"{test.seed}/pair {number}")
-        own = chance.random.randint(0, 3)
-        who = f"token-a{TEAMS[own][0][1:]}"
-        rows = world(chance)
-        others = partner(chance, rows, own)
+    for number in range(desk.options.pairs):
+        chance = Asker(f"{desk.options.seed}/pair {number}")
+        own = chance.random.randint(0, len(TEAMS))
+        who = "public" if own == len(TEAMS) else f"token-a{TEAMS[own][0][1:]}"
+        rows, told_first = world(chance), told_words(chance)
+        others, told_second = partner(chance, rows, own), partner_words(chance, told_first, own)
         seen = [row for row in others if row["team"] == own and row["types"]]
-        if test.leak and seen:
+        if desk.options.leak and seen:
             seen[0]["types"][-1] = (seen[0]["types"][-1] + 1) % 3
-        now, asked = START + chance.random.randint(0, 17_999_999), questions(rows, own, chance)
-        given = answers(test, first, rows, who, now, asked), answers(test, second, others, who, now, asked)
-        if test.leak:
+        now, ids = START + chance.random.randint(0, 17_999_999), [id_of(row) for row in told_first + told_second] or ["g-1"]
+        asked = questions(rows, ids, repeats(told_first, own), chance)
+        given = answers(desk, first, rows, told_first, who, now, asked), answers(desk, second, others, told_second, who, now, asked)
+        if desk.options.leak:
             differed += given[0] != given[1]
             continue
         for one, two, question in zip(*given, asked):
-            test.note(one == two and one != b"", f"pair {number}, {who} at {moment(now)}, {question}: {one}, and {two}")
-    if test.leak:
-        test.note(differed > 0, f"a verdict that is seen differs in {test.pairs} pairs, and none tells it")
-        print(f"{differed} of {test.pairs} pairs tell the planted verdict")
-
-
-def main():
-    parser = argparse.ArgumentParser(description=__doc__, formatter_class=argparse.RawDescriptionHelpFormatter)
-    parser.add_argument("--program", default=str(ROOT / "crates/desk/out/desk"))
-    parser.add_argument("--requests", type=int, default=20_000, metavar="N")
-    parser.add_argument("--pairs", type=int, default=5_000, metavar="N")
-    parser.add_argument("--seed", type=int, default=20, metavar="N")
-    parser.add_argument("--leak", action="store_true")
-    options = parser.parse_args()
-    if not pathlib.Path(options.program).is_file():
-        parser.error(f"there is no program {options.program}: build it, or name one by --program")
-    with tempfile.TemporaryDirectory() as folder:
-        test = desk_http.Test(options.program, folder, options.requests)
-        test.seed, test.pairs, test.leak = options.seed, options.pairs, options.leak
-        try:
-            for part in (try_walks, try_requests, try_worlds):
-                before = test.passed
-                part(test)
-                print(f"{part.__name__[4:]}: {test.passed - before} held", flush=True)
-        finally:
-            for process in test.processes:
-                process.kill()
-        print(f"{test.passed} passed, {test.failed} failed")
-    return 1 if test.failed else 0
+            desk.note(one == two and one != b"", f"pair {number}, {who} at {moment(now)}, {question}: {one}, and {two}")
+    if desk.options.leak:
+        desk.note(differed > 0, f"a verdict that is seen differs in {desk.options.pairs} pairs, and none tells it")
+        print(f"{differed} of {desk.options.pairs} pairs tell the planted verdict")
 
 
 if __name__ == "__main__":
-    sys.exit(main())
+    WORDS = {"requests": 20_000, "pairs": 5_000, "seed": 20, "leak": False}
+    sys.exit(program.main(__doc__, Program, (try_walks, try_limits, try_requests, try_worlds), program="desk", **WORDS))

@@ -1,25 +1,21 @@
-#!/usr/bin/env python3
+#!/usr/bin/env -S python3 -B
 """Runs the program on the tables under tests/tables, on other spellings of the first example, and at the limits.
 
     replay_tables.py [--program PATH]
 
 refused.tsv has files that are refused, each with its line; same_board.tsv files that print the board of
 examples/first.csv; words.tsv words that are refused, and odd ones that aren't. What a file gives is also asked of
-tests/second_opinion.py. Ends with the line `N passed, M failed`; the exit status is 0 where M is 0.
+lib/replay_opinion.py. Ends with the line `N passed, M failed`; the exit status is 0 if M is 0.
 """
 
-import argparse
 import os
-import pathlib
-import subprocess
 import sys
 
-sys.dont_write_bytecode = True
+from lib import program, replay_opinion
+from lib.program import ROOT, TESTS, ran
+from lib.tally import Tally
 
-import second_opinion
-
-ROOT = pathlib.Path(__file__).resolve().parent.parent
-TABLES = ROOT / "tests/tables"
+TABLES = TESTS / "tables"
 FIRST, _, LAST = (ROOT / "examples/first.csv").read_bytes().rpartition(b"submission,t2")
 LAST = b"submission,t2" + LAST
 FIRST_BOARD = (ROOT / "examples/first.public.txt").read_bytes()
@@ -76,22 +72,19 @@ def spelled(data, start, end, mark):
     return start + b"".join(line + end for line in lines)
 
 
-class Tally:
-    def __init__(self, program):
-        self.program, self.passed, self.failed = program, 0, 0
+class Replay(Tally):
+    """The program, and what was counted."""
 
-    def run(self, words, data):
-        done = subprocess.run([self.program, *words], input=data, capture_output=True, timeout=120)
-        return done.returncode, done.stdout, done.stderr
+    def __init__(self, options, _):
+        super().__init__()
+        self.program = options.program
 
-    def note(self, is_right, what):
-        self.passed, self.failed = self.passed + is_right, self.failed + (not is_right)
-        if not is_right:
-            print(f"FAILED: {what}")
+    def run(self, words, data=b"", **how):
+        return ran([self.program, *words], **(how or {"input": data}))
 
     def file(self, data, wanted, words=("replay",)):
         """The program and the second opinion give this for the file."""
-        given, other = self.run(words, data), second_opinion.replay(list(words), data)
+        given, other = self.run(words, data), replay_opinion.replay(list(words), data)
         self.note(given == wanted == other, f"{words} {data[-60:]!r}: {given}, second opinion {other}, wanted {wanted}")
 
     def refused(self, data, line, words=("replay",)):
@@ -110,13 +103,12 @@ def try_tables(tally):
 def try_words(tally):
     """Reading a folder fails, so words that were refused only after that would give status 1."""
     for status, said, words in rows("words.tsv"):
-        given = tally.run(words.split(), b"")
+        given = tally.run(words.split())
         is_right = given[0] == int(status) and given[1] == b"" and given[2].startswith(said.encode())
         if status == "2":
             unread = os.open("/", os.O_RDONLY)
-            done = subprocess.run([tally.program, *words.split()], stdin=unread, capture_output=True, timeout=120)
+            is_right = is_right and tally.run(words.split(), stdin=unread) == given
             os.close(unread)
-            is_right = is_right and (done.returncode, done.stdout, done.stderr) == given
         tally.note(is_right, f"{words!r}: {given}")
     for at, time, word in (("--at=-0:00:00", "0:00:00.000", "running"), ("--at=0000:05:00", "0:05:00.000", "running"), ("--at=70380767:59:59.999", "70380767:59:59.999", "frozen")):
         board = f"Demo Cup\nPublic board, contest time {time}, {word}\nRank  Team  Solved    Time\n"
@@ -152,18 +144,5 @@ def try_sizes(tally):
         tally.note(given == wanted, f"{size} bytes of {start!r}: {given}")
 
 
-def main():
-    parser = argparse.ArgumentParser(description=__doc__, formatter_class=argparse.RawDescriptionHelpFormatter)
-    parser.add_argument("--program", default=str(ROOT / "crates/desk/out/desk"))
-    options = parser.parse_args()
-    if not pathlib.Path(options.program).is_file():
-        parser.error(f"there is no program {options.program}: build it, or name one by --program")
-    tally = Tally(options.program)
-    for part in (try_tables, try_words, try_limits, try_sizes):
-        part(tally)
-    print(f"{tally.passed} passed, {tally.failed} failed")
-    return 1 if tally.failed else 0
-
-
 if __name__ == "__main__":
-    sys.exit(main())
+    sys.exit(program.main(__doc__, Replay, (try_tables, try_words, try_limits, try_sizes), program="desk"))

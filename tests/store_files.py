@@ -1,19 +1,24 @@
-#!/usr/bin/env python3
+#!/usr/bin/env -S python3 -B
 """Makes files with sqlite3, and holds what the store answers that is opened over them.
 
     store_files.py [--program PATH] [--every N] [--no-memory]
 
-The program is store_probe, which opens a file as the store does, and sets the thaw if it is asked to. What is in a file
-afterwards is asked of sqlite3. tables/store_demo.sql is a contest; tables/store_rows.tsv has changes of it, which leave
-another contest or break one rule each, and tables/store_files.tsv other databases. A file that is refused keeps its
-bytes, and a change is made whole or not at all: also where one of the program's calls on its files fails (see
-fail_disk.c), and where one of its calls for memory is refused (see refuse_call.c), each alone, and all from one on. With
---every N only each Nth call for memory is.
+The program is probe, which opens a file as the store does, sets the thaw or walks through calls of a store. What is in a
+file afterwards is asked of sqlite3. tables/store_demo.sql is a contest. Each row of tables/store_rows.tsv changes it: most
+break one rule of what a contest is, and the others go up to a limit or look odd and are valid. tables/store_files.tsv has
+other databases: tables like those of a contest, but for a column, a key or a word, and a contest's tables made in other ways.
+Then come files that are no database, damaged ones, paths, links, and a file that sqlite3 is writing. What is refused is E24
+and keeps its bytes; a thaw changes one cell or nothing.
 
-Takes sqlite3 and a C compiler. Ends with the line `N passed, M failed`; the exit status is 0 where M is 0.
+Then probe walks through loads, appends, commits and reads of a file while one of its calls on the files fails, each in turn,
+alone and with all after it (lib/fail_disk.c): what fails is E24 and counted, and what comes after works on the last commit,
+unless the failure shut the store. At the end each call for memory of a thaw is refused in turn (lib/refuse_call.c), some
+7,600, each alone and all from one on: the answer is `done` or E25, and after E25 the file shows what it did before. That takes
+one to two minutes of four processors; --every N refuses each Nth alone, --no-memory none.
+
+Takes sqlite3 and a C compiler. Ends with the line `N passed, M failed`; the exit status is 0 if M is 0.
 """
 
-import argparse
 import concurrent.futures
 import os
 import pathlib
@@ -24,15 +29,10 @@ import subprocess
 import sys
 import tempfile
 
-sys.dont_write_bytecode = True
+from lib import demo, program, sqlite
+from lib.program import TESTS, Program, compiled, ran, ran_refused
+from lib.sqlite import TABLES, dump
 
-import refuse_memory
-
-TESTS = pathlib.Path(__file__).resolve().parent
-ROOT = TESTS.parent
-TEXTS = (ROOT / "crates/contest_tables/src/texts.rt").read_text(encoding="utf-8")
-TABLES = "".join(text + ";\n" for text in re.findall(r'"(CREATE TABLE [^"]*)"', TEXTS))
-ROWS = (TESTS / "tables/store_demo.sql").read_text(encoding="utf-8")
 COUNTS = "3 2 3 2 4 7 5 4 4 3 4"
 OPEN = (0, f"open: {COUNTS}\n", "")
 DONE = (0, "done\n", "")
@@ -59,24 +59,13 @@ WORDS = [
     ["demo", "{}", "4", "-1"],
 ]
 
-# What store_probe's walk does, with the thaw that each change sets.
+# What probe's walk does, with the thaw that each change sets.
 WALK = [
     ("lists", 0), ("append", 1), ("lists", 0), ("file", 0), ("commit", 0), ("lists", 0), ("append", 2), ("file", 0),
     ("commit", 0), ("commit", 0), ("lists", 0), ("append", 1), ("lists", 0), ("commit", 0), ("file", 0), ("lists", 0),
 ]
 # How long the file is that a walk reads. With it there are more pages than the program keeps in memory.
 LARGE = 250_000
-
-# Paths at which no file of a contest can be.
-NO_PATHS = [
-    ("a folder", "{folder}"),
-    ("a path through a file", "{good}/x"),
-    ("no such folder", "{folder}/none/x.db"),
-    ("a pipe", "{folder}/pipe"),
-    ("memory", ":memory:"),
-    ("a URI", "file:{good}"),
-    ("no name", ""),
-]
 
 
 def rows(name):
@@ -95,24 +84,7 @@ def filled(sql):
             sys.exit(f"{named[1]!r} stands {TABLES.count(named[1])} times in the tables")
         return TABLES.replace(named[1], named[2])
 
-    return re.sub(r"\{TABLES(?:\|([^|}]*)\|([^|}]*))?\}", tables, sql).replace("{ROWS}", ROWS)
-
-
-def sqlite(path, sql):
-    """What sqlite3 answers, as the command line program that anybody has."""
-    done = subprocess.run(["sqlite3", "-bail", path], input=sql.encode(), capture_output=True, timeout=120)
-    if done.returncode or done.stderr:
-        sys.exit(f"sqlite3 on {path}: {done.stderr.decode()}{sql[:300]}")
-    return done.stdout.decode("utf-8", "replace")
-
-
-def dump(path):
-    """All that sqlite3 shows of a file. It reads a copy, so that it never writes the file itself."""
-    with tempfile.TemporaryDirectory(dir=path.parent) as folder:
-        for name in (path.name, f"{path.name}-wal"):
-            if (path.parent / name).is_file():
-                shutil.copy(path.parent / name, folder)
-        return sqlite(pathlib.Path(folder, path.name), ".dump")
+    return re.sub(r"\{TABLES(?:\|([^|}]*)\|([^|}]*))?\}", tables, sql).replace("{ROWS}", demo.ROWS)
 
 
 def thawed(text, moment):
@@ -124,37 +96,26 @@ def answer_of(cell):
     return FAULT if cell == "E24" else (0, f"open: {cell}\n", "")
 
 
-class Probe:
+class Probe(Program):
     """The program, the folder in which each case has a file of its own, and what was counted."""
 
-    def __init__(self, program, folder):
-        self.program, self.folder = program, pathlib.Path(folder)
-        self.made = self.passed = self.failed = 0
+    def __init__(self, options, folder):
+        super().__init__(options, folder)
         self.good = self.new_file()
-        sqlite(self.good, TABLES + ROWS)
+        sqlite.asked(self.good, TABLES + demo.ROWS)
 
     def new_file(self):
         self.made += 1
         return self.folder / f"case{self.made}.db"
+
+    def run(self, *words):
+        return super().run(self.folder, *words)
 
     def copy(self):
         """The demo contest in a file of its own."""
         path = self.new_file()
         shutil.copy(self.good, path)
         return path
-
-    def run(self, *words):
-        done = subprocess.run([self.program, *map(str, words)], capture_output=True, cwd=self.folder, timeout=120)
-        return done.returncode, done.stdout.decode(), done.stderr.decode()
-
-    def note(self, is_right, what):
-        self.passed, self.failed = self.passed + is_right, self.failed + (not is_right)
-        if not is_right:
-            print(f"FAILED: {what}", flush=True)
-
-    def answers(self, what, wanted, *words):
-        given = self.run(*words)
-        self.note(given == wanted, f"{what}: {given}, wanted {wanted}")
 
     def holds(self, what, path, wanted):
         """An open gives this answer, and the file keeps its bytes and all that it shows."""
@@ -186,9 +147,9 @@ def try_demo(probe):
         shown = dump(path)
         probe.answers(f"the thaw at {moment}", DONE, "thaw", path, moment)
         probe.note(dump(path) == thawed(shown, moment), f"the thaw at {moment} isn't all that changed")
-    sqlite(path, "INSERT INTO releases VALUES (5, 4, 1, 1, 'AC', 1709371000000)")
+    sqlite.asked(path, "INSERT INTO releases VALUES (5, 4, 1, 1, 'AC', 1709371000000)")
     probe.holds("what sqlite3 wrote after it", path, (0, "open: 3 2 3 2 4 7 5 4 5 3 4\n", ""))
-    sqlite(path, "UPDATE releases SET n = 2 WHERE seq = 5")
+    sqlite.asked(path, "UPDATE releases SET n = 2 WHERE seq = 5")
     probe.holds("what sqlite3 wrote wrong after it", path, FAULT)
     probe.thaws("what sqlite3 wrote wrong after it", path, FAULT)
 
@@ -197,7 +158,7 @@ def try_rows(probe):
     """Each change of the demo contest leaves a contest or breaks a rule."""
     for cell, what, sql in rows("store_rows.tsv"):
         path = probe.copy()
-        sqlite(path, sql)
+        sqlite.asked(path, sql)
         probe.holds(what, path, answer_of(cell))
         probe.thaws(what, path, FAULT if cell == "E24" else DONE)
         path.unlink()
@@ -206,7 +167,7 @@ def try_rows(probe):
 def try_databases(probe):
     for cell, what, sql in rows("store_files.tsv"):
         path = probe.new_file()
-        sqlite(path, filled(sql))
+        sqlite.asked(path, filled(sql))
         probe.holds(what, path, answer_of(cell))
         probe.thaws(what, path, FAULT if cell == "E24" else DONE)
 
@@ -224,7 +185,7 @@ def try_no_databases(probe):
     open makes a database without tables."""
     good, chance = probe.good.read_bytes(), random.Random(1)
     keeps(probe, "a text", probe.new_file(), b"kind,id,f1,f2,f3\ncontest,demo,Demo Cup,5:00:00,1:00:00\n")
-    keeps(probe, "statements", probe.new_file(), (TABLES + ROWS).encode())
+    keeps(probe, "statements", probe.new_file(), (TABLES + demo.ROWS).encode())
     keeps(probe, "garbage", probe.new_file(), chance.randbytes(20000))
     keeps(probe, "garbage that begins with an S", probe.new_file(), b"S" + chance.randbytes(20000))
     keeps(probe, "a database's header and garbage", probe.new_file(), good[:100] + chance.randbytes(20000))
@@ -240,14 +201,14 @@ def try_no_databases(probe):
             path.write_bytes(data)
         probe.answers(what, FAULT, "open", path)
         probe.answers(f"thaw of {what}", FAULT, "thaw", path, THAW)
-        left = sqlite(path, "SELECT count(*) FROM sqlite_schema; PRAGMA integrity_check")
+        left = sqlite.asked(path, "SELECT count(*) FROM sqlite_schema; PRAGMA integrity_check")
         probe.note(left == "0\nok\n", f"{what} left more than an empty database: {left}")
 
 
 def try_paths(probe):
     """Paths that name no file of one's own, links, and a file that sqlite3 writes at that moment."""
     os.mkfifo(probe.folder / "pipe")
-    for what, none in NO_PATHS:
+    for what, none in sqlite.NO_PATHS:
         probe.answers(what, FAULT, "open", none.format(folder=probe.folder, good=probe.good))
     other, link, path, journal = (probe.new_file() for _ in range(4))
     shutil.copy(probe.good, path)
@@ -282,17 +243,17 @@ def try_words(probe):
 
 
 def try_demo_contests(probe):
-    """The demo contest that the library makes, with fewer teams and problems too, where nothing stands yet."""
+    """The demo contest that the library makes, with fewer teams and problems too, in a new file."""
     for teams, problems, counts in ((4, 2, "3 2 0 2 4 7"), (9, 9, "3 2 0 2 4 7"), (1, 0, "3 2 0 0 1 4"), (0, 1, "3 2 0 1 0 3")):
         path, what = probe.new_file(), f"{teams} teams and {problems} problems"
         probe.answers(what, DONE, "demo", path, teams, problems)
         probe.holds(what, path, (0, f"open: {counts} 0 0 0 0 0\n", ""))
-    probe.answers("the demo contest where one stands", (1, "refused: E13 KeyReused\n", ""), "demo", path, 4, 2)
+    probe.answers("the demo contest over one that stands", (1, "refused: E13 KeyReused\n", ""), "demo", path, 4, 2)
     probe.holds("the contest that stands", path, (0, "open: 3 2 0 1 0 3 0 0 0 0 0\n", ""))
 
 
 def wrong_of(lines):
-    """What is wrong of the lines that a walk prints where one call on the files may fail, if something is, the name of the
+    """What is wrong of the lines that a walk prints while one call on the files may fail, if something is, the name of the
     step that failed, if one did, and the thaws that may be committed then.
 
     A step that fails is told as E24 and counted. What was changed since the last commit is gone then, and what comes after
@@ -327,23 +288,22 @@ def fail(probe, library, call, later):
         path = pathlib.Path(folder, "case.db")
         shutil.copy(probe.large, path)
         env = {**os.environ, "LD_PRELOAD": library, "FAIL_CALL": str(call), **({"FAIL_LATER": "1"} if later else {})}
-        done = subprocess.run([probe.program, "walk", path, "1", "2"], capture_output=True, env=env, timeout=120)
-        lines = done.stdout.decode().splitlines()
-        shown = sqlite(path, "SELECT ifnull(thaw, 0) FROM contest; PRAGMA integrity_check").split()
+        status, out, err = ran([probe.path, "walk", path, "1", "2"], env=env)
+        lines = out.decode().splitlines()
+        shown = sqlite.asked(path, "SELECT ifnull(thaw, 0) FROM contest; PRAGMA integrity_check").split()
     told, failed, left = wrong_of(lines[:-1])
-    whole = (done.returncode, lines[-1:], done.stderr) == (0, ["done"], b"") and shown[1:] == ["ok"] and int(shown[0]) in left
+    whole = (status, lines[-1:], err) == (0, ["done"], b"") and shown[1:] == ["ok"] and int(shown[0]) in left
     if told is None and not whole:
-        told = f"{done}, and sqlite3 shows {shown}, wanted one of {left}"
+        told = f"{status}, {out}, {err}, and sqlite3 shows {shown}, wanted one of {left}"
     return told and f"call {call} on the files failed{' and all after it' if later else ''}: {told}", failed
 
 
 def try_disk(probe):
     """Each of the program's calls on its files fails in turn, once it has opened them."""
-    probe.large, library = probe.copy(), f"{probe.folder}/fail_disk.so"
-    sqlite(probe.large, f"UPDATE submissions SET file = zeroblob({LARGE}) WHERE team = 1 AND k = 1")
+    probe.large, library = probe.copy(), compiled("fail_disk", probe.folder)
+    sqlite.asked(probe.large, f"UPDATE submissions SET file = zeroblob({LARGE}) WHERE team = 1 AND k = 1")
     filler = f"INSERT INTO submissions SELECT 5 + value, 3, value, 1709388000000 - 1, 'a', 'cpp', NULL, zeroblob({LARGE}), NULL FROM generate_series(1, 40)"
-    sqlite(probe.large, filler)
-    subprocess.run(["cc", "-O1", "-shared", "-fPIC", "-o", library, str(TESTS / "fail_disk.c"), "-ldl"], check=True)
+    sqlite.asked(probe.large, filler)
     for later in (False, True):
         call, steps = 1, []
         while len(steps) == call - 1:
@@ -361,8 +321,7 @@ def refuse(probe, library, call, later):
     with tempfile.TemporaryDirectory(dir=probe.folder) as folder:
         path = pathlib.Path(folder, "case.db")
         shutil.copy(probe.good, path)
-        words = ["thaw", str(path), str(THAW)]
-        given, refused = refuse_memory.run(probe.program, library, words, b"", call, later)
+        given, refused = ran_refused([probe.path, "thaw", path, str(THAW)], library, call, later)
         given = given[0], given[1].decode(), given[2].decode()
         shown = dump(path)
     wanted = {DONE: thawed(probe.shown, THAW), MEMORY: probe.shown}
@@ -371,13 +330,13 @@ def refuse(probe, library, call, later):
     return wrong, given, refused > 0
 
 
-def try_memory(probe, every):
+def try_memory(probe):
     """Each of the program's calls for memory is refused in turn, as many side by side as there are processors."""
+    if probe.options.no_memory:
+        return
     probe.shown = dump(probe.good)
-    library = f"{probe.folder}/refuse_call.so"
-    subprocess.run(["cc", "-O1", "-shared", "-fPIC", "-o", library, str(TESTS / "refuse_call.c"), "-ldl"], check=True)
-    lanes = os.cpu_count() or 1
-    with concurrent.futures.ThreadPoolExecutor(lanes) as pool:
+    library, every = compiled("refuse_call", probe.folder), probe.options.every
+    with concurrent.futures.ThreadPoolExecutor(os.cpu_count() or 1) as pool:
         for later in (False, True):
             call, refused, same, is_over = 1, 0, 0, False
             while not is_over:
@@ -391,25 +350,6 @@ def try_memory(probe, every):
             print(f"thaw, {ways}: {refused} calls refused, {same} of them without any change", flush=True)
 
 
-def main():
-    parser = argparse.ArgumentParser(description=__doc__, formatter_class=argparse.RawDescriptionHelpFormatter)
-    parser.add_argument("--program", default=str(ROOT / "crates/store_probe/out/store_probe"))
-    parser.add_argument("--every", type=int, default=1, metavar="N")
-    parser.add_argument("--no-memory", action="store_true")
-    options = parser.parse_args()
-    if not pathlib.Path(options.program).is_file():
-        parser.error(f"there is no program {options.program}: build it, or name one by --program")
-    with tempfile.TemporaryDirectory() as folder:
-        probe = Probe(str(pathlib.Path(options.program).resolve()), folder)
-        for part in (try_demo, try_rows, try_databases, try_no_databases, try_paths, try_words, try_demo_contests, try_disk):
-            before = probe.passed
-            part(probe)
-            print(f"{part.__name__[4:].replace('_', ' ')}: {probe.passed - before} held", flush=True)
-        if not options.no_memory:
-            try_memory(probe, options.every)
-        print(f"{probe.passed} passed, {probe.failed} failed")
-    return 1 if probe.failed else 0
-
-
 if __name__ == "__main__":
-    sys.exit(main())
+    PARTS = try_demo, try_rows, try_databases, try_no_databases, try_paths, try_words, try_demo_contests, try_disk, try_memory
+    sys.exit(program.main(__doc__, Probe, PARTS, program="probe", every=1, no_memory=False))

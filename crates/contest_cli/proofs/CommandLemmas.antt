@@ -3,15 +3,15 @@ use Rattle.std.proofs.Common.{◌≡◌, inl, inr, refl, ℕ, List}
 use Rattle.clap.specs.Walk.{Text}
 use Rattle.sqlite_trees.specs.declared.store.Store.{Ghosts}
 use Rattle.sqlite.specs.Held.{Held}
-use Rattle.contest_types.specs.Streams.{Stream, Tells}
+use Rattle.contest_streams.specs.Streams.{Stream, Tells}
 use Rattle.contest_types.specs.declared.refusal.Refusal.TheVariants.{Memory}
-use Rattle.contest_words.specs.CommandErrors.{exit_status_of, line_of}
+use Rattle.contest_cli_words.specs.CommandErrors.{exit_status_of, line_of}
 use Rattle.contest_cli.specs.Runs.{Runs}
-use Rattle.contest_words.specs.declared.command_error.CommandError.TheVariants.{Refused}
+use Rattle.contest_cli_words.specs.declared.command_error.CommandError.TheVariants.{Refused}
 use Rattle.contest_cli.specs.declared.invocation.CommandName.{CommandName}
 use Rattle.contest_cli.specs.declared.invocation.CommandName.TheVariants.{Replay, Init, Import, Board, Serve}
-use Rattle.contest_words.proofs.StreamLemmas.{keeps_same}
-use Rattle.contest_replay_cli.proofs.ReplayLemmas.{stopped}
+use Rattle.contest_cli_words.proofs.StreamLemmas.{keeps_same}
+use Rattle.contest_cli_replay.proofs.ReplayLemmas.{stopped}
 
 -- memory for its words was refused
 pub out_of_memory : {S : Type 0} (g : Ghosts S) (Found : Held S → Type 0) (All : (asked requests : ℕ) → (out_old out_new : Stream) → (old new : Held S) → Type 0) (command : CommandName) (words : List Text) (in_old in_new out err_old err_new : Stream) (status : ℕ)

@@ -4,16 +4,16 @@ use Rattle.std.specs.Io.KnownBytes.{Keeps}
 use Rattle.clap.specs.Walk.{Text}
 use Rattle.sqlite_trees.specs.declared.store.Store.{Ghosts}
 use Rattle.sqlite.specs.Held.{Held, state}
-use Rattle.contest_types.specs.Streams.{Stream}
-use Rattle.contest_tables.specs.Numbered.{IsNumbered}
-use Rattle.contest_commands.specs.Board.{Boards}
-use Rattle.contest_command_words.specs.declared.asked_board.AskedBoard.{AskedBoard}
-use Rattle.contest_words.specs.CommandErrors.{IsMemory, IsWords}
-use Rattle.contest_words.specs.declared.command_error.CommandError.{CommandError}
-use Rattle.contest_words.specs.declared.command_error.CommandError.TheVariants.{Clock}
-use Rattle.contest_command_words.specs.BoardWords.{HasBoardFault, NamesBoard}
+use Rattle.contest_streams.specs.Streams.{Stream}
+use Rattle.contest_store_tables.specs.Numbered.{IsNumbered}
+use Rattle.contest_cli_commands.specs.Board.{Boards}
+use Rattle.contest_cli_words.specs.declared.asked_board.AskedBoard.{AskedBoard}
+use Rattle.contest_cli_words.specs.CommandErrors.{IsMemory, IsWords}
+use Rattle.contest_cli_words.specs.declared.command_error.CommandError.{CommandError}
+use Rattle.contest_cli_words.specs.declared.command_error.CommandError.TheVariants.{Clock}
+use Rattle.contest_cli_words.specs.BoardWords.{HasBoardFault, NamesBoard}
 use Rattle.contest_cli.specs.FileCommands.{EndsEarly}
-use Rattle.contest_machine.specs.Unopened.{IsNoStore}
+use Rattle.contest_cli_machine.specs.Unopened.{IsNoStore}
 
 -- the words of `board` name a file, and ask for this board at this moment, or at that of the clock
 abbrev pub NamesAsked : List Text → AskedBoard → Option ℕ → Type 0

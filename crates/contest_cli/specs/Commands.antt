@@ -4,9 +4,9 @@ use Rattle.std.specs.Io.KnownBytes.{Keeps}
 use Rattle.std.specs.List.{list_any}
 use Rattle.std.specs.Str.{bytes_eq}
 use Rattle.clap.specs.Walk.{Text}
-use Rattle.contest_types.specs.Streams.{Stream}
-use Rattle.contest_words.specs.Endings.{TellsWords}
-use Rattle.contest_words.specs.Help.{is_help}
+use Rattle.contest_streams.specs.Streams.{Stream}
+use Rattle.contest_cli_words.specs.Endings.{TellsWords}
+use Rattle.contest_cli_words.specs.Help.{is_help}
 use Rattle.contest_cli.specs.declared.invocation.CommandName.{CommandName}
 use Rattle.contest_cli.specs.declared.invocation.CommandName.TheVariants.{Replay, Init, Import, Board, Serve}
 use Rattle.contest_cli.specs.declared.invocation.Invocation.{Invocation}

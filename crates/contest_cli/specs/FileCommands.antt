@@ -5,17 +5,17 @@ use Rattle.std.specs.Io.KnownBytes.{Keeps}
 use Rattle.clap.specs.Walk.{Text}
 use Rattle.sqlite_trees.specs.declared.store.Store.{Ghosts}
 use Rattle.sqlite.specs.Held.{Held, state}
-use Rattle.contest_types.specs.Streams.{Stream, Tells}
-use Rattle.contest_import.specs.declared.import_kind.ImportKind.{ImportKind}
-use Rattle.contest_machine.specs.Unopened.{IsUnopened}
-use Rattle.contest_tables.specs.Numbered.{IsNumbered}
-use Rattle.contest_commands.specs.Import.{Imports}
-use Rattle.contest_command_words.specs.ImportWords.{HasImportFault, NamesImport}
-use Rattle.contest_commands.specs.Init.{Inits}
-use Rattle.contest_command_words.specs.InitWords.{HasInitFault, NamesInit}
-use Rattle.contest_words.specs.CommandErrors.{IsMemory, IsWords, exit_status_of, line_of}
-use Rattle.contest_words.specs.declared.command_error.CommandError.{CommandError}
-use Rattle.contest_words.specs.declared.command_error.CommandError.TheVariants.{Clock}
+use Rattle.contest_streams.specs.Streams.{Stream, Tells}
+use Rattle.contest_types.specs.declared.import_kind.ImportKind.{ImportKind}
+use Rattle.contest_cli_machine.specs.Unopened.{IsUnopened}
+use Rattle.contest_store_tables.specs.Numbered.{IsNumbered}
+use Rattle.contest_cli_commands.specs.Import.{Imports}
+use Rattle.contest_cli_words.specs.ImportWords.{HasImportFault, NamesImport}
+use Rattle.contest_cli_commands.specs.Init.{Inits}
+use Rattle.contest_cli_words.specs.InitWords.{HasInitFault, NamesInit}
+use Rattle.contest_cli_words.specs.CommandErrors.{IsMemory, IsWords, exit_status_of, line_of}
+use Rattle.contest_cli_words.specs.declared.command_error.CommandError.{CommandError}
+use Rattle.contest_cli_words.specs.declared.command_error.CommandError.TheVariants.{Clock}
 
 -- the words of `init` name files
 abbrev pub NamesFiles : List Text → Type 0

@@ -4,11 +4,11 @@ use Rattle.std.specs.Io.KnownBytes.{Keeps}
 use Rattle.clap.specs.Walk.{Text}
 use Rattle.sqlite_trees.specs.declared.store.Store.{Ghosts}
 use Rattle.sqlite.specs.Held.{Held}
-use Rattle.contest_types.specs.Streams.{Stream}
+use Rattle.contest_streams.specs.Streams.{Stream}
 use Rattle.contest_cli.specs.BoardCommand.{BoardsByWords}
 use Rattle.contest_cli.specs.FileCommands.{ImportsByWords, InitsByWords}
 use Rattle.contest_cli.specs.ServeCommand.{ServesByWords}
-use Rattle.contest_replay_cli.specs.Replay.{Replays}
+use Rattle.contest_cli_replay.specs.Replay.{Replays}
 use Rattle.contest_cli.specs.declared.invocation.CommandName.{CommandName}
 use Rattle.contest_cli.specs.declared.invocation.CommandName.TheVariants.{Replay, Init, Import, Board, Serve}
 

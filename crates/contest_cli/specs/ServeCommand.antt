@@ -4,15 +4,15 @@ use Rattle.std.specs.Io.KnownBytes.{Keeps}
 use Rattle.clap.specs.Walk.{Text}
 use Rattle.sqlite_trees.specs.declared.store.Store.{Ghosts}
 use Rattle.sqlite.specs.Held.{Held, state}
-use Rattle.contest_types.specs.Streams.{Stream}
-use Rattle.contest_tables.specs.Numbered.{IsNumbered}
-use Rattle.contest_commands.specs.Serve.{Serves}
-use Rattle.contest_words.specs.CommandErrors.{IsMemory, IsWords}
-use Rattle.contest_words.specs.declared.command_error.CommandError.{CommandError}
-use Rattle.contest_words.specs.declared.command_error.CommandError.TheVariants.{Clock}
+use Rattle.contest_streams.specs.Streams.{Stream}
+use Rattle.contest_store_tables.specs.Numbered.{IsNumbered}
+use Rattle.contest_cli_commands.specs.Serve.{Serves}
+use Rattle.contest_cli_words.specs.CommandErrors.{IsMemory, IsWords}
+use Rattle.contest_cli_words.specs.declared.command_error.CommandError.{CommandError}
+use Rattle.contest_cli_words.specs.declared.command_error.CommandError.TheVariants.{Clock}
 use Rattle.contest_cli.specs.FileCommands.{EndsEarly}
-use Rattle.contest_machine.specs.Unopened.{IsNoStore}
-use Rattle.contest_command_words.specs.ServeWords.{HasServeFault, NamesServe}
+use Rattle.contest_cli_machine.specs.Unopened.{IsNoStore}
+use Rattle.contest_cli_words.specs.ServeWords.{HasServeFault, NamesServe}
 
 -- the words of `serve` name a file, so many requests and this port
 abbrev pub NamesServed : List Text → (requests port : ℕ) → Type 0

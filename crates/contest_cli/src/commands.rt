@@ -1,21 +1,21 @@
 //! The program's commands, run by the words of its command line.
 ghost use Rattle.std.specs.Prelude.{◌≡◌, ◌≤◌, codes, map, string_bytes, IfErr, IfOk};
 ghost use Rattle.sqlite.specs.Files.{over_files};
-ghost use Rattle.contest_types.specs.Streams.{stream};
-ghost use Rattle.contest_words.specs.Endings.{ShowsSome, TellsWords};
+ghost use Rattle.contest_streams.specs.Streams.{stream};
+ghost use Rattle.contest_cli_words.specs.Endings.{ShowsSome, TellsWords};
 ghost use Rattle.contest_cli.specs.Commands.{AsksHelp, NamesNone, TellsNone, TellsUnknown, first_word, invocation_of, unknown_command};
 ghost use Rattle.contest_cli.specs.Runs.{Runs};
-ghost use Rattle.contest_commands.specs.Serve.{ServesOn};
+ghost use Rattle.contest_cli_commands.specs.Serve.{ServesOn};
 ghost use Rattle.contest_cli.specs.declared.invocation.CommandName.{CommandName};
 
 use crate::file_commands::{board_by_words, import_by_words, init_by_words, serve_by_words};
 use crate::help::{HELP, show_help_of};
 use crate::invocation::{CommandName, Invocation, invocation_of};
-use contest_machine::{Host, HostListener, HostNetwork, Listen, Machine, Network};
-use contest_replay_cli::replay;
+use contest_cli_machine::{Host, HostListener, HostNetwork, Listen, Machine, Network};
+use contest_cli_replay::replay;
+use contest_cli_words::{CommandError, borrowed, refuse_arguments, show, tell};
+use contest_streams::Counted;
 use contest_types::Refusal;
-use contest_types::streams::Counted;
-use contest_words::{CommandError, borrowed, refuse_arguments, show, tell};
 use sqlite::{Start, Unknown};
 use std::alloc::{AllocError, Global};
 use std::env::Args;
@@ -121,7 +121,7 @@ pub fn run<M: Machine, R: Read, O: Write, E: Write>(
             tell(HELP.as_bytes(), err);
             2
         }
-        Invocation::Help => show(HELP, out, err),
+        Invocation::Help => show(HELP.as_bytes(), out, err),
         Invocation::To(command) => run_command(alloc, machine, command, words, reader, out, err),
         Invocation::HelpOf(command) => show_help_of(alloc, command, out, err),
         Invocation::Unknown => refuse_command(alloc, first_of(words), err),

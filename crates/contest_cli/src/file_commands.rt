@@ -4,22 +4,21 @@
 //! did stands whether or not that succeeds.
 ghost use Rattle.std.specs.Prelude.{◌≡◌, ◌≤◌, IfOk, IfErr, map};
 ghost use Rattle.sqlite.specs.Held.{state};
-ghost use Rattle.contest_types.specs.Streams.{stream};
-ghost use Rattle.contest_tables.specs.Numbered.{IsNumbered};
+ghost use Rattle.contest_streams.specs.Streams.{stream};
+ghost use Rattle.contest_store_tables.specs.Numbered.{IsNumbered};
 ghost use Rattle.contest_cli.specs.BoardCommand.{BoardsByWords, IsAsked, StopsBoardEarly};
 ghost use Rattle.contest_cli.specs.FileCommands.{ImportsByWords, InitsByWords, NamesFiles, NamesKind, StopsImportEarly, StopsInitEarly};
-ghost use Rattle.contest_commands.specs.Serve.{ServesOn};
+ghost use Rattle.contest_cli_commands.specs.Serve.{ServesOn};
 ghost use Rattle.contest_cli.specs.ServeCommand.{NamesServed, ServesByWords, StopsServeEarly};
 
-use contest_command_words::{
-    AskedBoard, read_board_words, read_import_words, read_init_words, read_serve_words,
+use contest_cli_commands::{run_board, run_import, run_init, run_serve};
+use contest_cli_machine::{Machine, Opened, ServedFile};
+use contest_cli_words::{
+    AskedBoard, CommandError, read_board_words, read_import_words, read_init_words,
+    read_serve_words,
 };
-use contest_commands::{run_board, run_import, run_init, run_serve};
-use contest_import::ImportKind;
-use contest_machine::{Machine, Opened, ServedFile};
-use contest_types::Moment;
-use contest_types::streams::Counted;
-use contest_words::CommandError;
+use contest_streams::Counted;
+use contest_types::{ImportKind, Moment};
 use sqlite::Connection;
 use std::alloc::Global;
 use std::io::Write;

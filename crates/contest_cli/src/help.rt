@@ -1,14 +1,13 @@
 //! The help of the program and of its commands.
-ghost use Rattle.contest_types.specs.Streams.{stream};
-ghost use Rattle.contest_words.specs.Endings.{ShowsSome};
+ghost use Rattle.contest_streams.specs.Streams.{stream};
+ghost use Rattle.contest_cli_words.specs.Endings.{ShowsSome};
 
 use crate::invocation::CommandName;
 use clap::Command;
-use contest_command_words::{board_app, import_app, init_app, serve_app};
-use contest_replay_cli::replay_app;
+use contest_cli_replay::replay_app;
+use contest_cli_words::{CommandError, board_app, import_app, init_app, serve_app, show_help};
+use contest_streams::Counted;
 use contest_types::Refusal;
-use contest_types::streams::Counted;
-use contest_words::{CommandError, show_help};
 use std::alloc::{AllocError, Global};
 use std::io::Write;
 

@@ -2,7 +2,7 @@
 ghost use Rattle.std.specs.Prelude.{◌≡◌, map};
 ghost use Rattle.contest_cli.specs.Commands.{asked_of, command_named, invocation_of};
 
-use contest_words::{asks_help, is_help};
+use contest_cli_words::{asks_help, is_help};
 
 /// A command of the program.
 #[derive(Clone, Copy, PartialEq, Eq)]

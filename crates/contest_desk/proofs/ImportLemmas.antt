@@ -1,5 +1,5 @@
 -- What an import adds, and that it never fails of itself.
-use Rattle.std.proofs.Common.{◌≡◌, ◌∙◌, ℕ, Bool, true, false, List, [], ◌∷◌, length, Option, Some, None, Result, Ok, Err, refl, sym, ap, subst, inl, inr}
+use Rattle.std.proofs.Common.{◌≡◌, ◌∙◌, ℕ, Bool, true, false, List, [], ◌∷◌, length, Option, Some, None, Result, Ok, Err, refl, sym, ap, inl, inr}
 use Rattle.std.specs.Prelude.{◌&&◌, ◌||◌, nat_lt, if◌then◌else◌}
 use Rattle.std.proofs.lemmas.Bool.{false≢true}
 use Rattle.std.proofs.lemmas.List.{length-map}
@@ -14,14 +14,14 @@ use Rattle.contest_types.specs.declared.refusal.Cause.{Cause}
 use Rattle.contest_types.specs.declared.refusal.Refusal.{Refusal}
 use Rattle.contest_types.specs.declared.refusal.Refusal.TheVariants.{BodyTooLarge, SettingsClosed}
 use Rattle.contest_types.proofs.AddEntry.{adding_all}
-use Rattle.contest_store.specs.Lists.{loaded}
+use Rattle.contest_lists.specs.Lists.{loaded}
 use Rattle.contest_files.specs.JsonMembers.{items_in}
 use Rattle.contest_import.specs.CsvFiles.{account_names, account_record, team_names, team_record}
 use Rattle.contest_import.specs.Files.{csv_records, or_off_form, rows_in}
 use Rattle.contest_import.specs.RowAdditions.{Additions, after_records, none_yet, rows_of, rows_or_refusal}
 use Rattle.contest_import.specs.SettingsObjects.{object_row}
-use Rattle.contest_import.specs.declared.import_kind.ImportKind.{ImportKind}
-use Rattle.contest_import.specs.declared.import_kind.ImportKind.TheVariants as kind
+use Rattle.contest_types.specs.declared.import_kind.ImportKind.{ImportKind}
+use Rattle.contest_types.specs.declared.import_kind.ImportKind.TheVariants as kind
 use Rattle.contest_import.proofs.SoundRows.{rows_in_addable}
 use Rattle.contest_desk.specs.Imports.{are_closed, count_of, entries_of, import_step, imported, is_of_settings, unless_closed}
 use Rattle.contest_desk.specs.Items.{HasStoreError, has_failed}
@@ -43,19 +43,6 @@ imported_holds P x now k file large shut h =
       | true ↦ large
       | false ↦ closed_holds P (is_of_settings k && are_closed x now) (rows_in k x.fixed file) shut h
     ] in
-    go (nat_lt IMPORTED_FILE (length file))
-
--- where settings are closed, what holds of no rows and of every refusal holds of a file of settings
-none_holds : (P : Result (List Entry) Refusal → Type 0) (r : Result (List Entry) Refusal) → ((refusal : Refusal) → P (Err refusal)) → P (Ok []) → P (unless_closed true r)
-none_holds P (Err refusal) refused none = refused refusal
-none_holds P (Ok []) refused none = none
-none_holds P (Ok (row ∷ rows)) refused none = refused SettingsClosed
-
-pub imported_closed : (P : Result (List Entry) Refusal → Type 0) (x : ContestState) (now : ℕ) (k : ImportKind) (file : List ℕ)
-    → (is_of_settings k && are_closed x now) ≡ true → ((refusal : Refusal) → P (Err refusal)) → P (Ok []) → P (imported x now k file)
-imported_closed P x now k file closed refused none =
-    let all : P (unless_closed (is_of_settings k && are_closed x now) (rows_in k x.fixed file)) = subst (λ b. P (unless_closed b (rows_in k x.fixed file))) (sym closed) (none_holds P (rows_in k x.fixed file) refused none) in
-    let go : (b : Bool) → P (if b then Err BodyTooLarge else unless_closed (is_of_settings k && are_closed x now) (rows_in k x.fixed file)) = elim [ true ↦ refused BodyTooLarge | false ↦ all ] in
     go (nat_lt IMPORTED_FILE (length file))
 
 -- the same of the contest without its files

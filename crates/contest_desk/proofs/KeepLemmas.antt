@@ -3,7 +3,7 @@ use Rattle.std.proofs.Common.{◌≡◌, ◌∙◌, ℕ, Bool, true, List, [], �
 use Rattle.std.specs.Prelude.{IsTrue}
 use Rattle.contest_types.specs.Addable.{are_addable}
 use Rattle.contest_types.specs.State.{add_all}
-use Rattle.contest_types.specs.Streams.{one_more}
+use Rattle.contest_streams.specs.Streams.{one_more}
 use Rattle.contest_types.specs.declared.entry.Entry.{Entry}
 use Rattle.contest_store.specs.Keeping.{Kept, Leaves, Adds, Commits}
 use Rattle.contest_store.specs.declared.store_error.StoreError.{StoreError}

@@ -1,12 +1,12 @@
 pub mod ServingLemmas
-pub mod MemoryLemmas
+pub mod DoingLemmas
 pub mod KeepLemmas
 pub mod UnseenLemmas
 pub mod QuietSteps
 mod ExamplesUnseen
 pub mod FaultLemmas
 pub mod ImportLemmas
-pub mod ImportedAccounts
+pub mod ImportedAgain
 pub mod ItemLemmas
 pub mod RunLemmas
 pub mod SettingsAlike

@@ -15,14 +15,16 @@ use Rattle.contest_types.specs.State.{FixedPart, ContestState, submissions_of, r
 use Rattle.contest_types.specs.Valid.{is_valid}
 use Rattle.contest_types.specs.ValidSubmissions.{is_valid_submission}
 use Rattle.contest_types.specs.declared.entry.Entry.{Entry}
-use Rattle.contest_types.specs.declared.entry.Entry.TheVariants.{NewRelease, NewSubmission, NewType, NewLanguage, NewProblem, NewGroup, NewTeam, NewAccount}
+use Rattle.contest_types.specs.declared.entry.Entry.TheVariants.{NewClarification, NewRelease, NewSubmission, NewType, NewLanguage, NewProblem, NewGroup, NewTeam, NewAccount}
 use Rattle.contest_types.specs.declared.audience.Audience.{Audience}
 use Rattle.contest_types.specs.declared.submission.Release.{Release}
 use Rattle.contest_types.specs.declared.submission.Submission.{Submission}
 use Rattle.contest_types.proofs.AddEntry.{adding}
 use Rattle.contest_types.proofs.PlaceLemmas.{and_left, and_right}
 use Rattle.contest_types.proofs.SightLemmas.{map-filter_same}
-use Rattle.contest_desk.specs.Moves.{ReleasesLike, ShowTheSame, ShowsLike, AreSame, InFirst, InSecond, InBoth, first_entries, second_entries, MovesStayAlike}
+use Rattle.contest_desk.specs.Moves.{ReleasesLike, ShowTheSame, ShowsLike, TellsLike, AreSame, InFirst, InSecond, InBoth, first_entries, second_entries, MovesStayAlike}
+use Rattle.contest_types.specs.declared.clarification.Clarification.{Clarification}
+use Rattle.contest_operations.proofs.SaidAlike.{said_alike}
 use Rattle.contest_operations.proofs.AddedAlike.{own_more, unjudged, other_stays}
 use Rattle.contest_desk.proofs.SettingsAlike.{type_alike, language_alike, problem_alike, group_alike, team_alike, account_alike}
 use Rattle.contest_desk.proofs.UnseenLemmas.{alike_onward, unseen_entry}
@@ -172,6 +174,10 @@ like_release : (a : Audience) (x y : ContestState) (v : Release) (f : Entry) →
 like_release a x y v (NewRelease u) h same = subst (λ w. Alike a (add x (NewRelease v)) (add y (NewRelease w))) same (paired_release a x y v h)
 like_release a x y v _ h same = absurd same
 
+like_clarification : (a : Audience) (x y : ContestState) (c : Clarification) (f : Entry) → Alike a x y → TellsLike a x c f → Alike a (add x (NewClarification c)) (add y f)
+like_clarification a x y c (NewClarification d) h same = said_alike a x y c d h same.addressee same.told
+like_clarification a x y c _ h same = absurd same
+
 -- an equal row in both
 like_row : (a : Audience) (x y : ContestState) (e f : Entry) → Alike a (add x e) (add y e) → f ≡ e → Alike a (add x e) (add y f)
 like_row a x y e f h same = subst (λ g. Alike a (add x e) (add y g)) (sym same) h
@@ -180,6 +186,7 @@ like_row a x y e f h same = subst (λ g. Alike a (add x e) (add y g)) (sym same)
 same_alike : (a : Audience) (x y : ContestState) (e f : Entry) → is_valid x ≡ true → is_valid y ≡ true → Alike a x y → is_addable x e ≡ true → is_addable y f ≡ true → AreSame a x e f → Alike a (add x e) (add y f)
 same_alike a x y (NewSubmission s) f valid_x valid_y h can can_too same = shown_alike a x y s f valid_x valid_y h can can_too same
 same_alike a x y (NewRelease v) f valid_x valid_y h can can_too same = like_release a x y v f h same
+same_alike a x y (NewClarification c) f valid_x valid_y h can can_too same = like_clarification a x y c f h same
 same_alike a x y (NewType t) f valid_x valid_y h can can_too same = like_row a x y (NewType t) f (type_alike a x y t h) same
 same_alike a x y (NewLanguage l) f valid_x valid_y h can can_too same = like_row a x y (NewLanguage l) f (language_alike a x y l h) same
 same_alike a x y (NewProblem p) f valid_x valid_y h can can_too same = like_row a x y (NewProblem p) f (problem_alike a x y p h) same

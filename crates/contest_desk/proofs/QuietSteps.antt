@@ -21,10 +21,10 @@ use Rattle.contest_operations.specs.declared.operation.Operation.{Operation}
 use Rattle.contest_operations.specs.declared.operation.Operation.TheVariants.{Read as ToRead, Do as ToDo}
 use Rattle.contest_operations.specs.declared.operation.Reading.{Reading}
 use Rattle.contest_operations.specs.declared.reply.Reply.{Reply}
-use Rattle.contest_operations.specs.declared.request.Credential.{Credential}
-use Rattle.contest_operations.specs.declared.request.Method.{Method}
-use Rattle.contest_operations.specs.declared.request.Method.TheVariants.{Get, Head, Post, Patch, Other}
-use Rattle.contest_operations.specs.declared.request.Request.{Request}
+use Rattle.contest_requests.specs.declared.request.Credential.{Credential}
+use Rattle.contest_requests.specs.declared.request.Method.{Method}
+use Rattle.contest_requests.specs.declared.request.Method.TheVariants.{Get, Head, Post, Patch, Other}
+use Rattle.contest_requests.specs.declared.request.Request.{Request}
 use Rattle.contest_operations.proofs.CommandLemmas.{post_quiet}
 use Rattle.contest_operations.proofs.PostedFacts.{IsQuiet}
 use Rattle.contest_desk.proofs.UnseenLemmas.{unseen_entries}

@@ -4,9 +4,10 @@ use Rattle.std.specs.Prelude.{◌⊎◌, Bool, true, false, IsTrue, IsFalse, Opt
 use Rattle.std.proofs.lemmas.List.{append_assoc}
 use Rattle.std.proofs.lemmas.List.Elements.{All-pop}
 use Rattle.contest_types.specs.State.{ContestState}
-use Rattle.contest_types.specs.Streams.{one_more}
+use Rattle.contest_streams.specs.Streams.{one_more}
 use Rattle.contest_store.specs.Keeping.{Kept, LeavesNoMore, LeavesOnly, LeavesOr}
-use Rattle.contest_desk.specs.Items.{IsStoreAnswer, item_step}
+use Rattle.contest_desk.specs.Doing.{DoesOrFails}
+use Rattle.contest_desk.specs.Items.{IsFaultAnswer, IsStoreAnswer, item_entries, item_step}
 use Rattle.contest_desk.specs.Runs.{IsServed, IsRun, LeavesAfter, RunsTo, CountsAnswer, CountsAnswers}
 use Rattle.contest_desk.specs.declared.item.Answer.{Answer}
 use Rattle.contest_desk.specs.declared.item.Item.{Item}
@@ -67,16 +68,11 @@ after_failure old new x y same z is crash shut d left =
     ] in
     go old.is_open refl
 
--- what one call of the desk says, for an item that is handled
+-- an item is answered as the machine's step does, or it failed
 pub record Handles (old new : Kept) (item : Item) (answer : Answer) : Type 0 where
-  pub opens : IsStoreAnswer answer ⊎ (IsTrue new.is_open × (IsStoreAnswer answer → ⊥))
+  pub clean : new.is_clean
   pub answers : (IsStoreAnswer answer → ⊥) → answer ≡ (item_step old.contest item).0
-  pub becomes : (IsStoreAnswer answer → ⊥) → new.contest ≡ (item_step old.contest item).1
-  pub stays : IsTrue new.is_open → IsStoreAnswer answer → new.contest ≡ old.contest
-  pub up : IsTrue new.is_open → IsTrue old.is_open
-  pub kept : (IsStoreAnswer answer → ⊥) → LeavesOnly new.may_leave (item_step old.contest item).1
-  pub crash : LeavesOr old.may_leave new.may_leave (item_step old.contest item).1
-  pub shut : IsFalse old.is_open → LeavesNoMore old.may_leave new.may_leave
+  pub leaves : DoesOrFails old new (item_step old.contest item).1 (item_entries old.contest item) (IsStoreAnswer answer) (IsFaultAnswer answer)
 
 pub handled : (first old new : Kept) (items rest left : List Item) (answers replied : List Answer) (item : Item) (answer : Answer) → rest ≡ item ∷ left → replied ≡ answers ++ answer ∷ []
     → Handles old new item answer → GoesOn first old items rest answers → GoesOn first new items left replied
@@ -84,15 +80,15 @@ handled first old new items rest left answers replied item answer one more h g =
     let next : ContestState → ContestState = λ x. (item_step x item).1 in
     let failed : IsStoreAnswer answer → GoesOn first new items left replied = λ fails.
     go_on first old new items rest left answers replied item answer g.here one more g (inr (fails, refl))
-    (λ rs c l. inr (fails, wider new.may_leave (λ d. old.may_leave d ⊎ (d ≡ Some (next g.here))) (after_failure old new g.here (next g.here) g.same next refl h.crash h.shut) g.here left rs c l))
-    (λ opened. h.stays opened fails ∙ g.same (h.up opened)) in
+    (λ rs c l. inr (fails, wider new.may_leave (λ d. old.may_leave d ⊎ (d ≡ Some (next g.here))) (after_failure old new g.here (next g.here) g.same next refl (h.leaves.crash h.clean) (h.leaves.shut h.clean)) g.here left rs c l))
+    (λ opened. h.leaves.unchanged h.clean opened fails ∙ g.same (h.leaves.up h.clean opened)) in
     let answered : IsTrue new.is_open → (IsStoreAnswer answer → ⊥) → GoesOn first new items left replied = λ opened well.
-    (let is : old.contest ≡ g.here = g.same (h.up opened) in
+    (let is : old.contest ≡ g.here = g.same (h.leaves.up h.clean opened) in
     let served : IsServed g.here item answer (next g.here) = inl (h.answers well ∙ ap (λ x. (item_step x item).0) is, refl) in
     go_on first old new items rest left answers replied item answer (next g.here) one more g served
-    (λ rs c l. inl (well, wider new.may_leave (λ d. d ≡ Some (next g.here)) (λ d left_now. (h.kept well).1 d left_now ∙ ap (λ x. Some (next x)) is) (next g.here) left rs c l))
-    (λ o. h.becomes well ∙ ap next is)) in
-    elim h.opens [ inl fails ↦ failed fails | inr (opened, well) ↦ answered opened well ]
+    (λ rs c l. inl (well, wider new.may_leave (λ d. d ≡ Some (next g.here)) (λ d left_now. (h.leaves.kept h.clean well).1 d left_now ∙ ap (λ x. Some (next x)) is) (next g.here) left rs c l))
+    (λ o. h.leaves.contest h.clean well ∙ ap next is)) in
+    elim (h.leaves.opens h.clean) [ inl fails ↦ failed fails | inr (opened, well) ↦ answered opened well ]
 
 pub ends : (first now : Kept) (items rest : List Item) (answers : List Answer) → length rest ≡ 0 → GoesOn first now items rest answers → RunsTo first now items answers
 ends first now items rest answers none g =
@@ -107,7 +103,7 @@ leaves_at_end first now items rest answers none g c left =
 pub open_after : (old new : Kept) (item : Item) (answers replied : List Answer) (answer : Answer) → replied ≡ answers ++ answer ∷ [] → Handles old new item answer → All (λ r. IsStoreAnswer r → ⊥) replied → IsTrue new.is_open
 open_after old new item answers replied answer more h all =
     let last = (All-pop (λ r. IsStoreAnswer r → ⊥) replied answers (Some answer) more all).1 in
-    elim h.opens [ inl fails ↦ absurd (last fails) | inr (opened, well) ↦ opened ]
+    elim (h.leaves.opens h.clean) [ inl fails ↦ absurd (last fails) | inr (opened, well) ↦ opened ]
 
 -- one more answer is counted
 pub counts_more : (answers : List Answer) (answer : Answer) (old mid new : ℕ) → CountsAnswers answers old mid → CountsAnswer answer mid new → CountsAnswers (answers ++ answer ∷ []) old new

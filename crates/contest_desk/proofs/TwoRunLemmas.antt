@@ -19,7 +19,7 @@ use Rattle.contest_desk.specs.declared.item.Item.TheVariants as item
 use Rattle.contest_desk.specs.declared.item.RequestItem.{RequestItem}
 use Rattle.contest_operations.specs.declared.reply.Reply.{Reply}
 use Rattle.contest_desk.proofs.ItemLemmas.{failure_is, item_addable, item_adds, item_ordinary, item_unnoticed, items_keep_valid}
-use Rattle.contest_operations.proofs.LawLemmas.{steps_alike}
+use Rattle.contest_operations.proofs.LawLemmas.{step_alike}
 use Rattle.contest_desk.proofs.MovesAlike.{moves_stay_alike, turned}
 use Rattle.contest_desk.proofs.UnseenLemmas.{alike_onward}
 
@@ -85,7 +85,7 @@ runs_alike a x y (SecondAlone j q ∷ ts) last final other valid_x valid_y h run
     run_x (subst (λ z. IsRun z (second_items ts) (second_answers ts) final) (mid_is y j q mid served) rest) more
 runs_alike a x y (Mine i r q ∷ ts) last final other valid_x valid_y h (mid_x, served_x, rest_x) (mid_y, served_y, rest_y) (mine, more) =
     let held : MayBeHeld a i.now x = record { no_jury = other; held = mine.held } in
-    let alike = steps_alike a i.now i.credential i.request x y valid_x valid_y mine.sight held h in
+    let alike = step_alike a i.now i.credential i.request x y valid_x valid_y mine.sight held h in
     let same : r ≡ q = reply_is x i r mid_x served_x mine.answered ∙ (alike.0 ∙ sym (reply_is y i q mid_y served_y mine.answered_too)) in
     let after : Alike a (after_answer x (item.Request i) (answer.Reply r)) (after_answer y (item.Request i) (answer.Reply q)) =
     subst (λ z. Alike a z (after_answer y (item.Request i) (answer.Reply q))) (sym (after_answered x (item.Request i) (answer.Reply r) mine.answered)) (subst (λ z. Alike a (step x i.now i.credential i.request).1 z) (sym (after_answered y (item.Request i) (answer.Reply q) mine.answered_too)) alike.1) in

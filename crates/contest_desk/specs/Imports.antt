@@ -7,8 +7,8 @@ use Rattle.contest_types.specs.declared.limits.TheConstants.{IMPORTED_FILE}
 use Rattle.contest_types.specs.declared.refusal.Refusal.{Refusal}
 use Rattle.contest_types.specs.declared.refusal.Refusal.TheVariants.{BodyTooLarge, SettingsClosed}
 use Rattle.contest_import.specs.Files.{rows_in}
-use Rattle.contest_import.specs.declared.import_kind.ImportKind.{ImportKind}
-use Rattle.contest_import.specs.declared.import_kind.ImportKind.TheVariants as kind
+use Rattle.contest_types.specs.declared.import_kind.ImportKind.{ImportKind}
+use Rattle.contest_types.specs.declared.import_kind.ImportKind.TheVariants as kind
 
 -- accounts may be imported at any time, all else is settings
 abbrev pub is_of_settings : ImportKind → Bool

@@ -4,6 +4,7 @@ pub mod UnseenLaws
 pub mod Laws
 pub mod Imports
 pub mod Items
+pub mod Doing
 pub mod Runs
 pub mod Moves
 pub mod TwoRuns

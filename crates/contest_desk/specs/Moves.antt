@@ -1,14 +1,15 @@
 -- What others add to two contests that are alike for an audience (own).
 use Rattle.std.specs.Prelude.{◌≡◌, true, false, List, [], ◌∷◌}
 use Rattle.contest_types.specs.Addable.{are_addable}
-use Rattle.contest_types.specs.Alike.{Alike}
+use Rattle.contest_types.specs.Alike.{Alike, open_clarification}
 use Rattle.contest_types.specs.Masks.{owns}
 use Rattle.contest_types.specs.TeamPlaces.{is_public}
 use Rattle.contest_types.specs.State.{ContestState, add, add_all}
 use Rattle.contest_types.specs.Valid.{is_valid}
 use Rattle.contest_types.specs.declared.entry.Entry.{Entry}
-use Rattle.contest_types.specs.declared.entry.Entry.TheVariants.{NewRelease, NewSubmission, NewType, NewLanguage, NewProblem, NewGroup, NewTeam, NewAccount}
+use Rattle.contest_types.specs.declared.entry.Entry.TheVariants.{NewClarification, NewRelease, NewSubmission, NewType, NewLanguage, NewProblem, NewGroup, NewTeam, NewAccount}
 use Rattle.contest_types.specs.declared.audience.Audience.{Audience}
+use Rattle.contest_types.specs.declared.clarification.Clarification.{Clarification}
 use Rattle.contest_types.specs.declared.submission.Release.{Release}
 use Rattle.contest_types.specs.declared.submission.Submission.{Submission}
 use Rattle.contest_desk.specs.Unseen.{IsUnseen}
@@ -33,11 +34,22 @@ abbrev pub ReleasesLike : Release → Entry → Type 0
 ReleasesLike v (NewRelease u) = v ≡ u
 ReleasesLike v _ = ⊥
 
+-- clarifications of one addressee that tell whoever hears them the same: whoever of the jury wrote them and under whatever
+-- key, and whatever they answer that the audience doesn't hear
+pub record TellTheSame (a : Audience) (x : ContestState) (c d : Clarification) : Type 0 where
+  pub addressee : c.addressee ≡ d.addressee
+  pub told : open_clarification a x.fixed.settings c ≡ open_clarification a x.fixed.settings d
+
+abbrev pub TellsLike : Audience → ContestState → Clarification → Entry → Type 0
+TellsLike a x c (NewClarification d) = TellTheSame a x c d
+TellsLike a x c _ = ⊥
+
 -- two entries that show an audience the same: of the settings and the accounts, which the promise takes as equal,
 -- the same row. Nothing adds other entries that are seen yet
 abbrev pub AreSame : Audience → ContestState → Entry → Entry → Type 0
 AreSame a x (NewSubmission s) f = ShowsLike a x s f
 AreSame a x (NewRelease v) f = ReleasesLike v f
+AreSame a x (NewClarification c) f = TellsLike a x c f
 AreSame a x (NewType t) f = f ≡ NewType t
 AreSame a x (NewLanguage l) f = f ≡ NewLanguage l
 AreSame a x (NewProblem p) f = f ≡ NewProblem p

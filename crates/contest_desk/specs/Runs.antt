@@ -1,7 +1,7 @@
 -- Requests and imports one after another (own).
 use Rattle.std.specs.Prelude.{◌≡◌, ◌⊎◌, ℕ, IsTrue, List, [], ◌∷◌, Option, Some}
 use Rattle.contest_types.specs.State.{ContestState}
-use Rattle.contest_types.specs.Streams.{one_more}
+use Rattle.contest_streams.specs.Streams.{one_more}
 use Rattle.contest_store.specs.Keeping.{Kept}
 use Rattle.contest_desk.specs.Items.{IsFaultAnswer, IsStoreAnswer, item_step}
 use Rattle.contest_desk.specs.declared.item.Answer.{Answer}

@@ -1,7 +1,7 @@
 -- What serving a request or an import asks of a kept contest, and what it leaves of it, whoever keeps it (own).
 use Rattle.std.specs.Prelude.{◌≡◌, ℕ, true, List, [], ◌∷◌, Some, IsTrue, Result, Ok, Err}
 use Rattle.contest_types.specs.State.{ContestState, add_all}
-use Rattle.contest_types.specs.Streams.{one_more}
+use Rattle.contest_streams.specs.Streams.{one_more}
 use Rattle.contest_types.specs.Valid.{is_valid}
 use Rattle.contest_types.specs.declared.entry.Entry.{Entry}
 use Rattle.contest_types.specs.declared.refusal.Refusal.{Refusal}
@@ -9,7 +9,6 @@ use Rattle.contest_store.specs.Keeping.{Kept, Leaves}
 use Rattle.contest_store.specs.StoreErrors.{refusal_of}
 use Rattle.contest_store.specs.declared.store_error.StoreError.{StoreError}
 use Rattle.contest_operations.specs.declared.outcome.Outcome.{Outcome}
-use Rattle.contest_operations.specs.Replies.{refused}
 
 -- while the store is open and read right, no change stands that isn't committed, and the contest is valid
 abbrev pub IsSettled : Kept → Type 0

@@ -6,7 +6,7 @@ use Rattle.contest_types.specs.Alike.{Alike}
 use Rattle.contest_types.specs.declared.entry.Entry.{Entry}
 use Rattle.contest_types.specs.declared.audience.Audience.{Audience}
 use Rattle.contest_types.specs.declared.refusal.Refusal.{Refusal}
-use Rattle.contest_import.specs.declared.import_kind.ImportKind.{ImportKind}
+use Rattle.contest_types.specs.declared.import_kind.ImportKind.{ImportKind}
 use Rattle.contest_desk.specs.Imports.{entries_of, import_step, imported}
 use Rattle.contest_desk.specs.Items.{item_entries}
 use Rattle.contest_operations.specs.Offers.{is_read}
@@ -14,8 +14,8 @@ use Rattle.contest_operations.specs.Step.{outcome, step}
 use Rattle.contest_desk.specs.Unseen.{IsUnseen, AreUnseen}
 use Rattle.contest_desk.specs.declared.item.Item.{Item}
 use Rattle.contest_desk.specs.declared.item.Item.TheVariants as item
-use Rattle.contest_operations.specs.declared.request.Credential.{Credential}
-use Rattle.contest_operations.specs.declared.request.Request.{Request}
+use Rattle.contest_requests.specs.declared.request.Credential.{Credential}
+use Rattle.contest_requests.specs.declared.request.Request.{Request}
 
 -- one entry that can't be noticed leaves the contest alike
 abbrev pub UnseenEntry : Type 0

@@ -2,15 +2,15 @@
 ghost use Rattle.std.specs.Prelude.{◌≡◌, Err, IfOk, Option, Result, Some, None};
 ghost use Rattle.contest_score.specs.Ranking.{Scoreboard};
 ghost use Rattle.contest_store.specs.declared.store_error.StoreError.{StoreError as TheStoreError};
-ghost use Rattle.contest_boards.specs.Scoreboards.{board_found};
+ghost use Rattle.contest_view.specs.Scoreboards.{board_found};
 ghost use Rattle.contest_desk.specs.Serving.{IsSettled, OnlyReads};
 ghost use Rattle.contest_desk.specs.Boards.{board_told};
 
 use crate::Desk;
-use contest_boards::board_found;
 use contest_score::Board;
 use contest_store::{ContestStore, StoreError};
 use contest_types::{Audience, Moment, Refusal};
+use contest_view::{Seen, board_found};
 use std::alloc::Global;
 
 // The board, if there is such an audience.
@@ -25,15 +25,12 @@ fn found<S: ContestStore>(
     ensures leaves { OnlyReads result (S.kept store.old) (S.kept store.new) }
 {
     store.load(alloc)?;
-    let lists = store.lists();
-    let found = board_found(
-        alloc,
-        lists.fixed(),
+    let seen = Seen {
+        lists: store.lists(),
         audience,
         now,
-        lists.submissions(),
-        lists.releases(),
-    )?;
+    };
+    let found = board_found(alloc, &seen)?;
     Ok(found)
 }
 

@@ -3,17 +3,17 @@ ghost use Rattle.std.specs.Prelude.{◌≡◌, ◌⊎◌, ◌≤◌, true, IfErr
 ghost use Rattle.contest_types.specs.Alike.{Alike, MayBeHeld};
 ghost use Rattle.contest_types.specs.State.{ContestState};
 ghost use Rattle.contest_types.specs.Valid.{is_valid};
-ghost use Rattle.contest_types.specs.Streams.{Failed, one_more};
+ghost use Rattle.contest_streams.specs.Streams.{Failed};
 ghost use Rattle.contest_types.specs.declared.audience.Audience.{Audience as TheAudience};
-ghost use Rattle.contest_store.specs.Keeping.{LeavesNoMore, LeavesOnly, LeavesOr};
-ghost use Rattle.contest_operations.specs.Replies.{refused};
+ghost use Rattle.contest_operations.specs.Replies.{refused, IsStoreReply};
 ghost use Rattle.contest_operations.specs.Laws.{HasSight};
-ghost use Rattle.contest_desk.specs.Serving.{IsSettled, commits_for};
-ghost use Rattle.contest_operations.specs.Replies.{IsStoreReply};
+ghost use Rattle.contest_desk.specs.Doing.{DoesOrFails};
+ghost use Rattle.contest_desk.specs.Serving.{IsSettled};
 ghost use Rattle.contest_operations.specs.Step.{may_take_memory, outcome, step};
 
 use crate::serve::serve;
-use contest_operations::{Credential, Offer, Reply, Request, routes};
+use contest_operations::{Offer, Reply, routes};
+use contest_requests::{Credential, Request};
 use contest_store::ContestStore;
 use contest_types::{Moment, Refusal};
 use matchit::Router;
@@ -88,24 +88,11 @@ impl<S: ContestStore> Desk<S> {
         request: Request,
     ) -> Reply
         ensures reply { (S.kept self.new).is_clean → ¬ IsStoreReply result → result ≡ (step (S.kept self.old).contest now credential request).0 }
-        ensures contest { (S.kept self.new).is_clean → ¬ IsStoreReply result → (S.kept self.new).contest ≡ (step (S.kept self.old).contest now credential request).1 }
-        ensures unchanged { (S.kept self.new).is_clean → IsTrue (S.kept self.new).is_open → IsStoreReply result → (S.kept self.new).contest ≡ (S.kept self.old).contest }
         ensures isolated { (S.kept self.new).is_clean → ¬ IsStoreReply result → (a : TheAudience) (y : ContestState) → HasSight (S.kept self.old).contest.fixed credential a
             → MayBeHeld a now (S.kept self.old).contest → is_valid y ≡ true → Alike a (S.kept self.old).contest y
             → (result ≡ (step y now credential request).0) × Alike a (S.kept self.new).contest (step y now credential request).1 }
-        ensures kept { (S.kept self.new).is_clean → ¬ IsStoreReply result → LeavesOnly (S.kept self.new).may_leave (step (S.kept self.old).contest now credential request).1 }
-        ensures settled { (S.kept self.new).is_clean → IsTrue (S.kept self.new).is_open → LeavesOnly (S.kept self.new).may_leave (S.kept self.new).contest }
-        ensures crash { (S.kept self.new).is_clean → LeavesOr (S.kept self.old).may_leave (S.kept self.new).may_leave (step (S.kept self.old).contest now credential request).1 }
-        ensures shut { (S.kept self.new).is_clean → IsFalse (S.kept self.old).is_open → LeavesNoMore (S.kept self.old).may_leave (S.kept self.new).may_leave }
-        ensures clean { (S.kept self.new).is_clean → (S.kept self.old).is_clean }
-        ensures up { (S.kept self.new).is_clean → IsTrue (S.kept self.new).is_open → IsTrue (S.kept self.old).is_open }
-        ensures shuts { (S.kept self.new).is_clean → IsTrue (S.kept self.old).is_open → IsTrue (S.kept self.new).is_open ⊎ Failed (S.kept self.old).troubles (S.kept self.new).troubles }
-        ensures troubles { (S.kept self.old).troubles ≤ (S.kept self.new).troubles }
-        ensures open { (S.kept self.new).is_clean → IsStoreReply result ⊎ (IsTrue (S.kept self.new).is_open × ¬ IsStoreReply result) }
-        ensures fault { result ≡ refused Refusal.StoreFault → (S.kept self.new).faults ≡ one_more (S.kept self.old).faults }
-        ensures no_fault { ¬ (result ≡ refused Refusal.StoreFault) → (S.kept self.new).faults ≡ (S.kept self.old).faults }
-        ensures commits { (S.kept self.new).is_clean → ¬ IsStoreReply result → (S.kept self.new).commits ≡ commits_for (outcome (S.kept self.old).contest now credential request).entries (S.kept self.old).commits }
-        ensures no_commit { (S.kept self.new).is_clean → IsStoreReply result → (S.kept self.new).commits ≡ (S.kept self.old).commits }
+        ensures leaves { DoesOrFails (S.kept self.old) (S.kept self.new) (step (S.kept self.old).contest now credential request).1
+            (outcome (S.kept self.old).contest now credential request).entries (IsStoreReply result) (result ≡ refused Refusal.StoreFault) }
         ensures memory { (S.kept self.new).is_clean → result ≡ refused Refusal.Memory
             → Failed (S.kept self.old).refusals (S.kept self.new).refusals ⊎ (may_take_memory (S.kept self.old).contest.fixed credential request ≡ true) }
     {

@@ -1,18 +1,16 @@
 //! One file imported, whoever keeps the contest: what it adds, and what is kept of that.
 ghost use Rattle.std.specs.Prelude.{◌≡◌, ◌⊎◌, ◌≤◌, true, IfOk, IsFalse, IsTrue};
 ghost use Rattle.contest_types.specs.Addable.{are_addable};
-ghost use Rattle.contest_types.specs.Streams.{Failed, one_more};
-ghost use Rattle.contest_store.specs.Keeping.{LeavesNoMore, LeavesOnly, LeavesOr};
+ghost use Rattle.contest_desk.specs.Doing.{DoesOrFails};
 ghost use Rattle.contest_desk.specs.Imports.{count_of, entries_of, import_step, imported};
 ghost use Rattle.contest_desk.specs.Items.{HasStoreError};
-ghost use Rattle.contest_desk.specs.Serving.{IsSettled, Keeps, commits_for};
+ghost use Rattle.contest_desk.specs.Serving.{IsSettled, Keeps};
 
 use crate::Desk;
 use crate::imported::imported;
 use crate::keep::keep;
-use contest_import::ImportKind;
 use contest_store::{ContestStore, StoreError};
-use contest_types::{Entry, Moment, Refusal, Rows};
+use contest_types::{Entry, ImportKind, Moment, Refusal, Rows};
 use std::alloc::Global;
 
 /// Imports one file: all of its rows or none, and how many these are.
@@ -80,21 +78,8 @@ impl<S: ContestStore> Desk<S> {
         file: &[u8],
     ) -> Result<u64, Refusal>
         ensures answer { (S.kept self.new).is_clean → ¬ HasStoreError result → result ≡ (import_step (S.kept self.old).contest now kind file.now).0 }
-        ensures contest { (S.kept self.new).is_clean → ¬ HasStoreError result → (S.kept self.new).contest ≡ (import_step (S.kept self.old).contest now kind file.now).1 }
-        ensures unchanged { (S.kept self.new).is_clean → IsTrue (S.kept self.new).is_open → HasStoreError result → (S.kept self.new).contest ≡ (S.kept self.old).contest }
-        ensures kept { (S.kept self.new).is_clean → ¬ HasStoreError result → LeavesOnly (S.kept self.new).may_leave (import_step (S.kept self.old).contest now kind file.now).1 }
-        ensures settled { (S.kept self.new).is_clean → IsTrue (S.kept self.new).is_open → LeavesOnly (S.kept self.new).may_leave (S.kept self.new).contest }
-        ensures crash { (S.kept self.new).is_clean → LeavesOr (S.kept self.old).may_leave (S.kept self.new).may_leave (import_step (S.kept self.old).contest now kind file.now).1 }
-        ensures shut { (S.kept self.new).is_clean → IsFalse (S.kept self.old).is_open → LeavesNoMore (S.kept self.old).may_leave (S.kept self.new).may_leave }
-        ensures clean { (S.kept self.new).is_clean → (S.kept self.old).is_clean }
-        ensures up { (S.kept self.new).is_clean → IsTrue (S.kept self.new).is_open → IsTrue (S.kept self.old).is_open }
-        ensures shuts { (S.kept self.new).is_clean → IsTrue (S.kept self.old).is_open → IsTrue (S.kept self.new).is_open ⊎ Failed (S.kept self.old).troubles (S.kept self.new).troubles }
-        ensures troubles { (S.kept self.old).troubles ≤ (S.kept self.new).troubles }
-        ensures open { (S.kept self.new).is_clean → HasStoreError result ⊎ (IsTrue (S.kept self.new).is_open × ¬ HasStoreError result) }
-        ensures fault { result ≡ Err Refusal.StoreFault → (S.kept self.new).faults ≡ one_more (S.kept self.old).faults }
-        ensures no_fault { ¬ (result ≡ Err Refusal.StoreFault) → (S.kept self.new).faults ≡ (S.kept self.old).faults }
-        ensures commits { (S.kept self.new).is_clean → ¬ HasStoreError result → (S.kept self.new).commits ≡ commits_for (entries_of (imported (S.kept self.old).contest now kind file.now)) (S.kept self.old).commits }
-        ensures no_commit { (S.kept self.new).is_clean → HasStoreError result → (S.kept self.new).commits ≡ (S.kept self.old).commits }
+        ensures leaves { DoesOrFails (S.kept self.old) (S.kept self.new) (import_step (S.kept self.old).contest now kind file.now).1
+            (entries_of (imported (S.kept self.old).contest now kind file.now)) (HasStoreError result) (result ≡ Err Refusal.StoreFault) }
     {
         match serve_import(alloc, &mut self.store, now, kind, file) {
             Ok(answer) => answer,

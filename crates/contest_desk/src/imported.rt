@@ -3,10 +3,10 @@ ghost use Rattle.std.specs.Prelude.{◌≡◌, IfOk, Ok, length, nat_lt};
 ghost use Rattle.contest_types.specs.Clock.{reached};
 ghost use Rattle.contest_desk.specs.Imports.{are_closed, imported, is_of_settings, unless_closed};
 
-use contest_import::{ImportKind, read_import};
-use contest_store::Lists;
+use contest_import::read_import;
+use contest_lists::Lists;
 use contest_types::limits::IMPORTED_FILE;
-use contest_types::{Entry, Moment, Refusal, Rows};
+use contest_types::{Entry, ImportKind, Moment, Refusal, Rows};
 use std::alloc::{AllocError, Global};
 
 /// The rows that a file adds at a moment, or why it is refused: its size first, then its form, then

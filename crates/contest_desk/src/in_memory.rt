@@ -12,7 +12,8 @@ ghost use Rattle.contest_operations.specs.Step.{step};
 ghost use Rattle.contest_desk.specs.TwoRuns.{Turn, AreAlikeTurns, first_items, first_answers, first_told, second_items, second_answers, second_told};
 
 use crate::{Answer, Desk, Item};
-use contest_operations::{Credential, Reply, Request};
+use contest_operations::Reply;
+use contest_requests::{Credential, Request};
 use contest_store::MemoryStore;
 use contest_types::Moment;
 use std::alloc::{AllocError, Global};

@@ -1,7 +1,7 @@
 //! What a desk is asked to do at a moment, and what it answers.
-use contest_import::ImportKind;
-use contest_operations::{Credential, Reply, Request};
-use contest_types::{Moment, Refusal, Rows};
+use contest_operations::Reply;
+use contest_requests::{Credential, Request};
+use contest_types::{ImportKind, Moment, Refusal, Rows};
 
 /// A request at its moment, with who asks.
 #[derive(Drop)]

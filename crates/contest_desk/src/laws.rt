@@ -1,9 +1,15 @@
-//! Laws of the desk's steps and imports: functions that do nothing, and whose contracts say what holds
-//! of every contest.
-ghost use Rattle.contest_desk.specs.Laws.{ImportsKeepValid, ImportsNeverFail};
+//! Laws of the desk: functions that do nothing, and whose contracts say what holds of every contest and
+//! every run. All of them stand here, by subject in the modules beside.
+ghost use Rattle.contest_desk.specs.Laws.{ImportedAgainAddsNothing, ImportsKeepValid, ImportsNeverFail};
 
+pub use crate::repeats::{posts_repeat_once, repeats_once, runs_grow};
+pub use crate::two_runs::{moves_stay_alike, runs_alike};
+pub use crate::unseen::{
+    read_step, refused_import, refused_step, unseen_entries, unseen_entry, unseen_import,
+    unseen_step,
+};
 pub use contest_operations::laws::{
-    head_is_get, posts_alike, reads_alike, steps_alike, steps_keep_valid, steps_never_fail,
+    head_is_get, posts_alike, reads_alike, step_alike, steps_keep_valid, steps_never_fail,
 };
 
 /// An import leaves a valid contest valid.
@@ -14,4 +20,9 @@ pub fn imports_keep_valid()
 /// No import answers that the store failed or that memory was refused.
 pub fn imports_never_fail()
     ensures { ImportsNeverFail }
+{}
+
+/// A file that was imported adds nothing when it is imported again, whenever that is.
+pub fn imported_again_adds_nothing()
+    ensures { ImportedAgainAddsNothing }
 {}

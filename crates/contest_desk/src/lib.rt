@@ -9,17 +9,18 @@ mod in_memory;
 mod item;
 mod keep;
 pub mod laws;
-pub mod repeats;
+mod repeats;
 mod run;
 mod serve;
 mod standing;
-pub mod two_runs;
-pub mod unseen;
+mod two_runs;
+mod unseen;
 
 pub use contest_operations::{
-    AllowedMethods, Command, ContentType, Credential, Endpoint, ExtraField, KeyField, Method,
-    Offer, Operation, Reading, Reply, ReplyBody, Request,
+    AllowedMethods, Command, ContentType, Endpoint, ExtraField, Offer, Operation, Reading, Reply,
+    ReplyBody,
 };
+pub use contest_requests::{Credential, KeyField, Method, Request};
 pub use desk::Desk;
 pub use in_memory::{handle_in_memory, run_two_in_memory};
 pub use item::{Answer, ImportItem, Item, RequestItem};

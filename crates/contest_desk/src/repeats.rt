@@ -1,15 +1,21 @@
 //! Laws of posts that are repeated: functions that do nothing, and whose contracts say what holds of every
 //! contest and every run.
-ghost use Rattle.contest_desk.specs.Repeats.{RepeatsOnce, RunsContinue};
+ghost use Rattle.contest_desk.specs.Repeats.{PostsRepeatOnce, RepeatsOnce, RunsGrow};
 
-/// Once a submission stands a run changes no settings and no marks, and puts each team's new submissions
-/// behind its old ones.
-pub fn runs_continue()
-    ensures { RunsContinue }
+/// Whatever is asked and imported, a contest grows: its rows stay, in front of new ones, and so does its
+/// start once it has some.
+pub fn runs_grow()
+    ensures { RunsGrow }
 {}
 
-/// Once a team's post under a key is taken, the same post gets the same reply and adds nothing, whatever is
-/// asked in between and however much later; something else under that key is refused (`KeyReused`).
+/// Once a post under a key is answered as done, the same post gets the same reply and adds nothing, whatever
+/// is asked in between and however much later; something else under that key is refused (`KeyReused`).
+pub fn posts_repeat_once()
+    ensures { PostsRepeatOnce }
+{}
+
+/// So it is with requests: whoever of the sender's accounts repeats one under its key gets the first reply,
+/// or `KeyReused`, and nothing changes.
 pub fn repeats_once()
     ensures { RepeatsOnce }
 {}

@@ -1,11 +1,10 @@
 //! Requests and imports, one after another.
 ghost use Rattle.std.specs.Prelude.{◌≡◌, ◌≤◌, ◌⊎◌, All, Option, IfOk, IsFalse, IsTrue, OnErr};
 ghost use Rattle.contest_types.specs.State.{ContestState};
-ghost use Rattle.contest_types.specs.Streams.{Failed};
-ghost use Rattle.contest_store.specs.Keeping.{LeavesNoMore, LeavesOnly, LeavesOr};
-ghost use Rattle.contest_desk.specs.Items.{IsStoreAnswer, item_entries, item_step};
-ghost use Rattle.contest_desk.specs.Runs.{CountsAnswer, CountsAnswers, LeavesAfter, RunsTo};
-ghost use Rattle.contest_desk.specs.Serving.{commits_for};
+ghost use Rattle.contest_streams.specs.Streams.{Failed};
+ghost use Rattle.contest_desk.specs.Doing.{DoesOrFails};
+ghost use Rattle.contest_desk.specs.Items.{IsFaultAnswer, IsStoreAnswer, item_entries, item_step};
+ghost use Rattle.contest_desk.specs.Runs.{CountsAnswers, LeavesAfter, RunsTo};
 
 use crate::{Answer, Desk, Item};
 use contest_store::ContestStore;
@@ -45,20 +44,8 @@ impl<S: ContestStore> Desk<S> {
     // Handles one request, or imports one file.
     fn perform(&mut self, alloc: Global, item: Item) -> Answer
         ensures answer { (S.kept self.new).is_clean → ¬ IsStoreAnswer result → result ≡ (item_step (S.kept self.old).contest item).0 }
-        ensures contest { (S.kept self.new).is_clean → ¬ IsStoreAnswer result → (S.kept self.new).contest ≡ (item_step (S.kept self.old).contest item).1 }
-        ensures unchanged { (S.kept self.new).is_clean → IsTrue (S.kept self.new).is_open → IsStoreAnswer result → (S.kept self.new).contest ≡ (S.kept self.old).contest }
-        ensures kept { (S.kept self.new).is_clean → ¬ IsStoreAnswer result → LeavesOnly (S.kept self.new).may_leave (item_step (S.kept self.old).contest item).1 }
-        ensures settled { (S.kept self.new).is_clean → IsTrue (S.kept self.new).is_open → LeavesOnly (S.kept self.new).may_leave (S.kept self.new).contest }
-        ensures crash { (S.kept self.new).is_clean → LeavesOr (S.kept self.old).may_leave (S.kept self.new).may_leave (item_step (S.kept self.old).contest item).1 }
-        ensures shut { (S.kept self.new).is_clean → IsFalse (S.kept self.old).is_open → LeavesNoMore (S.kept self.old).may_leave (S.kept self.new).may_leave }
-        ensures clean { (S.kept self.new).is_clean → (S.kept self.old).is_clean }
-        ensures up { (S.kept self.new).is_clean → IsTrue (S.kept self.new).is_open → IsTrue (S.kept self.old).is_open }
-        ensures shuts { (S.kept self.new).is_clean → IsTrue (S.kept self.old).is_open → IsTrue (S.kept self.new).is_open ⊎ Failed (S.kept self.old).troubles (S.kept self.new).troubles }
-        ensures troubles { (S.kept self.old).troubles ≤ (S.kept self.new).troubles }
-        ensures open { (S.kept self.new).is_clean → IsStoreAnswer result ⊎ (IsTrue (S.kept self.new).is_open × ¬ IsStoreAnswer result) }
-        ensures faults { CountsAnswer result (S.kept self.old).faults (S.kept self.new).faults }
-        ensures commits { (S.kept self.new).is_clean → ¬ IsStoreAnswer result → (S.kept self.new).commits ≡ commits_for (item_entries (S.kept self.old).contest item) (S.kept self.old).commits }
-        ensures no_commit { (S.kept self.new).is_clean → IsStoreAnswer result → (S.kept self.new).commits ≡ (S.kept self.old).commits }
+        ensures leaves { DoesOrFails (S.kept self.old) (S.kept self.new) (item_step (S.kept self.old).contest item).1
+            (item_entries (S.kept self.old).contest item) (IsStoreAnswer result) (IsFaultAnswer result) }
     {
         match item {
             Item::Request(asked) => {

@@ -3,7 +3,7 @@
 ghost use Rattle.std.specs.Prelude.{◌≡◌, IfOk, IsTrue, true};
 ghost use Rattle.contest_store.specs.Keeping.{Reads};
 ghost use Rattle.contest_types.specs.Addable.{are_addable};
-ghost use Rattle.contest_operations.specs.Commands.{file_at};
+ghost use Rattle.contest_postings.specs.OwnSubmissions.{file_at};
 ghost use Rattle.contest_operations.specs.Routes.{routes};
 ghost use Rattle.contest_desk.specs.Serving.{IsReady, IsSettled, Keeps, Serves};
 ghost use Rattle.contest_operations.specs.Replies.{IsOrdinary};
@@ -11,9 +11,8 @@ ghost use Rattle.contest_operations.specs.Step.{may_take_memory, outcome};
 ghost use Rattle.contest_operations.specs.Wishes.{IsSound, wish_outcome};
 
 use crate::keep::keep;
-use contest_operations::{
-    Credential, Offer, Outcome, Reply, Request, Wish, answer, ask, file_needed,
-};
+use contest_operations::{Offer, Outcome, Reply, Wish, answer, ask, file_needed};
+use contest_requests::{Credential, Request};
 use contest_store::{ContestStore, StoreError};
 use contest_types::{Moment, Rows};
 use matchit::Router;

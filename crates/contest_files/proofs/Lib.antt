@@ -2,5 +2,6 @@ pub mod Rest
 pub mod Steps
 pub mod FieldLemmas
 pub mod JsonLemmas
+pub mod ArrayLemmas
 pub mod TokenLemmas
 pub mod RecordLemmas

@@ -1,8 +1,8 @@
 -- Worked examples: who asks and by which key.
 use Rattle.std.proofs.Common.{◌≡◌, List, ℕ, [], ◌∷◌, refl, Some, None}
 use Rattle.std.specs.Prelude.{codes}
-use Rattle.contest_operations.specs.declared.request.Credential.TheVariants as credential
-use Rattle.contest_operations.specs.declared.request.KeyField.TheVariants as key
+use Rattle.contest_requests.specs.declared.request.Credential.TheVariants as credential
+use Rattle.contest_requests.specs.declared.request.KeyField.TheVariants as key
 use Rattle.contest_http.specs.Credentials.{bearer_token, credential_of, key_of}
 use Rattle.contest_http.specs.Fields.{FieldText, values}
 

@@ -2,9 +2,9 @@
 use Rattle.std.proofs.Common.{◌≡◌, ℕ, true, false, List, [], ◌∷◌, refl, Ok, Err}
 use Rattle.std.specs.Prelude.{codes}
 use Rattle.contest_types.specs.declared.refusal.Refusal.TheVariants.{BodyTooLarge, Encoding, Malformed}
-use Rattle.contest_operations.specs.declared.request.Credential.TheVariants as credential
-use Rattle.contest_operations.specs.declared.request.KeyField.TheVariants as key
-use Rattle.contest_operations.specs.declared.request.Method.TheVariants as method
+use Rattle.contest_requests.specs.declared.request.Credential.TheVariants as credential
+use Rattle.contest_requests.specs.declared.request.KeyField.TheVariants as key
+use Rattle.contest_requests.specs.declared.request.Method.TheVariants as method
 use Rattle.contest_http.specs.Fields.{FieldText}
 use Rattle.contest_http.specs.Plans.{body_length, is_interim_due, lacks_host, method_of, plan_of}
 use Rattle.contest_http.specs.declared.plan.Plan.{Plan}

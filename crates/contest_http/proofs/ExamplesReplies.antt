@@ -6,9 +6,9 @@ use Rattle.contest_types.specs.declared.refusal.Refusal.TheVariants.{BodyTooLarg
 use Rattle.contest_operations.specs.declared.reply.ContentType.TheVariants.{Json}
 use Rattle.contest_operations.specs.declared.reply.ExtraField.TheVariants.{Allow, Nothing, WwwAuthenticate}
 use Rattle.contest_operations.specs.declared.reply.Reply.{Reply}
-use Rattle.contest_operations.specs.declared.request.Credential.TheVariants as credential
-use Rattle.contest_operations.specs.declared.request.KeyField.TheVariants as key
-use Rattle.contest_operations.specs.declared.request.Method.TheVariants as method
+use Rattle.contest_requests.specs.declared.request.Credential.TheVariants as credential
+use Rattle.contest_requests.specs.declared.request.KeyField.TheVariants as key
+use Rattle.contest_requests.specs.declared.request.Method.TheVariants as method
 use Rattle.contest_http.specs.Frames.{framed_by}
 use Rattle.contest_http.specs.Spelling.{extra_line, head_lines, spelled, status_text}
 use Rattle.contest_http.specs.declared.framed.Framed.TheVariants.{Asked, Refused}
@@ -16,15 +16,19 @@ use Rattle.contest_http.specs.declared.plan.Expected.{Expected}
 use Rattle.contest_http.specs.declared.plan.Plan.TheVariants.{Expect, Refuse}
 
 found : status_text 200 ≡ codes "200 OK"
+unfolding digits
 found = refl
 
 too_large : status_text 413 ≡ codes "413 Payload Too Large"
+unfolding digits
 too_large = refl
 
 head_too_large : status_text 431 ≡ codes "431 Request Header Fields Too Large"
+unfolding digits
 head_too_large = refl
 
 unavailable : status_text 503 ≡ codes "503 Service Unavailable"
+unfolding digits
 unavailable = refl
 
 nothing_more : extra_line Nothing ≡ []

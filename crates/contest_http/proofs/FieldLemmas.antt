@@ -1,11 +1,10 @@
 -- The values of the fields of one name, from a place on.
 use Rattle.std.proofs.Common.{◌≡◌, ◌<◌, ◌+◌, ◌∷◌, ◌∙◌, refl, ap, ℕ, false, List, length, drop, drop-cons, add-one, slice_index_or, suc, map}
 use Rattle.std.specs.Prelude.{IsTrue}
-use Rattle.httparse.specs.Spans.{header_bytes, span_bytes}
+use Rattle.httparse.specs.Spans.{header_bytes, span_bytes, name_and_value}
 use Rattle.httparse.specs.declared.spans.HeaderSpan.{HeaderSpan}
 use Rattle.httparse.specs.Grammar.{RequestHead}
-use Rattle.httparse.specs.Spans.{name_and_value}
-use Rattle.contest_operations.specs.declared.request.Method.{Method}
+use Rattle.contest_requests.specs.declared.request.Method.{Method}
 use Rattle.contest_http.specs.Fields.{FieldText, is_named, values}
 use Rattle.contest_http.specs.Plans.{head_plan, method_of, plan_of}
 

@@ -1,11 +1,9 @@
 -- The head of what a reader had, with some of its bytes taken.
-use Rattle.std.proofs.Common.{◌≡◌, ◌≤◌, ◌<◌, ◌+◌, ◌-◌, ◌++◌, ◌∷◌, [], ◌∙◌, sym, ap, refl, ℕ, zero, suc, List, Option, Some, None, length, length-drop, Bool, arith, length-append, append_assoc, true, false, if◌then◌else◌, IfSome}
+use Rattle.std.proofs.Common.{◌≡◌, ◌≤◌, ◌<◌, ◌+◌, ◌-◌, ◌++◌, ◌∷◌, [], ◌∙◌, sym, ap, refl, ℕ, zero, suc, List, Option, Some, None, length, length-drop, Bool, arith, length-append, append_assoc, true, false, if◌then◌else◌, IfSome, drop, add-one}
 use Rattle.std.specs.Prelude.{⊤}
-use Rattle.std.proofs.Common.{drop, add-one}
 use Rattle.std.specs.Io.KnownBytes.{Consumes, IsAtEnd, Keeps}
 use Rattle.contest_types.specs.declared.limits.TheConstants.{REQUEST_HEAD}
-use Rattle.contest_http.specs.Head.{begins_end, has_end, head_from, head_of}
-use Rattle.contest_http.specs.Head.{TakesHead, TakesHeadPart}
+use Rattle.contest_http.specs.Head.{begins_end, has_end, head_from, head_of, TakesHead, TakesHeadPart}
 
 -- the head of what was there is found by going on after the bytes
 abbrev pub StillHead : Option (List ℕ) → Option (List ℕ) → List ℕ → Type 0

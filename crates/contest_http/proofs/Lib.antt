@@ -1,3 +1,4 @@
+pub mod PhraseLemmas
 pub mod HeadLemmas
 pub mod LastBytes
 pub mod HeadFields

@@ -13,7 +13,7 @@ use Rattle.contest_http.specs.Frames.{AsksForHead, IsFrame, IsHeadOf, IsPlanOf, 
 use Rattle.contest_http.specs.Plans.{body_length, head_plan, is_head, lacks_host, method_of, plan_at, plan_of, plan_sized}
 use Rattle.contest_http.specs.Fields.{FieldText, values}
 use Rattle.contest_http.specs.Targets.{path_of}
-use Rattle.contest_operations.specs.declared.request.Method.{Method}
+use Rattle.contest_requests.specs.declared.request.Method.{Method}
 use Rattle.httparse.specs.Grammar.{RequestHead}
 use Rattle.httparse.specs.Spans.{name_and_value}
 use Rattle.contest_http.specs.Reading.{BeforeRead, Due, ReadsHead, ReadsOne, ReadsRest, RefusesBody, RefusesMemory, Takes, TakesHeadFront, TakesRest, interim, interim_text}

@@ -10,15 +10,14 @@ use Rattle.contest_types.specs.Valid.{is_valid}
 use Rattle.contest_types.specs.declared.audience.Audience.{Audience}
 use Rattle.contest_types.specs.declared.refusal.Refusal.{Refusal}
 use Rattle.contest_types.specs.declared.refusal.Refusal.TheVariants.{Memory}
-use Rattle.contest_types.proofs.StreamLemmas.{appends_both}
+use Rattle.contest_streams.proofs.StreamLemmas.{appends_both}
 use Rattle.contest_store.specs.Keeping.{Kept}
 use Rattle.contest_operations.specs.Laws.{HasSight}
-use Rattle.contest_operations.specs.Replies.{refused}
-use Rattle.contest_operations.specs.Replies.{IsStoreReply}
+use Rattle.contest_operations.specs.Replies.{refused, IsStoreReply}
 use Rattle.contest_operations.specs.Step.{step}
 use Rattle.contest_operations.specs.declared.reply.Reply.{Reply}
-use Rattle.contest_operations.specs.declared.request.Credential.{Credential}
-use Rattle.contest_operations.specs.declared.request.Request.{Request}
+use Rattle.contest_requests.specs.declared.request.Credential.{Credential}
+use Rattle.contest_requests.specs.declared.request.Request.{Request}
 use Rattle.contest_http.specs.Frames.{Frame, IsFrame}
 use Rattle.contest_http.specs.Reading.{ReadsOne, RefusesMemory, Takes, interim}
 use Rattle.contest_http.specs.Serving.{Answers, AnswersAlike, Decides, Handles, ServesOne}

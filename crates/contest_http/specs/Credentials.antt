@@ -5,10 +5,10 @@ use Rattle.std.specs.List.{position}
 use Rattle.std.specs.Str.{str_eq_ignore_ascii_case}
 use Rattle.contest_types.specs.IdText.{id_of}
 use Rattle.contest_files.specs.Tokens.{is_token}
-use Rattle.contest_operations.specs.declared.request.Credential.{Credential}
-use Rattle.contest_operations.specs.declared.request.Credential.TheVariants as credential
-use Rattle.contest_operations.specs.declared.request.KeyField.{KeyField}
-use Rattle.contest_operations.specs.declared.request.KeyField.TheVariants as key
+use Rattle.contest_requests.specs.declared.request.Credential.{Credential}
+use Rattle.contest_requests.specs.declared.request.Credential.TheVariants as credential
+use Rattle.contest_requests.specs.declared.request.KeyField.{KeyField}
+use Rattle.contest_requests.specs.declared.request.KeyField.TheVariants as key
 
 -- with how many spaces a text begins
 abbrev pub spaces : List ℕ → ℕ

@@ -4,7 +4,7 @@ use Rattle.httparse.specs.Grammar.{RequestHead, ReadsRequest}
 use Rattle.contest_types.specs.declared.limits.TheConstants.{REQUEST_HEAD}
 use Rattle.contest_types.specs.declared.refusal.Refusal.{Refusal}
 use Rattle.contest_types.specs.declared.refusal.Refusal.TheVariants.{HeadTooLarge, Malformed}
-use Rattle.contest_operations.specs.declared.request.Request.{Request}
+use Rattle.contest_requests.specs.declared.request.Request.{Request}
 use Rattle.contest_http.specs.Head.{has_end, head_of}
 use Rattle.contest_http.specs.Plans.{head_plan, is_head, method_of}
 use Rattle.contest_http.specs.declared.framed.Framed.{Framed}

@@ -9,8 +9,8 @@ use Rattle.contest_types.specs.RelTimeRead.{are_digits}
 use Rattle.contest_types.specs.declared.limits.TheConstants.{REQUEST_BODY}
 use Rattle.contest_types.specs.declared.refusal.Refusal.{Refusal}
 use Rattle.contest_types.specs.declared.refusal.Refusal.TheVariants.{BodyTooLarge, Encoding, Malformed}
-use Rattle.contest_operations.specs.declared.request.Method.{Method}
-use Rattle.contest_operations.specs.declared.request.Method.TheVariants as method
+use Rattle.contest_requests.specs.declared.request.Method.{Method}
+use Rattle.contest_requests.specs.declared.request.Method.TheVariants as method
 use Rattle.contest_http.specs.Fields.{FieldText, has_value, values}
 use Rattle.contest_http.specs.Targets.{path_of}
 use Rattle.contest_http.specs.Credentials.{credential_of, key_of}

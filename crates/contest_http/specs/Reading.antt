@@ -1,7 +1,7 @@
 -- What is taken from a reader, and what goes out, while one request is read.
 use Rattle.std.specs.Prelude.{◌≡◌, ◌≤◌, ◌⊎◌, ℕ, List, [], Bool, true, Result, Ok, Err, IsTrue, Option, codes, drop, length, if◌then◌else◌}
 use Rattle.std.specs.Io.KnownBytes.{Appends}
-use Rattle.contest_types.specs.Streams.{AppendsFront}
+use Rattle.contest_streams.specs.Streams.{AppendsFront}
 use Rattle.contest_types.specs.declared.refusal.Refusal.TheVariants.{Memory}
 use Rattle.contest_http.specs.Frames.{AsksForHead, Frame, IsFrame, IsPlanOf, framed_by}
 use Rattle.contest_http.specs.Head.{head_of}

@@ -1,21 +1,21 @@
 -- One request served: what was taken of the input, what went out, and what became of the contest (own).
-use Rattle.std.specs.Prelude.{◌≡◌, ◌≢◌, ◌⊎◌, ℕ, List, ◌++◌, Bool, true, Option, Result, Ok, Err, IsFalse, IsTrue, take}
+use Rattle.std.specs.Prelude.{◌≡◌, ◌≢◌, ◌⊎◌, ℕ, List, ◌++◌, Bool, true, Option, Result, Ok, Err, take}
 use Rattle.std.specs.Io.KnownBytes.{Appends}
 use Rattle.contest_types.specs.Alike.{Alike, MayBeHeld}
 use Rattle.contest_types.specs.State.{ContestState}
-use Rattle.contest_types.specs.Streams.{AppendsFront, one_more}
+use Rattle.contest_streams.specs.Streams.{AppendsFront, Failed}
 use Rattle.contest_types.specs.Valid.{is_valid}
 use Rattle.contest_types.specs.declared.audience.Audience.{Audience}
 use Rattle.contest_types.specs.declared.refusal.Refusal.{Refusal}
 use Rattle.contest_types.specs.declared.refusal.Refusal.TheVariants.{Memory, StoreFault}
-use Rattle.contest_store.specs.Keeping.{Kept, LeavesNoMore, LeavesOnly, LeavesOr}
+use Rattle.contest_store.specs.Keeping.{Kept}
 use Rattle.contest_operations.specs.Laws.{HasSight}
-use Rattle.contest_operations.specs.Replies.{refused}
-use Rattle.contest_operations.specs.Replies.{IsStoreReply}
-use Rattle.contest_operations.specs.Step.{step}
+use Rattle.contest_operations.specs.Replies.{refused, IsStoreReply}
+use Rattle.contest_operations.specs.Step.{may_take_memory, outcome, step}
 use Rattle.contest_operations.specs.declared.reply.Reply.{Reply}
-use Rattle.contest_operations.specs.declared.request.Credential.{Credential}
-use Rattle.contest_operations.specs.declared.request.Request.{Request}
+use Rattle.contest_requests.specs.declared.request.Credential.{Credential}
+use Rattle.contest_requests.specs.declared.request.Request.{Request}
+use Rattle.contest_desk.specs.Doing.{DoesOrFails}
 use Rattle.contest_http.specs.Frames.{Frame, IsFrame}
 use Rattle.contest_http.specs.Reading.{BeforeRead, Due, RefusesMemory, Takes, interim, interim_text}
 use Rattle.contest_http.specs.Spelling.{IsSpelling}
@@ -29,18 +29,13 @@ use Rattle.contest_http.specs.declared.framed.Served.TheVariants as served
 -- the contest is as before. Until the thaw the reply is the machine's over every contest that is alike for the caller
 pub record Handles {S : Type 0} (kept : S → Kept) (before after : S) (now : ℕ) (credential : Credential) (request : Request) (reply : Reply) : Type 0 where
   pub answered : (kept after).is_clean → ¬ (IsStoreReply reply) → reply ≡ (step (kept before).contest now credential request).0
-  pub contest : (kept after).is_clean → ¬ (IsStoreReply reply) → (kept after).contest ≡ (step (kept before).contest now credential request).1
-  pub unchanged : (kept after).is_clean → IsTrue (kept after).is_open → IsStoreReply reply → (kept after).contest ≡ (kept before).contest
-  pub lasts : (kept after).is_clean → ¬ (IsStoreReply reply) → LeavesOnly (kept after).may_leave (step (kept before).contest now credential request).1
-  pub opens : (kept after).is_clean → IsStoreReply reply ⊎ (IsTrue (kept after).is_open × ¬ (IsStoreReply reply))
-  pub up : (kept after).is_clean → IsTrue (kept after).is_open → IsTrue (kept before).is_open
-  pub shut : (kept after).is_clean → IsFalse (kept before).is_open → LeavesNoMore (kept before).may_leave (kept after).may_leave
-  pub crash : (kept after).is_clean → LeavesOr (kept before).may_leave (kept after).may_leave (step (kept before).contest now credential request).1
-  pub fault : reply ≡ refused StoreFault → (kept after).faults ≡ one_more (kept before).faults
-  pub no_fault : ¬ (reply ≡ refused StoreFault) → (kept after).faults ≡ (kept before).faults
+  pub leaves : DoesOrFails (kept before) (kept after) (step (kept before).contest now credential request).1 (outcome (kept before).contest now credential request).entries
+      (IsStoreReply reply) (reply ≡ refused StoreFault)
   pub isolated : (kept after).is_clean → ¬ (IsStoreReply reply) → (a : Audience) (y : ContestState) → HasSight (kept before).contest.fixed credential a
       → MayBeHeld a now (kept before).contest → is_valid y ≡ true → Alike a (kept before).contest y
       → (reply ≡ (step y now credential request).0) × Alike a (kept after).contest (step y now credential request).1
+  pub memory : (kept after).is_clean → reply ≡ refused Memory
+      → Failed (kept before).refusals (kept after).refusals ⊎ (may_take_memory (kept before).contest.fixed credential request ≡ true)
 
 -- one request is handled at most, whatever is known of the streams
 abbrev pub HandlesOne : {S : Type 0} (kept : S → Kept) (now : ℕ) (before after : S) → Type 0

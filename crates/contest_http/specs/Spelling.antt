@@ -1,5 +1,6 @@
 -- The bytes of a reply (RFC 9112, sections 4 to 6; RFC 9110, sections 6.6.1, 8.3, 8.6, 10.2.1 and 15; RFC 6750, section 3).
-use Rattle.std.specs.Prelude.{◌≡◌, ◌==◌, ◌/◌, ◌++◌, ℕ, List, [], Bool, codes, decimal, length, if◌then◌else◌}
+use Rattle.std.specs.Prelude.{◌≡◌, ◌&&◌, ◌/◌, ◌++◌, ℕ, List, [], Bool, codes, decimal, length, nat_le, nat_lt, unwrap_or, if◌then◌else◌}
+use Rattle.http.specs.StatusCode.{reason_phrase}
 use Rattle.httpdate.specs.Date.{date_text, unix_secs}
 use Rattle.httpdate.specs.declared.date.HttpDate.{HttpDate}
 use Rattle.contest_operations.specs.Offers.{methods_text}
@@ -9,20 +10,13 @@ use Rattle.contest_operations.specs.declared.reply.ExtraField.{ExtraField}
 use Rattle.contest_operations.specs.declared.reply.ExtraField.TheVariants.{Allow, Nothing, WwwAuthenticate}
 use Rattle.contest_operations.specs.declared.reply.Reply.{Reply}
 
--- a status and its phrase, for those that the desk answers
+-- the phrase of a status, as the crate http names it; a number that is no status has none
+abbrev pub phrase_of : ℕ → List ℕ
+phrase_of status = if nat_le 100 status && nat_lt status 1000 then unwrap_or (reason_phrase status) [] else []
+
+-- a status and its phrase
 abbrev pub status_text : ℕ → List ℕ
-status_text status =
-    if status == 200 then codes "200 OK" else (
-    if status == 400 then codes "400 Bad Request" else (
-    if status == 401 then codes "401 Unauthorized" else (
-    if status == 403 then codes "403 Forbidden" else (
-    if status == 404 then codes "404 Not Found" else (
-    if status == 405 then codes "405 Method Not Allowed" else (
-    if status == 409 then codes "409 Conflict" else (
-    if status == 413 then codes "413 Payload Too Large" else (
-    if status == 431 then codes "431 Request Header Fields Too Large" else (
-    if status == 501 then codes "501 Not Implemented" else
-    codes "503 Service Unavailable")))))))))
+status_text status = decimal status ++ codes " " ++ phrase_of status
 
 -- the line of a field that only some replies have, after the end of the line before
 abbrev pub extra_line : ExtraField → List ℕ

@@ -1,12 +1,11 @@
 //! The body of a request.
 ghost use Rattle.std.specs.Prelude.{◌≡◌, ◌≤◌, ◌<◌, List, ℕ, Some, IfOk, IsSome, OnErr, length};
 ghost use Rattle.std.specs.Option.{option_map};
-ghost use Rattle.contest_types.specs.Streams.{Fails, stream};
+ghost use Rattle.contest_streams.specs.Streams.{Fails, stream};
 ghost use Rattle.contest_http.specs.Bodies.{TakesBody, TakesBodyPart};
 
 use crate::head::RequestFault;
-use contest_types::Counted;
-use contest_types::streams::read_piece;
+use contest_streams::{Counted, read_piece};
 use std::alloc::{AllocError, Global};
 use std::io::Read;
 

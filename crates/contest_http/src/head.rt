@@ -1,12 +1,11 @@
 //! The head of a request, byte by byte.
 ghost use Rattle.std.specs.Prelude.{◌≡◌, ◌≤◌, ◌∷◌, ◌++◌, [], false, IfErr, IfOk, MatchOption, OnErr, OnOk, length};
 ghost use Rattle.std.specs.Io.KnownBytes.{Consumes, IsAtEnd, Keeps};
-ghost use Rattle.contest_types.specs.Streams.{Fails, stream};
+ghost use Rattle.contest_streams.specs.Streams.{Fails, stream};
 ghost use Rattle.contest_http.specs.Head.{TakesHead, TakesHeadPart, begins_end, has_end};
 
-use contest_types::Counted;
+use contest_streams::{Counted, read_piece};
 use contest_types::limits::REQUEST_HEAD;
-use contest_types::streams::read_piece;
 use std::alloc::Global;
 use std::io::Read;
 

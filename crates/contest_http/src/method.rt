@@ -8,13 +8,13 @@ use contest_desk::Method;
 pub(crate) fn method_of(name: &[u8]) -> Method
     ensures { result ≡ method_of name.now }
 {
-    if name == b"GET".as_slice() {
+    if name == http::Method::GET.as_str().as_bytes() {
         Method::Get
-    } else if name == b"HEAD".as_slice() {
+    } else if name == http::Method::HEAD.as_str().as_bytes() {
         Method::Head
-    } else if name == b"POST".as_slice() {
+    } else if name == http::Method::POST.as_str().as_bytes() {
         Method::Post
-    } else if name == b"PATCH".as_slice() {
+    } else if name == http::Method::PATCH.as_str().as_bytes() {
         Method::Patch
     } else {
         Method::Other

@@ -1,7 +1,7 @@
 //! A reply written.
 ghost use Rattle.std.specs.Prelude.{◌≡◌, ◌≤◌, ◌<◌, ◌/◌, ◌++◌, List, ℕ, IfErr, IfSome, IsSome, OnErr, OnOk};
 ghost use Rattle.std.specs.Io.KnownBytes.{Appends};
-ghost use Rattle.contest_types.specs.Streams.{AppendsFront, Fails, stream};
+ghost use Rattle.contest_streams.specs.Streams.{AppendsFront, Fails, stream};
 ghost use Rattle.httpdate.specs.Date.{date_text, unix_secs};
 ghost use Rattle.contest_types.specs.MomentText.{latest};
 ghost use Rattle.contest_http.specs.Spelling.{IsSpelling, spelled};
@@ -9,8 +9,8 @@ ghost use Rattle.contest_http.specs.Spelling.{IsSpelling, spelled};
 use crate::framed::ServeFault;
 use crate::reply_head::head_of;
 use contest_desk::Reply;
-use contest_types::streams::{OutputFault, write_all};
-use contest_types::{Counted, Moment};
+use contest_streams::{Counted, OutputFault, write_all};
+use contest_types::Moment;
 use httpdate::HttpDate;
 use std::io::Write;
 

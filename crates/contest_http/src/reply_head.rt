@@ -2,10 +2,11 @@
 ghost use Rattle.std.specs.Prelude.{◌≡◌, ◌≤◌, ◌+◌, ◌++◌, length};
 ghost use Rattle.httpdate.specs.Date.{date_text};
 ghost use Rattle.contest_operations.specs.Offers.{methods_text};
-ghost use Rattle.contest_http.specs.Spelling.{extra_line, head_lines, head_text, status_text, type_text};
+ghost use Rattle.contest_http.specs.Spelling.{extra_line, head_lines, head_text, phrase_of, status_text, type_text};
 
 use crate::head_buffer::HeadBuffer;
 use contest_desk::{AllowedMethods, ContentType, ExtraField, Reply};
+use http::StatusCode;
 use httpdate::HttpDate;
 use itoa::Buffer;
 
@@ -18,8 +19,10 @@ pub(crate) fn head_of(date: HttpDate, reply: &Reply) -> HeadBuffer
     let size = digits.format(reply.body.as_bytes().len());
     let mut extra = HeadBuffer::new();
     push_extra(&mut extra, reply.extra);
+    let mut status = HeadBuffer::new();
+    push_status(&mut status, reply.status);
     head_lines(
-        status_text(reply.status).as_bytes(),
+        status.as_bytes(),
         &date,
         extra.as_bytes(),
         type_text(reply.content).as_bytes(),
@@ -44,6 +47,18 @@ fn head_lines(status: &[u8], date: &[u8], extra: &[u8], kind: &[u8], size: &[u8]
     head.push(size);
     head.push(b"\r\nConnection: close\r\n\r\n");
     head
+}
+
+// Puts a status and its phrase at the end.
+fn push_status(head: &mut HeadBuffer, status: u16)
+    requires { length head.old ≤ 400 }
+    ensures text { head.new ≡ head.old ++ status_text status }
+    ensures short { length head.new ≤ length head.old + 50 }
+{
+    let mut digits = Buffer::new();
+    head.push(digits.format(status).as_bytes());
+    head.push(b" ");
+    head.push(phrase_of(status).as_bytes());
 }
 
 // Puts the line of a field that only some replies have at the end.
@@ -81,22 +96,13 @@ fn type_text(kind: ContentType) -> &'static str
     }
 }
 
-// A status, as its line has it (RFC 9110, section 15).
-fn status_text(status: u16) -> &'static str
-    ensures text { result.now ≡ status_text status }
+// The phrase of a status (RFC 9110, section 15).
+fn phrase_of(status: u16) -> &'static str
+    ensures text { result.now ≡ phrase_of status }
     ensures short { length result.now ≤ 40 }
 {
-    match status {
-        200 => "200 OK",
-        400 => "400 Bad Request",
-        401 => "401 Unauthorized",
-        403 => "403 Forbidden",
-        404 => "404 Not Found",
-        405 => "405 Method Not Allowed",
-        409 => "409 Conflict",
-        413 => "413 Payload Too Large",
-        431 => "431 Request Header Fields Too Large",
-        501 => "501 Not Implemented",
-        _ => "503 Service Unavailable",
+    match StatusCode::from_u16(status) {
+        Ok(status) => status.canonical_reason().unwrap_or(""),
+        Err(_) => "",
     }
 }

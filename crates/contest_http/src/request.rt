@@ -1,7 +1,7 @@
 //! One request read.
 ghost use Rattle.std.specs.Prelude.{◌≡◌, ◌≤◌, ◌⊎◌, List, ℕ, [], Err, IfErr, IfOk, IsSome, IsTrue, OnErr, OnOk, Some, true};
 ghost use Rattle.std.specs.Io.KnownBytes.{Appends};
-ghost use Rattle.contest_types.specs.Streams.{AppendsFront, Fails, stream};
+ghost use Rattle.contest_streams.specs.Streams.{AppendsFront, Fails, stream};
 ghost use Rattle.contest_http.specs.Reading.{ReadsHead, ReadsOne, ReadsRest, RefusesBody, StopsInHead, TakesRest, interim, interim_text};
 
 use crate::body::read_body;
@@ -10,8 +10,8 @@ use crate::head::{RequestFault, read_head};
 use crate::method::is_head;
 use crate::plan::{Expected, Plan, plan_head};
 use contest_desk::Request;
-use contest_types::streams::{OutputFault, RETRIES, write_all};
-use contest_types::{Counted, Refusal, Rows};
+use contest_streams::{Counted, OutputFault, RETRIES, write_all};
+use contest_types::{Refusal, Rows};
 use std::alloc::Global;
 use std::io::{Read, Write};
 

@@ -1,6 +1,6 @@
 //! One request served.
 ghost use Rattle.std.specs.Prelude.{◌≡◌, Err, IsSome, IsTrue, List, Some, ℕ};
-ghost use Rattle.contest_types.specs.Streams.{Fails, stream};
+ghost use Rattle.contest_streams.specs.Streams.{Fails, stream};
 ghost use Rattle.contest_http.specs.Serving.{Answers, AnswersAlike, HandlesOne, ServesOne};
 
 use crate::framed::{Framed, ServeFault, Served};
@@ -8,7 +8,8 @@ use crate::reply::write_reply;
 use crate::request::read_request;
 use contest_desk::{Desk, Reply};
 use contest_store::ContestStore;
-use contest_types::{Counted, Moment};
+use contest_streams::Counted;
+use contest_types::Moment;
 use std::alloc::Global;
 use std::io::{Read, Write};
 

@@ -1,12 +1,11 @@
 -- Members of JSON objects, and the items of arrays.
-use Rattle.std.proofs.Common.{ℕ, ◌≡◌, ◌≤◌, Bool, true, false, List, [], ◌∷◌, Option, Some, None, refl, ap, arith}
+use Rattle.std.proofs.Common.{ℕ, ◌≡◌, ◌≤◌, Bool, true, false, List, Option, Some, None, refl, arith}
 use Rattle.std.specs.Prelude.{nat_le, if◌then◌else◌}
 use Rattle.std.specs.Option.{option_and_then}
 use Rattle.std.proofs.lemmas.Bool.Decides.{nat_tests}
 use Rattle.serde_json.specs.Data.{Data}
 use Rattle.serde_json.specs.Find.{as_number, as_u64, get}
-use Rattle.serde_json.specs.View.{items_of}
-use Rattle.contest_files.specs.JsonMembers.{list_of, number_in, number_to}
+use Rattle.contest_files.specs.JsonMembers.{number_in, number_to}
 
 within : (most n : ℕ) (found : Option ℕ) → Some n ≡ option_and_then (λ k. if nat_le k most then Some k else None) found → n ≤ most
 within most n None is = absurd (cc is)
@@ -25,8 +24,3 @@ number_within most n name d is =
       | Some v ↦ λ e. within most n (option_and_then as_u64 (as_number v)) e
     ] in
     go (get name d) is
-
--- the items of an array are the list that made it
-pub items_listed : (ds : List Data) → list_of (items_of ds) ≡ ds
-items_listed [] = refl
-items_listed (d ∷ ds) = ap (λ more. d ∷ more) (items_listed ds)

@@ -99,7 +99,7 @@ record_fits : (x : ContestState) (a : Additions) (r : Result Entry Cause) → If
 record_fits x a (Ok e) sound h = addition_fits x a e (row_addition a.fixed e) sound refl h
 record_fits x a (Err c) sound h = tt
 
-records_fit : {A : Type 0} (row_of : FixedPart → A → Result Entry Cause) → ((f : FixedPart) (r : A) → IfOk (row_of f r) IsSoundRow) → (x : ContestState) (a : Additions) (n : ℕ) (rs : List A) → Fits x a → IfOk (after_records row_of a n rs) (Fits x)
+pub records_fit : {A : Type 0} (row_of : FixedPart → A → Result Entry Cause) → ((f : FixedPart) (r : A) → IfOk (row_of f r) IsSoundRow) → (x : ContestState) (a : Additions) (n : ℕ) (rs : List A) → Fits x a → IfOk (after_records row_of a n rs) (Fits x)
 records_fit row_of sound x a n [] h = h
 records_fit row_of sound x a n (r ∷ rs) h =
     let go : (q : Result Additions Cause) → IfOk q (Fits x) → IfOk (or_first_fault (λ b. after_records row_of b (n + 1) rs) n q) (Fits x) = elim [

@@ -21,19 +21,19 @@ use Rattle.contest_import.specs.SettingsObjects.{group_in, language_in, object_r
 use Rattle.contest_import.specs.Teams.{group_places, team_by, team_or_malformed}
 use Rattle.contest_import.specs.declared.account_row.AccountRow.{AccountRow}
 use Rattle.contest_import.specs.declared.account_row.NamedRole.{NamedRole}
-use Rattle.contest_import.specs.declared.import_kind.ImportKind.{ImportKind}
-use Rattle.contest_import.specs.declared.import_kind.ImportKind.TheVariants as kind
-use Rattle.contest_import.specs.declared.import_kind.SettingsKind.{SettingsKind}
-use Rattle.contest_import.specs.declared.import_kind.SettingsKind.TheVariants as settings
+use Rattle.contest_types.specs.declared.import_kind.ImportKind.{ImportKind}
+use Rattle.contest_types.specs.declared.import_kind.ImportKind.TheVariants as kind
+use Rattle.contest_types.specs.declared.import_kind.SettingsKind.{SettingsKind}
+use Rattle.contest_types.specs.declared.import_kind.SettingsKind.TheVariants as settings
 use Rattle.contest_import.specs.declared.team_row.TeamRow.{TeamRow}
 use Rattle.contest_import.proofs.RowLemmas.{IsSoundRow, rows_addable}
 
 -- what holds of whatever a chain of readings gives
-then_holds : {A B : Type 0} (P : B → Type 0) (f : A → Option B) (o : Option A) → ((a : A) → IfSome (f a) P) → IfSome (option_and_then f o) P
+pub then_holds : {A B : Type 0} (P : B → Type 0) (f : A → Option B) (o : Option A) → ((a : A) → IfSome (f a) P) → IfSome (option_and_then f o) P
 then_holds P f None h = tt
 then_holds P f (Some a) h = h a
 
-map_holds : {A B : Type 0} (P : B → Type 0) (f : A → B) (o : Option A) → ((a : A) → P (f a)) → IfSome (option_map f o) P
+pub map_holds : {A B : Type 0} (P : B → Type 0) (f : A → B) (o : Option A) → ((a : A) → P (f a)) → IfSome (option_map f o) P
 map_holds P f None h = tt
 map_holds P f (Some a) h = h a
 
@@ -51,7 +51,7 @@ sound_team s (Some t) =
     let go : (b : Bool) → IfOk (if b then team_by t (group_places s t.groups) else Err cause.Malformed) IsSoundRow = elim [ true ↦ sound_team_by t (group_places s t.groups) | false ↦ tt ] in
     go (are_different t.groups)
 
-sound_object : (k : SettingsKind) (f : FixedPart) (d : Data) → IfOk (object_row k f d) IsSoundRow
+pub sound_object : (k : SettingsKind) (f : FixedPart) (d : Data) → IfOk (object_row k f d) IsSoundRow
 sound_object settings.JudgementTypes f d =
     sound_or_malformed (type_in d) (then_holds IsSoundRow _ (id_in (codes "id") d) (λ id. then_holds IsSoundRow _ (name_in (codes "name") d) (λ name. then_holds IsSoundRow _ (flag_in (codes "solved") d) (λ solved. map_holds IsSoundRow _ (flag_or_false (codes "penalty") d) (λ penalty. tt)))))
 sound_object settings.Languages f d =
@@ -102,10 +102,10 @@ sound_account s (Some a) h =
     let go : (o : Option Role) → IfOk (account_by a o) IsSoundRow = elim [ None ↦ tt | (Some role) ↦ h ] in
     go (role_of s a.role)
 
-sound_account_record : (f : FixedPart) (row : List Text) → IfOk (account_record f row) IsSoundRow
+pub sound_account_record : (f : FixedPart) (row : List Text) → IfOk (account_record f row) IsSoundRow
 sound_account_record f row = sound_account f.settings (option_and_then account_fields (four_of row)) (then_holds HasSoundId account_fields (four_of row) sound_fields)
 
-sound_team_record : (f : FixedPart) (row : List Text) → IfOk (team_record f row) IsSoundRow
+pub sound_team_record : (f : FixedPart) (row : List Text) → IfOk (team_record f row) IsSoundRow
 sound_team_record f row = sound_team f.settings (option_and_then _ (four_of row))
 
 off_form_addable : {A : Type 0} (x : ContestState) (rows : List A → Result (List Entry) Refusal) (o : Option (List A)) → ((found : List A) → IfOk (rows found) (λ es. are_addable x es ≡ true)) → IfOk (or_off_form rows o) (λ es. are_addable x es ≡ true)

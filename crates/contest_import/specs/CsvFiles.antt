@@ -4,6 +4,7 @@ use Rattle.std.specs.List.{slice_split}
 use Rattle.std.specs.Option.{option_and_then, option_map}
 use Rattle.std.specs.Str.{bytes_eq}
 use Rattle.sha2.specs.Sha256.{sha256}
+use Rattle.contest_files.specs.IdArrays.{all_some}
 use Rattle.contest_types.specs.IdText.{id_of}
 use Rattle.contest_types.specs.NameText.{name_from}
 use Rattle.contest_types.specs.Places.{place_of}
@@ -19,7 +20,7 @@ use Rattle.contest_types.specs.declared.refusal.Cause.TheVariants as cause
 use Rattle.contest_types.specs.declared.limits.TheConstants.{SHORTEST_TOKEN, LONGEST_TOKEN}
 use Rattle.contest_files.specs.FieldTexts.{Text, is_empty, flag_or_empty}
 use Rattle.contest_files.specs.Tokens.{is_token}
-use Rattle.contest_import.specs.Teams.{all_some, team_or_malformed}
+use Rattle.contest_import.specs.Teams.{team_or_malformed}
 use Rattle.contest_import.specs.declared.account_row.AccountRow.{AccountRow}
 use Rattle.contest_import.specs.declared.account_row.NamedRole.{NamedRole}
 use Rattle.contest_import.specs.declared.account_row.NamedRole.TheVariants as named

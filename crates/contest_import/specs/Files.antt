@@ -10,9 +10,9 @@ use Rattle.contest_files.specs.JsonMembers.{items_in}
 use Rattle.contest_import.specs.CsvFiles.{FourFields, account_names, account_record, is_header, team_names, team_record}
 use Rattle.contest_import.specs.RowAdditions.{rows_of}
 use Rattle.contest_import.specs.SettingsObjects.{object_row}
-use Rattle.contest_import.specs.declared.import_kind.ImportKind.{ImportKind}
-use Rattle.contest_import.specs.declared.import_kind.ImportKind.TheVariants as kind
-use Rattle.contest_import.specs.declared.import_kind.SettingsKind.{SettingsKind}
+use Rattle.contest_types.specs.declared.import_kind.ImportKind.{ImportKind}
+use Rattle.contest_types.specs.declared.import_kind.ImportKind.TheVariants as kind
+use Rattle.contest_types.specs.declared.import_kind.SettingsKind.{SettingsKind}
 
 -- the records below the header, which are numbered from 1; none where the header isn't these names
 abbrev pub records_under : FourFields → List (List Text) → Option (List (List Text))

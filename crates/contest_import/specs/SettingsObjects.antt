@@ -1,19 +1,18 @@
 -- What the objects of settings files say (Contest API 2023-06: judgement types, languages, problems, groups
 -- and teams; which members are read is own).
-use Rattle.std.specs.Prelude.{ℕ, List, [], map, codes, Option, Some, None, Result, Ok, Err}
+use Rattle.std.specs.Prelude.{[], codes, Option, Some, None, Result, Ok, Err}
 use Rattle.std.specs.Option.{option_and_then, option_map}
 use Rattle.serde_json.specs.Data.{Data}
-use Rattle.serde_json.specs.Find.{as_array, as_str}
-use Rattle.contest_types.specs.IdText.{id_of}
+use Rattle.contest_files.specs.IdArrays.{ids_in}
 use Rattle.contest_types.specs.State.{FixedPart}
 use Rattle.contest_types.specs.declared.entry.Entry.{Entry}
 use Rattle.contest_types.specs.declared.entry.Entry.TheVariants.{NewType, NewLanguage, NewProblem, NewGroup}
 use Rattle.contest_types.specs.declared.refusal.Cause.{Cause}
 use Rattle.contest_types.specs.declared.refusal.Cause.TheVariants as cause
-use Rattle.contest_files.specs.JsonMembers.{flag_in, flag_or_false, id_in, list_of, name_in, number_in, or_usual, present_in}
-use Rattle.contest_import.specs.Teams.{all_some, team_or_malformed}
-use Rattle.contest_import.specs.declared.import_kind.SettingsKind.{SettingsKind}
-use Rattle.contest_import.specs.declared.import_kind.SettingsKind.TheVariants as kind
+use Rattle.contest_files.specs.JsonMembers.{flag_in, flag_or_false, id_in, name_in, number_in, or_usual, present_in}
+use Rattle.contest_import.specs.Teams.{team_or_malformed}
+use Rattle.contest_types.specs.declared.import_kind.SettingsKind.{SettingsKind}
+use Rattle.contest_types.specs.declared.import_kind.SettingsKind.TheVariants as kind
 use Rattle.contest_import.specs.declared.team_row.TeamRow.{TeamRow}
 
 -- a row that is read, or off its form
@@ -45,10 +44,6 @@ problem_in d =
 -- id and name
 abbrev pub group_in : Data → Option Entry
 group_in d = option_and_then (λ id. option_map (λ name. NewGroup (record { id = id; name = name })) (name_in (codes "name") d)) (id_in (codes "id") d)
-
--- the ids in an array
-abbrev pub ids_in : Data → Option (List (List ℕ))
-ids_in d = option_and_then (λ items. all_some (map (λ e. option_and_then id_of (as_str e)) (list_of items))) (as_array d)
 
 -- id, name, group_ids, which is empty where it isn't there, and hidden, which is false
 abbrev pub team_in : Data → Option TeamRow

@@ -1,6 +1,6 @@
 -- A team as a file tells of it: its groups by their ids (Contest API 2023-06, teams).
-use Rattle.std.specs.Prelude.{ℕ, List, [], ◌∷◌, Option, Some, None, Result, Ok, Err, map, if◌then◌else◌}
-use Rattle.std.specs.Option.{option_and_then, option_map}
+use Rattle.std.specs.Prelude.{ℕ, List, Option, Some, None, Result, Ok, Err, map, if◌then◌else◌}
+use Rattle.contest_files.specs.IdArrays.{all_some}
 use Rattle.contest_types.specs.Places.{are_different, place_of}
 use Rattle.contest_types.specs.Setup.{Setup}
 use Rattle.contest_types.specs.declared.entry.Entry.{Entry}
@@ -9,11 +9,6 @@ use Rattle.contest_types.specs.declared.objects.Group.{Group}
 use Rattle.contest_types.specs.declared.refusal.Cause.{Cause}
 use Rattle.contest_types.specs.declared.refusal.Cause.TheVariants as cause
 use Rattle.contest_import.specs.declared.team_row.TeamRow.{TeamRow}
-
--- all of them, or none where one is missing
-abbrev pub all_some : {A : Type 0} → List (Option A) → Option (List A)
-all_some [] = Some []
-all_some (found ∷ more) = option_and_then (λ a. option_map (λ rest. a ∷ rest) (all_some more)) found
 
 -- the places of the groups with these ids, if all are there
 abbrev pub group_places : Setup → List (List ℕ) → Option (List ℕ)

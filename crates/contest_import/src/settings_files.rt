@@ -8,12 +8,11 @@ ghost use Rattle.contest_import.specs.Files.{settings_rows};
 ghost use Rattle.contest_import.specs.RowAdditions.{after_record, after_records, none_yet, rows_of, rows_or_refusal};
 ghost use Rattle.contest_import.specs.SettingsObjects.{object_row};
 
-use crate::SettingsKind;
 use crate::additions::RowAdditions;
 use crate::record_fault::refusal_at;
-use crate::settings_objects::{items_of, object_row};
-use contest_files::value_of;
-use contest_types::{Entry, Fixed, Refusal, RowFault, Rows};
+use crate::settings_objects::object_row;
+use contest_files::{items_of, value_of};
+use contest_types::{Entry, Fixed, Refusal, RowFault, Rows, SettingsKind};
 use serde_json::Value;
 use std::alloc::Global;
 

@@ -1,20 +1,18 @@
 //! The rows that the objects of settings files say.
-ghost use Rattle.std.specs.Prelude.{◌≡◌, [], Ok, IfOk, IfErr, codes, map};
-ghost use Rattle.std.specs.Option.{option_and_then, option_map};
+ghost use Rattle.std.specs.Prelude.{◌≡◌, [], Ok, IfOk, IfErr, codes};
 ghost use Rattle.contest_types.specs.Additions.{IsFaultOf};
-ghost use Rattle.contest_types.specs.IdText.{id_of};
-ghost use Rattle.contest_files.specs.JsonMembers.{list_of, number_in, or_usual, present_in};
-ghost use Rattle.contest_import.specs.SettingsObjects.{group_in, ids_in, language_in, object_row, or_malformed, problem_in, team_in, type_in};
-ghost use Rattle.contest_import.specs.Teams.{all_some};
-ghost use Rattle.serde_json.specs.Find.{as_array, as_str};
+ghost use Rattle.contest_files.specs.JsonMembers.{number_in, or_usual, present_in};
+ghost use Rattle.contest_files.specs.IdArrays.{ids_in};
+ghost use Rattle.contest_import.specs.SettingsObjects.{group_in, language_in, object_row, or_malformed, problem_in, team_in, type_in};
 ghost use Rattle.serde_json.specs.View.{view};
 
+use crate::TeamRow;
 use crate::record_fault::{MALFORMED, memory_of};
 use crate::teams::team_or_malformed;
-use crate::{SettingsKind, TeamRow};
-use contest_files::{flag_in, flag_or_false, id_member, name_in, number_in, present_in};
+use contest_files::{flag_in, flag_or_false, id_member, ids_in, name_in, number_in, present_in};
 use contest_types::{
     Entry, Fixed, Group, Id, JudgementType, Language, Problem, Refusal, RowFault, Rows,
+    SettingsKind,
 };
 use serde_json::Value;
 use std::alloc::Global;
@@ -188,50 +186,5 @@ fn group_ids_in(alloc: Global, object: &Value) -> Result<Option<Rows<Id>>, Refus
     match present_in(object, "group_ids") {
         Some(member) => ids_in(alloc, member),
         None => Ok(Some(Rows::new(alloc))),
-    }
-}
-
-fn ids_in(alloc: Global, value: &Value) -> Result<Option<Rows<Id>>, Refusal>
-    ensures value { IfOk result (λ found. found ≡ ids_in (view value.now)) }
-    ensures err { IfErr result (λ e. e ≡ Refusal.Memory) }
-{
-    match items_of(value) {
-        Some(items) => ids_of(alloc, items),
-        None => Ok(None),
-    }
-}
-
-/// The items of an array.
-#[tactic(auto, using(crate::proofs::ObjectLemmas::items_listed))]
-pub(crate) fn items_of(value: &Value) -> Option<&[Value]>
-    ensures { option_map (λ vs. map view vs.now) result ≡ option_map list_of (as_array (view value.now)) }
-{
-    match value.as_array() {
-        Some(items) => Some(items.as_slice()),
-        None => None,
-    }
-}
-
-fn ids_of(alloc: Global, items: &[Value]) -> Result<Option<Rows<Id>>, Refusal>
-    ensures value { IfOk result (λ found. found ≡ all_some (map (λ e. option_and_then id_of (as_str e)) (map view items.now))) }
-    ensures err { IfErr result (λ e. e ≡ Refusal.Memory) }
-{
-    let mut ids = Rows::new(alloc);
-    for item in items {
-        match id_of(alloc, item)? {
-            Some(id) => ids.push(id)?,
-            None => return Ok(None),
-        }
-    }
-    Ok(Some(ids))
-}
-
-fn id_of(alloc: Global, item: &Value) -> Result<Option<Id>, Refusal>
-    ensures value { IfOk result (λ found. found ≡ option_and_then id_of (as_str (view item.now))) }
-    ensures err { IfErr result (λ e. e ≡ Refusal.Memory) }
-{
-    match item.as_str() {
-        Some(text) => Id::parse(alloc, text),
-        None => Ok(None),
     }
 }

@@ -1,11 +1,11 @@
 //! Teams that files tell of, as rows.
 ghost use Rattle.std.specs.Prelude.{◌≡◌, Ok, IfOk, IfErr};
 ghost use Rattle.contest_types.specs.Additions.{IsFaultOf};
-ghost use Rattle.contest_types.specs.Places.{are_different, is_among};
 ghost use Rattle.contest_import.specs.Teams.{group_places, team_of, team_or_malformed};
 
 use crate::TeamRow;
 use crate::record_fault::MALFORMED;
+use contest_files::are_different;
 use contest_types::{Cause, Entry, Id, RowFault, Rows, Settings, Team};
 use std::alloc::{AllocError, Global};
 
@@ -66,23 +66,4 @@ fn group_places(
         }
     }
     Ok(Some(places))
-}
-
-fn are_different(ids: &[Id]) -> bool
-    ensures { result ≡ are_different ids.now }
-{
-    let mut rest = ids;
-    while let Some((id, others)) = rest.split_first() {
-        if is_among(others, id) {
-            return false;
-        }
-        rest = others;
-    }
-    true
-}
-
-fn is_among(ids: &[Id], id: &Id) -> bool
-    ensures { result ≡ is_among ids.now id.now }
-{
-    ids.iter().any(|other| *other == *id)
 }

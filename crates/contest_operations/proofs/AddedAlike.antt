@@ -19,7 +19,7 @@ use Rattle.contest_types.specs.declared.submission.Submission.{Submission}
 use Rattle.contest_types.specs.declared.submission.Release.{Release}
 use Rattle.contest_types.proofs.PlaceLemmas.{and_left, and_right}
 use Rattle.contest_types.proofs.ValidParts.{parts}
-use Rattle.contest_operations.proofs.FileLemmas.{number_of, own_numbers}
+use Rattle.contest_view.proofs.OwnNumbers.{number_of, own_numbers}
 use Rattle.contest_rules.proofs.SubmittingLemmas.{own_sight, own_alike}
 
 -- a team's submissions with one more

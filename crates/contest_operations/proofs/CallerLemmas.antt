@@ -1,6 +1,6 @@
 -- A caller who is known speaks for a team that is there.
-use Rattle.std.proofs.Common.{◌≡◌, ◌+◌, ◌<◌, ◌^◌, ◌∙◌, ℕ, Bool, true, false, List, [], ◌∷◌, length, Option, Some, None, refl, sym, ap, subst, arith}
-use Rattle.std.specs.Prelude.{find, IfSome, is_some, nat_lt, if◌then◌else◌}
+use Rattle.std.proofs.Common.{◌≡◌, ◌+◌, ◌<◌, ◌≤◌, ◌^◌, ◌∙◌, ℕ, Bool, true, false, List, [], ◌∷◌, length, map, Option, Some, None, refl, sym, ap, subst, arith}
+use Rattle.std.specs.Prelude.{◌||◌, not, find, IfSome, is_some, nat_lt, if◌then◌else◌}
 use Rattle.std.specs.List.{list_all}
 use Rattle.std.specs.Option.{option_map}
 use Rattle.std.specs.Str.{bytes_eq}
@@ -8,20 +8,26 @@ use Rattle.std.proofs.lemmas.Bool.{false≢true}
 use Rattle.std.proofs.lemmas.Bool.Decides.{nat_tests}
 use Rattle.std.proofs.lemmas.Slice.Eq.{bytes_eq-Decides}
 use Rattle.sha2.specs.Sha256.{sha256}
+use Rattle.contest_types.specs.Places.{are_different, is_among}
 use Rattle.contest_types.specs.State.{ContestState, FixedPart}
 use Rattle.contest_types.specs.Valid.{is_valid}
-use Rattle.contest_types.specs.Setup.{Setup}
+use Rattle.contest_types.specs.Setup.{IsValid, Setup}
 use Rattle.contest_types.specs.Accounts.{account_named, has_valid_role}
 use Rattle.contest_types.specs.ValidFixed.{is_valid_account}
 use Rattle.contest_types.specs.declared.account.Account.{Account}
 use Rattle.contest_types.specs.declared.account.Role.{Role}
 use Rattle.contest_types.specs.declared.account.Role.TheVariants as role
-use Rattle.contest_types.proofs.PlaceLemmas.{and_left, and_right}
+use Rattle.contest_types.proofs.PlaceLemmas.{and_left, and_right, not_true, same_bytes}
 use Rattle.contest_types.proofs.ValidParts.{parts, four}
+use Rattle.contest_rules.specs.Clarifying.{HasAudience}
+use Rattle.contest_rules.specs.Laws.{IsWriter}
+use Rattle.contest_rules.specs.declared.clarifying.Sender.{Sender}
+use Rattle.contest_rules.specs.declared.clarifying.Sender.TheVariants as sender
 use Rattle.contest_operations.specs.Callers.{Caller, holder_of, caller_of, judge_of, judging_id, team_for, team_of}
-use Rattle.contest_operations.specs.declared.request.Credential.{Credential}
-use Rattle.contest_operations.specs.declared.request.Credential.TheVariants.{Absent, Token, Bad}
-use Rattle.contest_operations.proofs.PostLemmas.{number_fits}
+use Rattle.contest_requests.specs.declared.request.Credential.{Credential}
+use Rattle.contest_requests.specs.declared.request.Credential.TheVariants.{Absent, Token, Bad}
+use Rattle.contest_types.specs.declared.limits.TheConstants.{TEAMS}
+use Rattle.contest_types.proofs.SettingsTest.{is_settings}
 
 find_passes : {X : Type 0} (t p : X → Bool) (xs : List X) (x : X) → list_all t xs ≡ true → find p xs ≡ Some x → t x ≡ true
 find_passes t p [] x all at = absurd (cc at)
@@ -61,6 +67,16 @@ caller_there x f credential who valid same is =
     let all = (four (list_all (is_valid_account x.fixed.settings) x.fixed.accounts) _ _ _ (parts x valid).accounts).first in
     known_there f credential who (subst (λ (g : FixedPart). list_all (is_valid_account g.settings) g.accounts ≡ true) same all) is
 
+small_enough : (team n most : ℕ) → team < n → n ≤ most → most ≤ 500 → team + 1 < 2 ^ 64
+small_enough team n most l m k = omega (arith, l, m, k)
+
+-- a team's number fits
+pub number_fits : (x : ContestState) (f : FixedPart) (team : ℕ) → is_valid x ≡ true → x.fixed ≡ f → team < length f.settings.teams → team + 1 < 2 ^ 64
+number_fits x f team valid same there =
+    let settings : IsValid x.fixed.settings = is_settings x (parts x valid).settings in
+    let here : team < length x.fixed.settings.teams = subst (λ (g : FixedPart). team < length g.settings.teams) (sym same) there in
+    small_enough team (length x.fixed.settings.teams) TEAMS here settings.few_teams (omega arith)
+
 pub caller_fits : (x : ContestState) (f : FixedPart) (o : Option ℕ) → is_valid x ≡ true → x.fixed ≡ f → IfSome o (λ team. team < length f.settings.teams) → IfSome o (λ team. team + 1 < 2 ^ 64)
 caller_fits x f None valid same there = tt
 caller_fits x f (Some team) valid same there = number_fits x f team valid same there
@@ -91,3 +107,45 @@ pub judge_there : (f : FixedPart) (credential : Credential) (who : Caller) → c
 judge_there f Absent who is = let e : None ≡ who = cc is in subst (λ w. IfSome (judge_of w) (λ account. is_some (account_named f.accounts account) ≡ true)) e tt
 judge_there f (Token token) who is = held_judge f.accounts (λ (b : Account). bytes_eq b.digest (sha256 token)) who (holder_of f.accounts token) refl is
 judge_there f Bad who is = absurd (cc is)
+
+-- the account that a caller holds is the one with its id
+found_among : (p : Account → Bool) (accounts : List Account) (a : Account) → find p accounts ≡ Some a → is_among (map (λ (b : Account). b.id) accounts) a.id ≡ true
+found_among p [] a h = absurd (cc h)
+found_among p (b ∷ bs) a h =
+    let go : (c : Bool) → (if c then Some b else find p bs) ≡ Some a → (d : Bool) → bytes_eq b.id a.id ≡ d → (d || is_among (map (λ (c : Account). c.id) bs) a.id) ≡ true = elim [
+      | true ↦ λ e. elim [ true ↦ λ same. refl | false ↦ λ other. (let is : b ≡ a = cc e in absurd (false≢true (sym other ∙ (ap (λ (k : Account). bytes_eq k.id a.id) is ∙ (bytes_eq-Decides a.id a.id).1 refl)))) ]
+      | false ↦ λ e. elim [ true ↦ λ same. refl | false ↦ λ other. found_among p bs a e ]
+    ] in
+    go (p b) h (bytes_eq b.id a.id) refl
+
+named_once : (p : Account → Bool) (accounts : List Account) (a : Account) → are_different (map (λ (b : Account). b.id) accounts) ≡ true → find p accounts ≡ Some a → account_named accounts a.id ≡ Some a
+named_once p [] a once h = absurd (cc h)
+named_once p (b ∷ bs) a once h =
+    let new : is_among (map (λ (c : Account). c.id) bs) b.id ≡ false = not_true _ (and_left (not (is_among (map (λ (c : Account). c.id) bs) b.id)) _ once) in
+    let go : (c : Bool) → (if c then Some b else find p bs) ≡ Some a → (d : Bool) → bytes_eq b.id a.id ≡ d → (if d then Some b else account_named bs a.id) ≡ Some a = elim [
+      | true ↦ λ e. elim [ true ↦ λ same. e | false ↦ λ other. (let is : b ≡ a = cc e in absurd (false≢true (sym other ∙ (ap (λ (k : Account). bytes_eq k.id a.id) is ∙ (bytes_eq-Decides a.id a.id).1 refl)))) ]
+      | false ↦ λ e. elim [
+        | true ↦ λ same. absurd (false≢true (sym new ∙ (ap (is_among (map (λ (c : Account). c.id) bs)) (same_bytes b.id a.id same) ∙ found_among p bs a e)))
+        | false ↦ λ other. named_once p bs a (and_right (not (is_among (map (λ (c : Account). c.id) bs) b.id)) _ once) e
+      ]
+    ] in
+    go (p b) h (bytes_eq b.id a.id) refl
+
+held_once : (accounts : List Account) (p : Account → Bool) (who : Caller) (o : Option Account) → are_different (map (λ (b : Account). b.id) accounts) ≡ true → find p accounts ≡ o → option_map Some o ≡ Some who
+    → IfSome who (λ a. account_named accounts a.id ≡ Some a)
+held_once accounts p who None once at is = absurd (cc is)
+held_once accounts p who (Some a) once at is =
+    let e : Some a ≡ who = cc is in
+    subst (λ (w : Caller). IfSome w (λ b. account_named accounts b.id ≡ Some b)) e (named_once p accounts a once at)
+
+pub account_there : (x : ContestState) (credential : Credential) (who : Caller) → is_valid x ≡ true → caller_of x.fixed credential ≡ Some who → IfSome who (λ a. account_named x.fixed.accounts a.id ≡ Some a)
+account_there x Absent who valid is = let e : None ≡ who = cc is in subst (λ (w : Caller). IfSome w (λ a. account_named x.fixed.accounts a.id ≡ Some a)) e tt
+account_there x (Token token) who valid is =
+    held_once x.fixed.accounts (λ (b : Account). bytes_eq b.digest (sha256 token)) who (holder_of x.fixed.accounts token)
+    (four (list_all (is_valid_account x.fixed.settings) x.fixed.accounts) (are_different (map (λ (a : Account). a.id) x.fixed.accounts)) _ _ (parts x valid).accounts).second refl is
+account_there x Bad who valid is = absurd (cc is)
+
+-- who writes has a number that fits
+pub writer_fits : (x : ContestState) (s : Sender) (account : List ℕ) → is_valid x ≡ true → IsWriter x.fixed s account → HasAudience s
+writer_fits x (sender.Team team) account valid writer = number_fits x x.fixed team valid refl writer.0
+writer_fits x sender.Jury account valid writer = tt

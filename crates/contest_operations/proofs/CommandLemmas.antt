@@ -1,61 +1,107 @@
 -- What every command keeps to: one line of each lemma is a command's.
-use Rattle.std.proofs.Common.{◌≡◌, ℕ, true, refl, ap}
+use Rattle.std.proofs.Common.{◌≡◌, ℕ, true, false, refl, ap, subst}
+use Rattle.std.specs.Prelude.{is_some}
+use Rattle.std.proofs.lemmas.Bool.{eqb-true}
 use Rattle.contest_types.specs.Addable.{are_addable}
 use Rattle.contest_types.specs.State.{ContestState, FixedPart, add_all}
 use Rattle.contest_types.specs.Valid.{is_valid}
+use Rattle.contest_types.proofs.PlaceLemmas.{both_true}
+use Rattle.contest_rules.specs.Proposing.{entries_of, propose}
+use Rattle.contest_rules.specs.Submitting.{have_equal_content}
+use Rattle.contest_rules.specs.Verifying.{verify}
+use Rattle.contest_types.specs.declared.refusal.Refusal.TheVariants.{KeyReused}
+use Rattle.contest_rules.proofs.ProposedLemmas.{proposed_is_addable}
+use Rattle.contest_rules.proofs.VerifiedLemmas.{verified_is_addable}
 use Rattle.contest_operations.specs.Callers.{Caller, judge_of, team_of}
-use Rattle.contest_operations.specs.Commands.{IsSoundPost, post_outcome, posted_as, posted_by}
+use Rattle.contest_operations.specs.Commands.{IsSoundPost, are_in_one_scope, ask_for_the_same, key_of, post_done, post_outcome, posted_as, posted_by, reaches_key}
+use Rattle.contest_operations.specs.Growing.{Grows}
+use Rattle.contest_operations.specs.Outcomes.{refusing, replying}
+use Rattle.contest_postings.specs.PostProposal.{proposal_object}
+use Rattle.contest_operations.specs.PostedSubmissions.{submission_outcome}
+use Rattle.contest_postings.specs.PostVerification.{release_entries, release_object}
 use Rattle.contest_operations.specs.Laws.{PostsAlike}
-use Rattle.contest_operations.specs.Continuing.{Continues}
 use Rattle.contest_operations.specs.Replies.{IsOrdinary}
 use Rattle.contest_operations.specs.declared.command.Command.{Command}
-use Rattle.contest_operations.specs.declared.command.Command.TheVariants.{Submit, Propose, Verify}
+use Rattle.contest_operations.specs.declared.command.Command.TheVariants.{Submit, Clarify, Propose, Verify}
 use Rattle.contest_operations.specs.declared.command.Posted.{Posted}
-use Rattle.contest_operations.specs.declared.command.Posted.TheVariants.{Submission, Proposal, Verification}
-use Rattle.contest_operations.specs.declared.request.Method.TheVariants.{Get, Head}
-use Rattle.contest_operations.specs.declared.request.Request.{Request}
+use Rattle.contest_operations.specs.declared.command.Posted.TheVariants.{Submission, Clarification, Proposal, Verification}
+use Rattle.contest_requests.specs.declared.request.Method.TheVariants.{Get, Head}
+use Rattle.contest_requests.specs.declared.request.Request.{Request}
+use Rattle.contest_operations.specs.PostedClarifications.{clarification_outcome}
+use Rattle.contest_operations.proofs.ClarificationFacts.{clarification_addable, clarification_known, clarification_refusal_ordinary, clarification_unmoved}
+use Rattle.contest_operations.proofs.RepeatedClarifications.{clarification_repeats}
+use Rattle.contest_operations.proofs.SaidAlike.{said_posts_alike}
+use Rattle.contest_operations.proofs.DoneLemmas.{done_addable, told_ordinary, told_quiet}
 use Rattle.contest_operations.proofs.PostedFacts.{IfKnownPost, IsQuiet, IsThere, OrdinaryRefusal}
-use Rattle.contest_operations.proofs.ProposalLaws.{proposal_addable, proposal_continues, proposal_ordinary, proposal_quiet}
+use Rattle.contest_operations.proofs.RepeatedSubmissions.{submission_repeats}
 use Rattle.contest_operations.proofs.VerdictFacts.{proposal_known, verdict_refusal_ordinary, verdict_unmoved, verification_known}
-use Rattle.contest_operations.proofs.VerificationLaws.{verification_addable, verification_continues, verification_ordinary, verification_quiet}
-use Rattle.contest_operations.proofs.SubmitLaws.{submission_known, submission_refusal_ordinary, submission_ordinary, submission_quiet, submission_addable, submissions_alike, submission_continues, submission_unmoved}
+use Rattle.contest_operations.proofs.SubmitLaws.{submission_known, submission_refusal_ordinary, submission_addable, submissions_alike, submission_unmoved}
 
 pub post_known : (f : FixedPart) (who : Caller) (command : Command) (request : Request) → IsThere f who → IfKnownPost f who (posted_by f who command request)
 post_known f who Submit request there = submission_known f who (team_of who) request refl there.team
+post_known f who Clarify request there = clarification_known f who request there
 post_known f who Propose request there = proposal_known f who (judge_of who) request refl there.judge
 post_known f who Verify request there = verification_known f who (judge_of who) request refl there.judge
 
 pub post_refusal_ordinary : (f : FixedPart) (who : Caller) (command : Command) (request : Request) → OrdinaryRefusal (posted_by f who command request)
 post_refusal_ordinary f who Submit request = submission_refusal_ordinary f (team_of who) request
+post_refusal_ordinary f who Clarify request = clarification_refusal_ordinary f who request
 post_refusal_ordinary f who Propose request = verdict_refusal_ordinary Proposal (judge_of who) request
 post_refusal_ordinary f who Verify request = verdict_refusal_ordinary Verification (judge_of who) request
 
 pub post_ordinary : (now : ℕ) (posted : Posted) (x : ContestState) → IsOrdinary (post_outcome now posted x).reply
-post_ordinary now (Submission team w) x = submission_ordinary now team w x
-post_ordinary now (Proposal v) x = proposal_ordinary now v x
-post_ordinary now (Verification v) x = verification_ordinary now v x
+post_ordinary now posted x = told_ordinary (post_done now posted x)
 
 pub post_quiet : (now : ℕ) (posted : Posted) (x : ContestState) → IsQuiet (post_outcome now posted x)
-post_quiet now (Submission team w) x = submission_quiet now team w x
-post_quiet now (Proposal v) x = proposal_quiet now v x
-post_quiet now (Verification v) x = verification_quiet now v x
+post_quiet now posted x = told_quiet (post_done now posted x)
 
 pub post_addable : (now : ℕ) (posted : Posted) (x : ContestState) → is_valid x ≡ true → IsSoundPost x.fixed posted → are_addable x (post_outcome now posted x).entries ≡ true
 post_addable now (Submission team w) x valid sound = submission_addable now team w x valid sound
-post_addable now (Proposal v) x valid sound = proposal_addable now v x sound
-post_addable now (Verification v) x valid sound = verification_addable now v x
+post_addable now (Clarification c) x valid sound = clarification_addable now c x sound
+post_addable now (Proposal v) x valid sound = done_addable x (proposal_object x.fixed) entries_of (propose x.fixed x.submissions x.proposals x.releases now v.account v.wanted) (λ d is. proposed_is_addable x now v.account v.wanted d sound is)
+post_addable now (Verification v) x valid sound = done_addable x (release_object x.fixed) release_entries (verify x.fixed x.submissions x.proposals x.releases now v.account v.wanted) (λ r is. both_true _ _ (verified_is_addable x now v.account v.wanted r is) refl)
 
-pub post_continues : (now : ℕ) (posted : Posted) (x : ContestState) → is_valid x ≡ true → IsSoundPost x.fixed posted → Continues x (add_all x (post_outcome now posted x).entries)
-post_continues now (Submission team w) x valid sound = submission_continues now team w x valid sound
-post_continues now (Proposal v) x valid sound = proposal_continues now v x
-post_continues now (Verification v) x valid sound = verification_continues now v x
+-- a post under a key that is answered as done is repeated by whoever asks for the same, and by no other
+pub post_repeats : (x y : ContestState) (now later : ℕ) (first : Posted) → IsSoundPost x.fixed first → is_some (key_of first) ≡ true
+    → (post_outcome now first x).reply.status ≡ 200 → Grows (add_all x (post_outcome now first x).entries) y
+    → (post_outcome later first y ≡ replying (post_outcome now first x).reply)
+    × ((again : Posted) → key_of again ≡ key_of first → are_in_one_scope first again ≡ true → reaches_key y again ≡ true
+    → (ask_for_the_same first again ≡ true → post_outcome later again y ≡ replying (post_outcome now first x).reply)
+    × (ask_for_the_same first again ≡ false → post_outcome later again y ≡ refusing KeyReused))
+post_repeats x y now later (Submission team v) sound some done grows =
+    let r = submission_repeats x y now later team v sound some done grows in
+    let on : (again : Posted) → key_of again ≡ v.key → are_in_one_scope (Submission team v) again ≡ true → reaches_key y again ≡ true
+    → (ask_for_the_same (Submission team v) again ≡ true → post_outcome later again y ≡ replying (submission_outcome now team v x).reply)
+    × (ask_for_the_same (Submission team v) again ≡ false → post_outcome later again y ≡ refusing KeyReused) = elim [
+      | (Submission other w) ↦ λ same scope reaches. (let e : team ≡ other = eqb-true team other scope in
+          subst (λ u. (have_equal_content v w ≡ true → submission_outcome later u w y ≡ replying (submission_outcome now team v x).reply) × (have_equal_content v w ≡ false → submission_outcome later u w y ≡ refusing KeyReused)) e (r.1 w same reaches))
+      | (Clarification d) ↦ λ same scope reaches. absurd (cc scope)
+      | (Proposal u) ↦ λ same scope reaches. absurd (cc scope)
+      | (Verification u) ↦ λ same scope reaches. absurd (cc scope)
+    ] in
+    (r.0, on)
+post_repeats x y now later (Clarification c) sound some done grows =
+    let r = clarification_repeats x y now later c sound some done grows in
+    let on : (again : Posted) → key_of again ≡ c.wanted.key → are_in_one_scope (Clarification c) again ≡ true → reaches_key y again ≡ true
+    → (ask_for_the_same (Clarification c) again ≡ true → post_outcome later again y ≡ replying (clarification_outcome now c x).reply)
+    × (ask_for_the_same (Clarification c) again ≡ false → post_outcome later again y ≡ refusing KeyReused) = elim [
+      | (Submission other w) ↦ λ same scope reaches. absurd (cc scope)
+      | (Clarification d) ↦ λ same scope reaches. r.1 d same scope reaches
+      | (Proposal u) ↦ λ same scope reaches. absurd (cc scope)
+      | (Verification u) ↦ λ same scope reaches. absurd (cc scope)
+    ] in
+    (r.0, on)
+post_repeats x y now later (Proposal v) sound some done grows = absurd (cc some)
+post_repeats x y now later (Verification v) sound some done grows = absurd (cc some)
 
 pub posts_alike : PostsAlike
 posts_alike now (Submission team w) x y other valid_x valid_y sound h = submissions_alike now team w x y valid_x valid_y sound h
+posts_alike now (Clarification c) x y other valid_x valid_y sound h = said_posts_alike now c x y other valid_x valid_y h
 posts_alike now (Proposal v) x y other valid_x valid_y sound h = absurd (other refl)
 posts_alike now (Verification v) x y other valid_x valid_y sound h = absurd (other refl)
 
 pub post_unmoved : (f : FixedPart) (who : Caller) (command : Command) (request : Request) → posted_by f who command (record request { method = Head }) ≡ posted_by f who command (record request { method = Get })
 post_unmoved f who Submit request = submission_unmoved f (team_of who) request
+post_unmoved f who Clarify request = ap (posted_as Clarification) (clarification_unmoved f who request)
 post_unmoved f who Propose request = ap (posted_as Proposal) (verdict_unmoved (judge_of who) request)
 post_unmoved f who Verify request = ap (posted_as Verification) (verdict_unmoved (judge_of who) request)

@@ -12,8 +12,8 @@ use Rattle.contest_operations.specs.declared.offer.Offer.{Offer}
 use Rattle.contest_operations.specs.declared.operation.Operation.{Operation}
 use Rattle.contest_operations.specs.declared.operation.Operation.TheVariants.{Read, Do}
 use Rattle.contest_operations.specs.declared.reply.Reply.{Reply}
-use Rattle.contest_operations.specs.declared.request.Method.TheVariants.{Get, Head}
-use Rattle.contest_operations.specs.declared.request.Request.{Request}
+use Rattle.contest_requests.specs.declared.request.Method.TheVariants.{Get, Head}
+use Rattle.contest_requests.specs.declared.request.Request.{Request}
 use Rattle.contest_operations.proofs.CommandLemmas.{post_unmoved}
 
 there_alike : (contest path : List ℕ) (o : Option Offer) → asked_there contest path Head o ≡ asked_there contest path Get o

@@ -7,25 +7,25 @@ use Rattle.contest_types.specs.State.{FixedPart, ContestState}
 use Rattle.contest_types.specs.Valid.{is_valid}
 use Rattle.contest_types.specs.declared.audience.Audience.{Audience}
 use Rattle.contest_types.proofs.AddEntry.{adding_all}
-use Rattle.contest_view.specs.ContestObjects.{whole_data}
-use Rattle.contest_view.specs.SettingsObjects.{settings_data, setting_found}
-use Rattle.contest_boards.proofs.BoardLaws.{scoreboard_alike}
-use Rattle.contest_verdicts.proofs.JudgementLaws.{judgements_alike, proposals_alike}
+use Rattle.contest_objects.specs.ContestObjects.{whole_data}
+use Rattle.contest_objects.specs.SettingsObjects.{settings_data, setting_found}
+use Rattle.contest_view.proofs.BoardLaws.{scoreboard_alike}
+use Rattle.contest_view.proofs.JudgementLaws.{judgements_alike, proposals_alike}
 use Rattle.contest_view.proofs.FileReadLemmas.{files_alike}
-use Rattle.contest_view.proofs.ReadLaws.{alike_read}
+use Rattle.contest_view.proofs.ReadLaws.{alike_read, clarifications_alike}
 use Rattle.contest_operations.specs.Callers.{Caller, caller_of, audience_of}
-use Rattle.contest_operations.specs.Laws.{StayAlike, ReadsAlike, StepsAlike, StepsKeepValid}
+use Rattle.contest_operations.specs.Laws.{StayAlike, ReadsAlike, StepAlike, StepsKeepValid}
 use Rattle.contest_operations.specs.Outcomes.{replying}
 use Rattle.contest_operations.specs.Paths.{object_piece}
 use Rattle.contest_operations.specs.Commands.{post_outcome}
 use Rattle.contest_operations.specs.Readings.{file_told, read, told}
 use Rattle.contest_operations.specs.Step.{wish_or_reply, outcome_of, outcome}
 use Rattle.contest_operations.specs.Wishes.{wish_outcome, IsSound}
-use Rattle.contest_operations.specs.declared.operation.Endpoint.TheVariants.{Settings, Submissions, Judgements}
+use Rattle.contest_operations.specs.declared.operation.Endpoint.TheVariants.{Settings, Submissions, Judgements, Clarifications}
 use Rattle.contest_operations.specs.declared.operation.Reading.TheVariants.{Whole, List as AllOf, Object, File, Scoreboard, Proposals}
 use Rattle.contest_operations.specs.declared.reply.Reply.{Reply}
-use Rattle.contest_operations.specs.declared.request.Credential.{Credential}
-use Rattle.contest_operations.specs.declared.request.Request.{Request}
+use Rattle.contest_requests.specs.declared.request.Credential.{Credential}
+use Rattle.contest_requests.specs.declared.request.Request.{Request}
 use Rattle.contest_operations.specs.declared.wish.Wish.{Wish}
 use Rattle.contest_operations.specs.declared.wish.Wish.TheVariants.{Read, Do}
 use Rattle.contest_operations.proofs.CommandLemmas.{post_addable, posts_alike}
@@ -36,9 +36,11 @@ reads_alike a now x y (Whole endpoint) path held h = ap (λ (f : FixedPart). tol
 reads_alike a now x y (AllOf (Settings endpoint)) path held h = ap (λ (f : FixedPart). told (Some (settings_data endpoint f.settings))) h.fixed
 reads_alike a now x y (AllOf Submissions) path held h = ap (λ d. told (Some d)) (alike_read a now x y held h).0
 reads_alike a now x y (AllOf Judgements) path held h = ap (λ d. told (Some d)) (judgements_alike a now x y held h).0
+reads_alike a now x y (AllOf Clarifications) path held h = ap (λ d. told (Some d)) (clarifications_alike a x y h).0
 reads_alike a now x y (Object (Settings endpoint)) path held h = ap (λ (f : FixedPart). told (setting_found endpoint f.settings (object_piece path))) h.fixed
 reads_alike a now x y (Object Submissions) path held h = ap told ((alike_read a now x y held h).1 (object_piece path))
 reads_alike a now x y (Object Judgements) path held h = ap told ((judgements_alike a now x y held h).1 (object_piece path))
+reads_alike a now x y (Object Clarifications) path held h = ap told ((clarifications_alike a x y h).1 (object_piece path))
 reads_alike a now x y File path held h = ap file_told (files_alike a now x y (object_piece path) held h)
 reads_alike a now x y Scoreboard path held h = ap (λ d. told (Some d)) (scoreboard_alike a now x y held h)
 reads_alike a now x y Proposals path held h = ap (λ d. told (Some d)) (proposals_alike a now x y held h)
@@ -59,8 +61,8 @@ of_alike : (a : Audience) (now : ℕ) (o : Option Caller) (r : Result Wish Reply
 of_alike a now o (Err reply) x y valid_x valid_y known sight held h = (refl, h)
 of_alike a now o (Ok wish) x y valid_x valid_y known sight held h = come_alike a now wish x y valid_x valid_y known.sound (speaks_as a o wish known.speaks sight) held h
 
-pub steps_alike : StepsAlike
-steps_alike a now credential request x y valid_x valid_y sight held h =
+pub step_alike : StepAlike
+step_alike a now credential request x y valid_x valid_y sight held h =
     subst (λ q. StayAlike a x y (outcome x now credential request) q) (λ i. outcome_of y now (wish_or_reply (h.fixed i) credential request))
     (of_alike a now (caller_of x.fixed credential) (wish_or_reply x.fixed credential request) x y valid_x valid_y (wished_known x credential request valid_x) sight held h)
 

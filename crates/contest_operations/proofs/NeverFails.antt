@@ -19,8 +19,8 @@ use Rattle.contest_operations.proofs.WishLemmas.{OrdinaryError, wished_ordinary}
 use Rattle.contest_operations.specs.Replies.{IsOrdinary}
 use Rattle.contest_operations.specs.Step.{wish_or_reply, outcome_of, step}
 use Rattle.contest_operations.specs.declared.reply.Reply.{Reply}
-use Rattle.contest_operations.specs.declared.request.Credential.{Credential}
-use Rattle.contest_operations.specs.declared.request.Request.{Request}
+use Rattle.contest_requests.specs.declared.request.Credential.{Credential}
+use Rattle.contest_requests.specs.declared.request.Request.{Request}
 
 found_ordinary : (o : Option Data) → IsOrdinary (told o)
 found_ordinary None = refl

@@ -50,7 +50,8 @@ pub jury_sight : (who : Caller) (account : List ℕ) → judge_of who ≡ Some a
 jury_sight None account is = absurd (cc is)
 jury_sight (Some a) account is = judging_sight a.role a.id account is
 
--- a caller speaks for a team that is there, or judges by an account that is
+-- a caller speaks for a team that is there, or judges by an account that is; the account that it holds is found by its id
 pub record IsThere (f : FixedPart) (who : Caller) : Type 0 where
   pub team : IfSome (team_of who) (λ team. team < length f.settings.teams)
   pub judge : IfSome (judge_of who) (λ account. is_some (account_named f.accounts account) ≡ true)
+  pub account : IfSome who (λ a. account_named f.accounts a.id ≡ Some a)

@@ -18,12 +18,12 @@ use Rattle.contest_operations.specs.declared.command.Posted.{Posted}
 use Rattle.contest_operations.specs.declared.operation.Operation.{Operation}
 use Rattle.contest_operations.specs.declared.operation.Operation.TheVariants.{Read as ToRead, Do as ToDo}
 use Rattle.contest_operations.specs.declared.reply.Reply.{Reply}
-use Rattle.contest_operations.specs.declared.request.Credential.{Credential}
-use Rattle.contest_operations.specs.declared.request.Method.{Method}
-use Rattle.contest_operations.specs.declared.request.Request.{Request}
+use Rattle.contest_requests.specs.declared.request.Credential.{Credential}
+use Rattle.contest_requests.specs.declared.request.Method.{Method}
+use Rattle.contest_requests.specs.declared.request.Request.{Request}
 use Rattle.contest_operations.specs.declared.wish.Wish.{Wish}
 use Rattle.contest_operations.specs.declared.wish.Wish.TheVariants.{Read, Do}
-use Rattle.contest_operations.proofs.CallerLemmas.{caller_there, judge_there}
+use Rattle.contest_operations.proofs.CallerLemmas.{account_there, caller_there, judge_there}
 use Rattle.contest_operations.proofs.CommandLemmas.{post_known, post_refusal_ordinary}
 use Rattle.contest_operations.proofs.PostedFacts.{IfKnownPost, IsThere, OrdinaryRefusal}
 
@@ -65,7 +65,7 @@ by_known f (Some who) request (Ok operation) there = refused_known f (Some who) 
 
 known_there : (x : ContestState) (credential : Credential) (o : Option Caller) → is_valid x ≡ true → caller_of x.fixed credential ≡ o → IfSome o (IsThere x.fixed)
 known_there x credential None valid is = tt
-known_there x credential (Some who) valid is = record { team = caller_there x x.fixed credential who valid refl is; judge = judge_there x.fixed credential who is }
+known_there x credential (Some who) valid is = record { team = caller_there x x.fixed credential who valid refl is; judge = judge_there x.fixed credential who is; account = account_there x credential who valid is }
 
 pub wished_known : (x : ContestState) (credential : Credential) (request : Request) → is_valid x ≡ true → IfKnown x.fixed (caller_of x.fixed credential) (wish_or_reply x.fixed credential request)
 wished_known x credential request valid =

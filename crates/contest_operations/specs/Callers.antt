@@ -10,8 +10,8 @@ use Rattle.contest_types.specs.declared.account.Role.{Role}
 use Rattle.contest_types.specs.declared.account.Role.TheVariants as role
 use Rattle.contest_types.specs.declared.audience.Audience.{Audience}
 use Rattle.contest_types.specs.declared.audience.Audience.TheVariants as audience
-use Rattle.contest_operations.specs.declared.request.Credential.{Credential}
-use Rattle.contest_operations.specs.declared.request.Credential.TheVariants.{Absent, Token, Bad}
+use Rattle.contest_requests.specs.declared.request.Credential.{Credential}
+use Rattle.contest_requests.specs.declared.request.Credential.TheVariants.{Absent, Token, Bad}
 
 -- anyone, or the holder of an account
 abbrev pub Caller : Type 0

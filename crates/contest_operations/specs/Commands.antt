@@ -1,25 +1,32 @@
 -- The commands: who may give each, what its body says, and what becomes of it (own). One line of each
 -- definition is a command's.
-use Rattle.std.specs.Prelude.{ℕ, Bool, List, Option, None, Result, Ok, Err, is_some}
-use Rattle.std.specs.Option.{option_and_then}
-use Rattle.contest_types.specs.Loads.{file_of}
+use Rattle.std.specs.Prelude.{ℕ, Bool, false, ◌==◌, List, Option, None, Result, Ok, Err, is_some}
 use Rattle.contest_types.specs.Masks.{audience_at}
 use Rattle.contest_types.specs.State.{FixedPart, ContestState}
 use Rattle.contest_types.specs.declared.audience.Audience.{Audience}
 use Rattle.contest_types.specs.declared.audience.Audience.TheVariants.{Jury}
 use Rattle.contest_types.specs.declared.refusal.Refusal.{Refusal}
+use Rattle.contest_types.specs.ValidClarifications.{same_scope}
+use Rattle.contest_rules.specs.Clarifying.{audience_of, named_clarification, scope_for, want_the_same}
+use Rattle.contest_rules.specs.Laws.{IsWriter}
+use Rattle.contest_rules.specs.Submitting.{have_equal_content, is_complete}
+use Rattle.contest_rules.specs.declared.rule_refusal.RuleRefusal.{RuleRefusal}
 use Rattle.contest_operations.specs.Callers.{Caller, judge_of, team_of}
-use Rattle.contest_operations.specs.Outcomes.{Outcome}
-use Rattle.contest_operations.specs.OwnSubmissions.{keyed_row}
-use Rattle.contest_operations.specs.JuryVerdicts.{IsSoundVerdict, posted_verdict}
-use Rattle.contest_operations.specs.PostProposal.{proposal_outcome}
-use Rattle.contest_operations.specs.PostSubmission.{IsSoundSubmission, posted_submission, submission_outcome}
-use Rattle.contest_operations.specs.PostVerification.{verification_outcome}
+use Rattle.contest_postings.specs.DoneThings.{Done}
+use Rattle.contest_operations.specs.Outcomes.{Outcome, told}
+use Rattle.contest_requests.specs.JuryVerdicts.{IsSoundVerdict, posted_verdict}
+use Rattle.contest_operations.specs.PostedClarifications.{posted_clarification}
+use Rattle.contest_postings.specs.PostClarification.{clarification_done}
+use Rattle.contest_postings.specs.PostProposal.{proposal_done}
+use Rattle.contest_operations.specs.PostedSubmissions.{IsSoundSubmission, posted_submission}
+use Rattle.contest_postings.specs.PostSubmission.{submission_done}
+use Rattle.contest_postings.specs.PostVerification.{verification_done}
 use Rattle.contest_operations.specs.declared.command.Command.{Command}
-use Rattle.contest_operations.specs.declared.command.Command.TheVariants.{Submit, Propose, Verify}
+use Rattle.contest_operations.specs.declared.command.Command.TheVariants.{Submit, Clarify, Propose, Verify}
 use Rattle.contest_operations.specs.declared.command.Posted.{Posted}
-use Rattle.contest_operations.specs.declared.command.Posted.TheVariants.{Submission, Proposal, Verification}
-use Rattle.contest_operations.specs.declared.request.Request.{Request}
+use Rattle.contest_operations.specs.declared.command.Posted.TheVariants.{Submission, Clarification, Proposal, Verification}
+use Rattle.contest_requests.specs.declared.request.Request.{Request}
+use Rattle.contest_postings.specs.OwnSubmissions.{keyed_row}
 
 abbrev pub posted_as : {A : Type 0} → (A → Posted) → Result A Refusal → Result Posted Refusal
 posted_as make (Err refusal) = Err refusal
@@ -28,39 +35,71 @@ posted_as make (Ok a) = Ok (make a)
 -- what a caller posts by a command: its role first, then its body
 abbrev pub posted_by : FixedPart → Caller → Command → Request → Result Posted Refusal
 posted_by f who Submit request = posted_submission f (team_of who) request
+posted_by f who Clarify request = posted_as Clarification (posted_clarification f who request)
 posted_by f who Propose request = posted_as Proposal (posted_verdict (judge_of who) request)
 posted_by f who Verify request = posted_as Verification (posted_verdict (judge_of who) request)
 
 -- what is known of it once it is read
 abbrev pub IsSoundPost : FixedPart → Posted → Type 0
 IsSoundPost f (Submission team wanted) = IsSoundSubmission f team wanted
+IsSoundPost f (Clarification c) = IsWriter f c.sender c.account
 IsSoundPost f (Proposal v) = IsSoundVerdict f v
 IsSoundPost f (Verification v) = IsSoundVerdict f v
 
 -- who posts it
 abbrev pub poster : Posted → Audience
 poster (Submission team wanted) = audience_at team
+poster (Clarification c) = audience_of c.sender
 poster (Proposal v) = Jury
 poster (Verification v) = Jury
 
--- what becomes of it at a moment
+-- what is done at a moment, or why not
+abbrev pub post_done : (now : ℕ) → Posted → ContestState → Result Done RuleRefusal
+post_done now (Submission team wanted) x = submission_done now team wanted x
+post_done now (Clarification c) x = clarification_done now c.sender c.account c.wanted x
+post_done now (Proposal v) x = proposal_done now v x
+post_done now (Verification v) x = verification_done now v x
+
+-- what becomes of it
 abbrev pub post_outcome : (now : ℕ) → Posted → ContestState → Outcome
-post_outcome now (Submission team wanted) x = submission_outcome now team wanted x
-post_outcome now (Proposal v) x = proposal_outcome now v x
-post_outcome now (Verification v) x = verification_outcome now v x
+post_outcome now posted x = told (post_done now posted x)
 
 -- reading the body, or building the reply, may take memory: not where the caller's role forbids it
 abbrev pub post_takes_memory : Caller → Command → Bool
 post_takes_memory who Submit = is_some (team_of who)
+post_takes_memory who Clarify = is_some who
 post_takes_memory who Propose = is_some (judge_of who)
 post_takes_memory who Verify = is_some (judge_of who)
 
 -- whose file is looked at, by its team and its number: files are large, and no more than one is
 abbrev pub post_file : Posted → ContestState → Option (ℕ × ℕ)
 post_file (Submission team wanted) x = keyed_row team wanted.key x.submissions
+post_file (Clarification c) x = None
 post_file (Proposal v) x = None
 post_file (Verification v) x = None
 
--- the file of a submission, if there is one
-abbrev pub file_at : ContestState → Option (ℕ × ℕ) → Option (List ℕ)
-file_at x needed = option_and_then (λ (s : ℕ × ℕ). file_of x s.0 s.1) needed
+-- the idempotency key that it comes with, if there is one
+abbrev pub key_of : Posted → Option (List ℕ)
+key_of (Submission team wanted) = wanted.key
+key_of (Clarification c) = c.wanted.key
+key_of (Proposal v) = None
+key_of (Verification v) = None
+
+-- two are of one sender, and ask for rows of one kind
+abbrev pub are_in_one_scope : Posted → Posted → Bool
+are_in_one_scope (Submission team v) (Submission other w) = team == other
+are_in_one_scope (Clarification c) (Clarification d) = same_scope (scope_for c.sender c.account) (scope_for d.sender d.account)
+are_in_one_scope _ _ = false
+
+-- and for the same
+abbrev pub ask_for_the_same : Posted → Posted → Bool
+ask_for_the_same (Submission team v) (Submission other w) = have_equal_content v w
+ask_for_the_same (Clarification c) (Clarification d) = want_the_same c.sender c.wanted d.wanted
+ask_for_the_same _ _ = false
+
+-- what it names is there, so that its key is looked at
+abbrev pub reaches_key : ContestState → Posted → Bool
+reaches_key x (Submission team wanted) = is_complete x.fixed wanted
+reaches_key x (Clarification c) = is_some (named_clarification x.fixed c.sender x.clarifications c.wanted)
+reaches_key x (Proposal v) = false
+reaches_key x (Verification v) = false

@@ -1,6 +1,8 @@
 -- What holds of every step, in the subject's words. Each is the contract of a function of src/laws.rt.
-use Rattle.std.specs.Prelude.{◌≡◌, ◌≢◌, ℕ, true, List, IfSome}
+use Rattle.std.specs.Prelude.{◌≡◌, ◌≢◌, ◌↔◌, ◌<◌, ℕ, true, All, List, IfSome, Some}
+use Rattle.std.specs.Str.{is_utf8}
 use Rattle.contest_types.specs.Alike.{Alike, MayBeHeld}
+use Rattle.contest_types.specs.Order.{Has}
 use Rattle.contest_types.specs.State.{FixedPart, ContestState, add_all}
 use Rattle.contest_types.specs.Valid.{is_valid}
 use Rattle.contest_types.specs.declared.audience.Audience.{Audience}
@@ -10,11 +12,14 @@ use Rattle.contest_operations.specs.Outcomes.{Outcome}
 use Rattle.contest_operations.specs.Commands.{IsSoundPost, post_outcome, poster}
 use Rattle.contest_operations.specs.Readings.{read}
 use Rattle.contest_operations.specs.Replies.{IsStoreReply}
+use Rattle.contest_operations.specs.RouteReading.{goes_by}
+use Rattle.contest_operations.specs.Routes.{offer_at, route_rows}
 use Rattle.contest_operations.specs.Step.{step}
+use Rattle.contest_operations.specs.declared.offer.Offer.{Offer}
 use Rattle.contest_operations.specs.declared.operation.Reading.{Reading}
-use Rattle.contest_operations.specs.declared.request.Credential.{Credential}
-use Rattle.contest_operations.specs.declared.request.Method.TheVariants.{Get, Head}
-use Rattle.contest_operations.specs.declared.request.Request.{Request}
+use Rattle.contest_requests.specs.declared.request.Credential.{Credential}
+use Rattle.contest_requests.specs.declared.request.Method.TheVariants.{Get, Head}
+use Rattle.contest_requests.specs.declared.request.Request.{Request}
 use Rattle.contest_operations.specs.declared.command.Posted.{Posted}
 
 -- whoever has this credential, if anyone, has the sight of this audience
@@ -39,8 +44,8 @@ PostsAlike =
 
 -- until the thaw, valid contests that are alike for a caller answer each of its requests alike, and are
 -- alike for it afterwards
-abbrev pub StepsAlike : Type 0
-StepsAlike =
+abbrev pub StepAlike : Type 0
+StepAlike =
     (a : Audience) (now : ℕ) (credential : Credential) (request : Request) (x y : ContestState) → is_valid x ≡ true → is_valid y ≡ true
     → HasSight x.fixed credential a → MayBeHeld a now x → Alike a x y
     → ((step x now credential request).0 ≡ (step y now credential request).0) × Alike a (step x now credential request).1 (step y now credential request).1
@@ -58,3 +63,9 @@ StepsKeepValid = (now : ℕ) (credential : Credential) (request : Request) (x : 
 -- no step answers that the store failed or that memory was refused
 abbrev pub StepsNeverFail : Type 0
 StepsNeverFail = (now : ℕ) (credential : Credential) (request : Request) (x : ContestState) → IsStoreReply (step x now credential request).0 → ⊥
+
+-- a path of bytes that are a text is offered what the row of the table offers by which it goes, and nothing if it goes by none
+abbrev pub RoutesRead : Type 0
+RoutesRead =
+    (path : List ℕ) → All (λ b. b < 256) path → is_utf8 path ≡ true → (offer : Offer)
+    → (offer_at path ≡ Some offer) ↔ ((text : List ℕ) × Has route_rows (text, offer) × (goes_by text path ≡ true))

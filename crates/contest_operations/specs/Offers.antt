@@ -6,8 +6,8 @@ use Rattle.contest_operations.specs.declared.offer.Offer.{Offer}
 use Rattle.contest_operations.specs.declared.operation.Operation.{Operation}
 use Rattle.contest_operations.specs.declared.operation.Operation.TheVariants.{Read, Do}
 use Rattle.contest_operations.specs.declared.operation.Reading.{Reading}
-use Rattle.contest_operations.specs.declared.request.Method.{Method}
-use Rattle.contest_operations.specs.declared.request.Method.TheVariants as method
+use Rattle.contest_requests.specs.declared.request.Method.{Method}
+use Rattle.contest_requests.specs.declared.request.Method.TheVariants as method
 
 -- a route on which nothing is served yet
 abbrev pub nothing : Offer

@@ -4,17 +4,18 @@ use Rattle.serde_json.specs.Data.{Data}
 use Rattle.contest_types.specs.State.{ContestState}
 use Rattle.contest_types.specs.declared.audience.Audience.{Audience}
 use Rattle.contest_types.specs.declared.refusal.Refusal.TheVariants.{NotFound}
-use Rattle.contest_boards.specs.Scoreboards.{scoreboard_data}
-use Rattle.contest_verdicts.specs.Judgements.{judgements_data, judgement_found}
-use Rattle.contest_verdicts.specs.Proposals.{proposals_data}
-use Rattle.contest_view.specs.ContestObjects.{whole_data}
+use Rattle.contest_view.specs.Scoreboards.{scoreboard_data}
+use Rattle.contest_view.specs.Clarifications.{clarifications_data, clarification_found}
+use Rattle.contest_view.specs.Judgements.{judgements_data, judgement_found}
+use Rattle.contest_view.specs.Proposals.{proposals_data}
+use Rattle.contest_objects.specs.ContestObjects.{whole_data}
 use Rattle.contest_view.specs.FileReads.{file_found, file_place}
 use Rattle.contest_view.specs.Reads.{submissions_data, submission_found}
-use Rattle.contest_view.specs.SettingsObjects.{settings_data, setting_found}
+use Rattle.contest_objects.specs.SettingsObjects.{settings_data, setting_found}
 use Rattle.contest_operations.specs.Paths.{object_piece}
 use Rattle.contest_operations.specs.Replies.{refused, answer, file_answer}
 use Rattle.contest_operations.specs.declared.operation.Endpoint.{Endpoint}
-use Rattle.contest_operations.specs.declared.operation.Endpoint.TheVariants.{Settings, Submissions, Judgements}
+use Rattle.contest_operations.specs.declared.operation.Endpoint.TheVariants.{Settings, Submissions, Judgements, Clarifications}
 use Rattle.contest_operations.specs.declared.operation.Reading.{Reading}
 use Rattle.contest_operations.specs.declared.operation.Reading.TheVariants.{Whole, List as AllOf, Object, File, Scoreboard, Proposals}
 use Rattle.contest_operations.specs.declared.reply.Reply.{Reply}
@@ -24,12 +25,14 @@ abbrev pub all_data : Audience → ℕ → ContestState → Endpoint → Data
 all_data a now x (Settings endpoint) = settings_data endpoint x.fixed.settings
 all_data a now x Submissions = submissions_data a now x
 all_data a now x Judgements = judgements_data a now x
+all_data a now x Clarifications = clarifications_data a x
 
 -- the one with this id, if the audience sees one
 abbrev pub object_found : Audience → ℕ → ContestState → Endpoint → (id : List ℕ) → Option Data
 object_found a now x (Settings endpoint) id = setting_found endpoint x.fixed.settings id
 object_found a now x Submissions id = submission_found a now x id
 object_found a now x Judgements id = judgement_found a now x id
+object_found a now x Clarifications id = clarification_found a x id
 
 -- what isn't seen is answered as what isn't there
 abbrev pub told : Option Data → Reply
@@ -52,5 +55,9 @@ read a now x Proposals path = told (Some (proposals_data a now x))
 
 -- whose file is looked at, by its team and its number: one that the audience may read, or none
 abbrev pub read_file : Audience → Reading → (path : List ℕ) → ContestState → Option (ℕ × ℕ)
+read_file a (Whole endpoint) path x = None
+read_file a (AllOf endpoint) path x = None
+read_file a (Object endpoint) path x = None
 read_file a File path x = file_place a x.fixed x.submissions (object_piece path)
-read_file a _ path x = None
+read_file a Scoreboard path x = None
+read_file a Proposals path x = None

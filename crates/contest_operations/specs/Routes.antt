@@ -9,12 +9,12 @@ use Rattle.matchit.specs.Route.{Scan, parse_route}
 use Rattle.matchit.specs.Router.{RouteOf, route_from, nearest}
 use Rattle.matchit.specs.Seek.{first}
 use Rattle.matchit.specs.declared.error.InsertError.{InsertError}
-use Rattle.contest_view.specs.declared.contest_objects.ContestEndpoint.TheVariants.{Contests, Contest, State}
-use Rattle.contest_view.specs.declared.settings_objects.SettingsEndpoint.TheVariants.{Groups, JudgementTypes, Languages, Problems, Teams}
+use Rattle.contest_objects.specs.declared.contest_objects.ContestEndpoint.TheVariants.{Contests, Contest, State}
+use Rattle.contest_objects.specs.declared.settings_objects.SettingsEndpoint.TheVariants.{Groups, JudgementTypes, Languages, Problems, Teams}
 use Rattle.contest_operations.specs.Offers.{nothing, reads}
 use Rattle.contest_operations.specs.declared.offer.Offer.{Offer}
-use Rattle.contest_operations.specs.declared.command.Command.TheVariants.{Submit, Propose, Verify}
-use Rattle.contest_operations.specs.declared.operation.Endpoint.TheVariants.{Settings, Submissions, Judgements}
+use Rattle.contest_operations.specs.declared.command.Command.TheVariants.{Submit, Clarify, Propose, Verify}
+use Rattle.contest_operations.specs.declared.operation.Endpoint.TheVariants.{Settings, Submissions, Judgements, Clarifications}
 use Rattle.contest_operations.specs.declared.operation.Reading.TheVariants.{Whole, List as AllOf, Object, File, Scoreboard, Proposals}
 
 -- each route's text, and what is offered there
@@ -41,8 +41,8 @@ route_rows =
     ∷ (codes "/contests/{contest}/submissions", record (reads (AllOf Submissions)) { post = Some Submit })
     ∷ (codes "/contests/{contest}/submissions/{id}", reads (Object Submissions))
     ∷ (codes "/contests/{contest}/submissions/{id}/files", reads File)
-    ∷ (codes "/contests/{contest}/clarifications", nothing)
-    ∷ (codes "/contests/{contest}/clarifications/{id}", nothing)
+    ∷ (codes "/contests/{contest}/clarifications", record (reads (AllOf Clarifications)) { post = Some Clarify })
+    ∷ (codes "/contests/{contest}/clarifications/{id}", reads (Object Clarifications))
     ∷ (codes "/jury/proposals", record (reads Proposals) { post = Some Propose })
     ∷ (codes "/jury/verifications", record nothing { post = Some Verify })
     ∷ (codes "/jury/finalize", nothing)

@@ -4,17 +4,18 @@ use Rattle.std.specs.Prelude.{ℕ, Bool, true, List, Option, Result, Ok, Err, is
 use Rattle.contest_types.specs.State.{FixedPart, ContestState}
 use Rattle.contest_types.specs.declared.refusal.Refusal.{Refusal}
 use Rattle.contest_types.specs.declared.refusal.Refusal.TheVariants.{RoleForbids}
-use Rattle.contest_store.specs.Lists.{loaded}
+use Rattle.contest_lists.specs.Lists.{loaded}
 use Rattle.contest_operations.specs.Callers.{Caller, audience_of, judge_of}
-use Rattle.contest_operations.specs.Commands.{IsSoundPost, file_at, post_file, post_outcome, post_takes_memory, posted_by}
+use Rattle.contest_operations.specs.Commands.{IsSoundPost, post_file, post_outcome, post_takes_memory, posted_by}
+use Rattle.contest_postings.specs.OwnSubmissions.{file_at}
 use Rattle.contest_operations.specs.Outcomes.{Outcome, replying}
 use Rattle.contest_operations.specs.Readings.{read, read_file}
 use Rattle.contest_operations.specs.declared.command.Posted.{Posted}
 use Rattle.contest_operations.specs.declared.operation.Operation.{Operation}
 use Rattle.contest_operations.specs.declared.operation.Operation.TheVariants.{Read as ToRead, Do as ToDo}
 use Rattle.contest_operations.specs.declared.operation.Reading.{Reading}
-use Rattle.contest_operations.specs.declared.operation.Reading.TheVariants.{Proposals}
-use Rattle.contest_operations.specs.declared.request.Request.{Request}
+use Rattle.contest_operations.specs.declared.operation.Reading.TheVariants.{Whole, List as AllOf, Object, File, Scoreboard, Proposals}
+use Rattle.contest_requests.specs.declared.request.Request.{Request}
 use Rattle.contest_operations.specs.declared.wish.Wish.{Wish}
 use Rattle.contest_operations.specs.declared.wish.Wish.TheVariants.{Read, Do}
 
@@ -24,8 +25,12 @@ wish_to_do (Ok posted) = Ok (Do posted)
 
 -- what judges propose is for the jury alone
 abbrev pub may_read : Caller → Reading → Bool
+may_read who (Whole endpoint) = true
+may_read who (AllOf endpoint) = true
+may_read who (Object endpoint) = true
+may_read who File = true
+may_read who Scoreboard = true
 may_read who Proposals = is_some (judge_of who)
-may_read who _ = true
 
 -- what a caller wishes by an operation
 abbrev pub wish_of : FixedPart → Caller → Operation → Request → Result Wish Refusal

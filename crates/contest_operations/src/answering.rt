@@ -2,7 +2,7 @@
 ghost use Rattle.std.specs.Prelude.{◌≡◌, true, IfOk};
 ghost use Rattle.contest_types.specs.State.{ContestState};
 ghost use Rattle.contest_types.specs.Valid.{is_valid};
-ghost use Rattle.contest_store.specs.Lists.{loaded};
+ghost use Rattle.contest_lists.specs.Lists.{loaded};
 ghost use Rattle.contest_operations.specs.Replies.{IsOrdinary};
 ghost use Rattle.contest_operations.specs.Wishes.{IsSound, wish_outcome, file_for, file_needed};
 
@@ -10,8 +10,9 @@ use crate::command::{perform, post_file};
 use crate::outcome::Outcome;
 use crate::reading::{read, read_file};
 use crate::wish::Wish;
-use contest_store::Lists;
+use contest_lists::Lists;
 use contest_types::{Moment, Rows};
+use contest_view::Seen;
 use std::alloc::{AllocError, Global};
 
 /// Whose file a wish needs: by the place of its team, from 0, and its number, from 1.
@@ -44,7 +45,12 @@ pub fn answer(
 {
     match wish {
         Wish::Read(reading, audience, path) => {
-            let reply = read(alloc, lists, now, audience, reading, path.as_slice(), file)?;
+            let seen = Seen {
+                lists,
+                audience,
+                now,
+            };
+            let reply = read(alloc, &seen, reading, path.as_slice(), file)?;
             Ok(Outcome::replying(alloc, reply))
         }
         Wish::Do(posted) => perform(alloc, lists, now, posted, file),

@@ -3,11 +3,12 @@ ghost use Rattle.std.specs.Prelude.{◌≡◌};
 ghost use Rattle.contest_operations.specs.Routes.{routes};
 ghost use Rattle.contest_operations.specs.Step.{asked, is_here, offered};
 
+use crate::Reply;
 use crate::offer::Offer;
 use crate::operation::Operation;
 use crate::path::{contest_piece, is_of_contest};
 use crate::route_table::offer_in;
-use crate::{Method, Reply};
+use contest_requests::Method;
 use contest_types::Refusal;
 use matchit::Router;
 

@@ -8,13 +8,14 @@ ghost use Rattle.contest_operations.specs.Replies.{IsOrdinary};
 ghost use Rattle.contest_operations.specs.Step.{may_take_memory, wish_or_reply};
 ghost use Rattle.contest_operations.specs.Wishes.{may_read, takes_memory, wish_of};
 
+use crate::Reply;
 use crate::asked::asked;
 use crate::caller::{Caller, audience_of, caller_of, judge_of};
 use crate::command::post;
 use crate::offer::Offer;
 use crate::operation::{Operation, Reading};
 use crate::wish::Wish;
-use crate::{Credential, Reply, Request};
+use contest_requests::{Credential, Request};
 use contest_types::{Fixed, Refusal};
 use matchit::Router;
 use std::alloc::{AllocError, Global};

@@ -5,7 +5,7 @@ ghost use Rattle.contest_types.specs.declared.account.Account.{Account as TheAcc
 ghost use Rattle.contest_types.specs.Masks.{audience_at};
 ghost use Rattle.contest_operations.specs.Callers.{audience_of, audience_for, caller_of, holder_of, judge_of, team_for, team_of};
 
-use crate::Credential;
+use contest_requests::Credential;
 use contest_types::{Account, Audience, Fixed, Id, Role};
 use sha2::{Digest as _, Sha256};
 use std::marker::Model;
@@ -89,6 +89,13 @@ fn team_for(role: Role) -> Option<usize>
         Role::Team(team) => Some(team),
         Role::Judge | Role::Admin => None,
     }
+}
+
+/// The account that a caller holds, if it holds one.
+pub fn account_of<'a>(caller: &Caller<'a>) -> Option<&'a Account>
+    ensures { option_map (λ a. a.now) result ≡ caller.now }
+{
+    caller.account
 }
 
 /// The id of the account that a caller judges by: a judge's or an administrator's.

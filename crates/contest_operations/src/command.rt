@@ -2,20 +2,19 @@
 ghost use Rattle.std.specs.Prelude.{◌≡◌, ◌⊎◌, true, IfOk, IfErr};
 ghost use Rattle.contest_types.specs.State.{ContestState};
 ghost use Rattle.contest_types.specs.Valid.{is_valid};
-ghost use Rattle.contest_store.specs.Lists.{loaded};
-ghost use Rattle.contest_operations.specs.Commands.{IsSoundPost, file_at, post_file, post_outcome, post_takes_memory, posted_by};
+ghost use Rattle.contest_lists.specs.Lists.{loaded};
+ghost use Rattle.contest_postings.specs.OwnSubmissions.{file_at};
+ghost use Rattle.contest_operations.specs.Commands.{IsSoundPost, post_done, post_file, post_outcome, post_takes_memory, posted_by};
 ghost use Rattle.contest_operations.specs.Replies.{IsOrdinary};
 
-use crate::Request;
 use crate::caller::{Caller, judge_of, team_of};
-use crate::jury_verdict::{JuryVerdict, post_verdict};
+use crate::clarify::post_clarification;
 use crate::outcome::Outcome;
-use crate::own_submissions::keyed_row;
-use crate::proposal::propose;
-use crate::submit::{post_submission, submit};
-use crate::verification::verify;
-use contest_rules::WantedSubmission;
-use contest_store::Lists;
+use crate::submit::post_submission;
+use contest_lists::Lists;
+use contest_postings::{Clarifying, Done, Proposing, Submitting, Verifying, carry_out, keyed_row};
+use contest_requests::{JuryVerdict, Request, post_verdict};
+use contest_rules::{RuleRefusal, WantedSubmission};
 use contest_types::{Fixed, Moment, Refusal, Rows};
 use std::alloc::{AllocError, Global};
 
@@ -24,6 +23,8 @@ use std::alloc::{AllocError, Global};
 pub enum Command {
     /// A team submits (Contest API 2023-06, submissions).
     Submit,
+    /// A team asks, or the jury answers or announces (Contest API 2023-06, clarifications).
+    Clarify,
     /// A judge proposes a verdict (DOMjudge manual, "Judging": verification).
     Propose,
     /// A judge verifies the verdict that another proposed.
@@ -35,6 +36,8 @@ pub enum Command {
 pub enum Posted {
     /// The team at a place, from 0, submits.
     Submission(usize, WantedSubmission),
+    /// A team asks, or the jury answers or announces.
+    Clarification(Clarifying),
     /// A judge proposes a verdict.
     Proposal(JuryVerdict),
     /// A judge verifies one.
@@ -59,6 +62,10 @@ pub fn post(
 {
     match command {
         Command::Submit => post_submission(alloc, fixed, team_of(caller), request),
+        Command::Clarify => {
+            let clarifying = post_clarification(alloc, fixed, caller, request)?;
+            Ok(Posted::Clarification(clarifying))
+        }
         Command::Propose => {
             let verdict = post_verdict(alloc, judge_of(caller), request)?;
             Ok(Posted::Proposal(verdict))
@@ -77,7 +84,7 @@ pub fn post_file(posted: &Posted, lists: &Lists) -> Option<(usize, usize)>
 {
     match posted {
         Posted::Submission(team, wanted) => keyed_row(lists, *team, &wanted.key),
-        Posted::Proposal(_) | Posted::Verification(_) => None,
+        Posted::Clarification(_) | Posted::Proposal(_) | Posted::Verification(_) => None,
     }
 }
 
@@ -96,9 +103,25 @@ pub fn perform(
     ensures outcome { (x : ContestState) → is_valid x ≡ true → lists.now ≡ loaded x → IsSoundPost x.fixed posted → file ≡ file_at x (post_file posted (loaded x)) → IfOk result (λ o. o ≡ post_outcome now posted x) }
     ensures ordinary { IfOk result (λ o. IsOrdinary o.reply) }
 {
+    let done = done_by(alloc, lists, now, posted, &file)?;
+    Ok(Outcome::told(alloc, done))
+}
+
+fn done_by(
+    alloc: Global,
+    lists: &Lists,
+    now: Moment,
+    posted: Posted,
+    file: &Option<Rows<u8>>,
+) -> Result<Result<Done, RuleRefusal>, AllocError>
+    ensures { (x : ContestState) → is_valid x ≡ true → lists.now ≡ loaded x → IsSoundPost x.fixed posted → file.now ≡ file_at x (post_file posted (loaded x)) → IfOk result (λ done. done ≡ post_done now posted x) }
+{
     match posted {
-        Posted::Submission(team, wanted) => submit(alloc, lists, now, team, wanted, file),
-        Posted::Proposal(verdict) => propose(alloc, lists, now, verdict),
-        Posted::Verification(verdict) => verify(alloc, lists, now, &verdict),
+        Posted::Submission(team, wanted) => {
+            carry_out(alloc, lists, now, Submitting { team, wanted, file })
+        }
+        Posted::Clarification(clarifying) => carry_out(alloc, lists, now, clarifying),
+        Posted::Proposal(verdict) => carry_out(alloc, lists, now, Proposing { verdict }),
+        Posted::Verification(verdict) => carry_out(alloc, lists, now, Verifying { verdict }),
     }
 }

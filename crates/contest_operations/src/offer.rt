@@ -2,9 +2,9 @@
 ghost use Rattle.std.specs.Prelude.{◌≡◌};
 ghost use Rattle.contest_operations.specs.Offers.{is_served, methods_of, methods_text, operation_of};
 
-use crate::Method;
 use crate::command::Command;
 use crate::operation::{Operation, Reading};
+use contest_requests::Method;
 
 /// What is offered on a route; nothing where nothing is served there yet.
 #[derive(Clone, Copy)]

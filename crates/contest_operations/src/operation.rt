@@ -1,6 +1,6 @@
 //! What may be asked of a contest.
 use crate::command::Command;
-use contest_view::{ContestEndpoint, SettingsEndpoint};
+use contest_objects::{ContestEndpoint, SettingsEndpoint};
 
 /// A collection of objects (Contest API 2023-06, endpoints).
 #[derive(Clone, Copy)]
@@ -11,6 +11,8 @@ pub enum Endpoint {
     Submissions,
     /// The judgements that the caller sees, in the order of their submissions.
     Judgements,
+    /// The clarifications that the caller hears, by time and id.
+    Clarifications,
 }
 
 /// What is read.

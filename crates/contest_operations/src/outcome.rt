@@ -1,10 +1,13 @@
 //! What a request comes to.
-ghost use Rattle.std.specs.Prelude.{◌≡◌, ◌∷◌, [], IfOk};
-ghost use Rattle.contest_operations.specs.Outcomes.{refusing, replying};
+ghost use Rattle.std.specs.Prelude.{◌≡◌};
+ghost use Rattle.contest_operations.specs.Outcomes.{refusing, replying, told};
+ghost use Rattle.contest_operations.specs.Replies.{IsOrdinary};
 
 use crate::Reply;
+use contest_postings::Done;
+use contest_rules::RuleRefusal;
 use contest_types::{Entry, Refusal, Rows};
-use std::alloc::{AllocError, Global};
+use std::alloc::Global;
 
 /// What a request comes to: a reply, and what is added to the contest.
 #[derive(Drop)]
@@ -33,16 +36,18 @@ impl Outcome {
         Outcome::replying(alloc, Reply::refused(refusal))
     }
 
-    /// A reply to one entry that is added.
-    ///
-    /// # Errors
-    ///
-    /// Want of memory alone.
-    pub fn adding(alloc: Global, entry: Entry, reply: Reply) -> Result<Outcome, AllocError>
-        ensures { IfOk result (λ o. o ≡ record { reply = reply; entries = entry ∷ [] }) }
+    /// What becomes of what is posted. It takes no memory.
+    #[tactic(auto, using(crate::proofs::DoneLemmas::told_ordinary))]
+    pub fn told(alloc: Global, done: Result<Done, RuleRefusal>) -> Outcome
+        ensures outcome { result ≡ told done }
+        ensures ordinary { IsOrdinary result.reply }
     {
-        let mut entries = Rows::new(alloc);
-        entries.push(entry)?;
-        Ok(Outcome { reply, entries })
+        match done {
+            Ok(done) => Outcome {
+                reply: Reply::answer(done.text),
+                entries: done.entries,
+            },
+            Err(refusal) => Outcome::refusing(alloc, refusal.refusal()),
+        }
     }
 }

@@ -6,7 +6,7 @@ ghost use Rattle.contest_operations.specs.Routes.{offer_in, route_rows, routes, 
 use crate::command::Command;
 use crate::offer::Offer;
 use crate::operation::{Endpoint, Reading};
-use contest_view::{ContestEndpoint, SettingsEndpoint};
+use contest_objects::{ContestEndpoint, SettingsEndpoint};
 use matchit::{InsertError, Router};
 use std::alloc::{AllocError, Global};
 
@@ -155,8 +155,21 @@ static ROUTES: [(&str, Offer); 31] = [
             ..NOTHING
         },
     ),
-    ("/contests/{contest}/clarifications", NOTHING),
-    ("/contests/{contest}/clarifications/{id}", NOTHING),
+    (
+        "/contests/{contest}/clarifications",
+        Offer {
+            get: Some(Reading::List(Endpoint::Clarifications)),
+            post: Some(Command::Clarify),
+            ..NOTHING
+        },
+    ),
+    (
+        "/contests/{contest}/clarifications/{id}",
+        Offer {
+            get: Some(Reading::Object(Endpoint::Clarifications)),
+            ..NOTHING
+        },
+    ),
     (
         "/jury/proposals",
         Offer {

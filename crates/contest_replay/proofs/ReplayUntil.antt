@@ -16,7 +16,7 @@ use Rattle.contest_replay.specs.ReplayLists.{team_submissions}
 use Rattle.contest_replay.specs.ReplayContest.{replay_contest, marks_for, up_to}
 use Rattle.contest_replay.specs.ReplayState.{reading_marks, IsReplay, IsReplayed, ReadsValid}
 use Rattle.contest_replay.proofs.ReplayStateLemmas.{no_submissions, fewer}
-use Rattle.contest_replay.proofs.ReplayValid.{contest_valid}
+use Rattle.contest_replay.proofs.ReplayValid.{contest_store_valid}
 
 -- what the state keeps says that its submissions are those of a valid contest
 pub reads_valid : (s : Setup) (us : List JudgedSubmission) (teams : List TeamProgress) → IsReplayed s us teams → ReadsValid s us
@@ -72,7 +72,7 @@ reads_valid_kept s p us r =
 
 -- a replay's contest is valid, thawed or not
 pub replay_valid : (s : Setup) (us : List JudgedSubmission) (thawed : Bool) → IsValid s → ReadsValid s us → is_valid (replay_contest s (marks_for s thawed) us) ≡ true
-replay_valid s us thawed v r = contest_valid s (if thawed then Some s.head.duration else None) us v r
+replay_valid s us thawed v r = contest_store_valid s (if thawed then Some s.head.duration else None) us v r
 
 -- its submissions can be scored, thawed or not
 pub replay_admitted : (s : Setup) (us : List JudgedSubmission) (thawed : Bool) → ReadsValid s us → All (IsAdmitted s (marks_for s thawed)) us

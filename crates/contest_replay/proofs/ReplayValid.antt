@@ -191,5 +191,5 @@ empty_stands s thaw v =
     (whole x result, λ team number l. refl)
 
 -- the contest of what a replay's records spell is valid
-pub contest_valid : (s : Setup) (thaw : Option ℕ) (us : List JudgedSubmission) → IsValid s → ReadsValid s us → is_valid (replay_contest s (replay_marks thaw) us) ≡ true
-contest_valid s thaw us v r = (all_more s thaw [] us r (empty_stands s thaw v)).0
+pub contest_store_valid : (s : Setup) (thaw : Option ℕ) (us : List JudgedSubmission) → IsValid s → ReadsValid s us → is_valid (replay_contest s (replay_marks thaw) us) ≡ true
+contest_store_valid s thaw us v r = (all_more s thaw [] us r (empty_stands s thaw v)).0

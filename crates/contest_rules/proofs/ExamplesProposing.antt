@@ -6,8 +6,8 @@ use Rattle.contest_types.specs.State.{FixedPart}
 use Rattle.contest_types.specs.declared.entry.Entry.TheVariants.{NewProposal, NewRelease}
 use Rattle.contest_types.specs.declared.proposal.Proposal.{Proposal}
 use Rattle.contest_types.specs.declared.proposal.Proposer.TheVariants.{Account}
-use Rattle.contest_types.specs.declared.refusal.Refusal.{Refusal}
-use Rattle.contest_types.specs.declared.refusal.Refusal.TheVariants.{UnknownReference, AlreadyReleased}
+use Rattle.contest_rules.specs.declared.rule_refusal.RuleRefusal.{RuleRefusal}
+use Rattle.contest_rules.specs.declared.rule_refusal.RuleRefusal.TheVariants.{UnknownReference, AlreadyReleased}
 use Rattle.contest_types.specs.declared.submission.Release.{Release}
 use Rattle.contest_types.specs.declared.submission.Submission.{Submission}
 use Rattle.contest_types.proofs.ExampleContest.{accepted, empty, head, minutes, settings, submitted, wrong}
@@ -18,7 +18,7 @@ abbrev standing : List Submission
 standing = submitted 0 1 (minutes 5) 0 ∷ []
 
 -- judge j1 asks for a verdict a minute later
-abbrev decided : FixedPart → List Proposal → List Release → (submission judgement_type : List ℕ) → Result NewVerdict Refusal
+abbrev decided : FixedPart → List Proposal → List Release → (submission judgement_type : List ℕ) → Result NewVerdict RuleRefusal
 decided f ps vs submission judgement_type = propose f standing ps vs (minutes 6) (codes "j1") (record { submission = submission; judgement_type = judgement_type })
 
 abbrev proposal_of : (verdict : ℕ) → Proposal

@@ -1,6 +1,14 @@
 pub mod SubmittingLemmas
 pub mod TakenLemmas
+pub mod ClarifiedLemmas
+pub mod AlikeClarified
 pub mod ProposedLemmas
 mod ExamplesSubmitting
+mod ExamplesClarifying
 mod ExamplesProposing
+mod ExamplesRejudging
 pub mod VerifiedLemmas
+pub mod RoundLemmas
+pub mod OpenedLemmas
+pub mod AppliedLemmas
+pub mod RejudgedLemmas

@@ -17,8 +17,8 @@ use Rattle.contest_types.specs.declared.entry.Entry.TheVariants.{NewProposal, Ne
 use Rattle.contest_types.specs.declared.limits.TheConstants.{PROPOSALS}
 use Rattle.contest_types.specs.declared.objects.JudgementType.{JudgementType}
 use Rattle.contest_types.specs.declared.proposal.Proposal.{Proposal}
-use Rattle.contest_types.specs.declared.refusal.Refusal.{Refusal}
-use Rattle.contest_types.specs.declared.refusal.Refusal.TheVariants.{UnknownReference, AlreadyReleased, TeamLimit}
+use Rattle.contest_rules.specs.declared.rule_refusal.RuleRefusal.{RuleRefusal}
+use Rattle.contest_rules.specs.declared.rule_refusal.RuleRefusal.TheVariants.{UnknownReference, AlreadyReleased, TeamLimit}
 use Rattle.contest_types.specs.declared.submission.Release.{Release}
 use Rattle.contest_types.specs.declared.submission.Submission.{Submission}
 use Rattle.contest_types.proofs.PlaceLemmas.{both_true, or_left, or_right, place_within}
@@ -29,15 +29,16 @@ use Rattle.contest_rules.specs.Verdicts.{first_release, named_verdict, submissio
 use Rattle.contest_rules.specs.declared.proposing.NewVerdict.{NewVerdict}
 use Rattle.contest_rules.specs.declared.verdicts.NamedVerdict.{NamedVerdict}
 use Rattle.contest_rules.specs.declared.verdicts.WantedVerdict.{WantedVerdict}
+use Rattle.contest_rules.proofs.TakenLemmas.{below}
 
 names_itself : (r : SubmissionRef) → names r.team r.number r ≡ true
 names_itself r = both_true (r.team == r.team) (r.number == r.number) (eq-eqb r.team r.team refl) (eq-eqb r.number r.number refl)
 
-or_second : (a b : Bool) → b ≡ true → (a || b) ≡ true
+pub or_second : (a b : Bool) → b ≡ true → (a || b) ≡ true
 or_second true b h = refl
 or_second false b h = h
 
-or_first : (a b : Bool) → a ≡ true → (a || b) ≡ true
+pub or_first : (a b : Bool) → a ≡ true → (a || b) ≡ true
 or_first true b h = refl
 or_first false b h = absurd (cc h)
 
@@ -103,15 +104,12 @@ for_taken true full n v e = absurd (cc e)
 pub may_propose : (x : ContestState) (now : ℕ) (account : List ℕ) (w : WantedVerdict) (v : NewVerdict) → propose x.fixed x.submissions x.proposals x.releases now account w ≡ Ok v → MayPropose x now account v
 may_propose x now account w v h =
     let go : (o : Option NamedVerdict) → named_verdict x.fixed x.submissions w ≡ o
-    → elim o as (λ _. Result NewVerdict Refusal) [ None ↦ Err UnknownReference | (Some n) ↦ propose_for x.fixed x.proposals x.releases now account n ] ≡ Ok v → MayPropose x now account v = elim [
+    → elim o as (λ _. Result NewVerdict RuleRefusal) [ None ↦ Err UnknownReference | (Some n) ↦ propose_for x.fixed x.proposals x.releases now account n ] ≡ Ok v → MayPropose x now account v = elim [
       | None ↦ λ e k. absurd (cc k)
       | (Some n) ↦ λ e k. (let taken = for_taken (is_released n.team n.number x.releases) (nat_le PROPOSALS (proposals_made n.team n.number x.proposals)) (new_verdict x.fixed now account n) v k in
           record { named = n; there = named_there x w n e; unreleased = taken.0; room = taken.1; is = taken.2 })
     ] in
     go (named_verdict x.fixed x.submissions w) refl h
-
-below : (a b : ℕ) → a < b → nat_lt a b ≡ true
-below a b h = grind (arith, nat_tests)
 
 has_room : (n m : ℕ) → nat_le PROPOSALS n ≡ false → m ≡ n → nat_lt m PROPOSALS ≡ true
 has_room n m h e = grind (arith, nat_tests)

@@ -6,7 +6,7 @@ use Rattle.contest_types.specs.Alike.{OwnRecord, own_record, TeamSight, Whole, O
 use Rattle.contest_types.specs.Masks.{audience_at}
 use Rattle.contest_types.specs.declared.submission.Submission.{Submission}
 use Rattle.contest_rules.specs.declared.submitting.WantedSubmission.{WantedSubmission}
-use Rattle.contest_rules.specs.Submitting.{submit}
+use Rattle.contest_rules.specs.Submitting.{so_far, submit}
 use Rattle.contest_rules.specs.Laws.{submitted}
 
 -- a team's submissions, read off what it knows of itself
@@ -31,5 +31,5 @@ own_alike x y team h = sym (own_known x team) ∙ (ap from_sight (h.teams team) 
 
 pub submit_alike : (x y : ContestState) (now team : ℕ) (w : WantedSubmission) → Alike (audience_at team) x y → submitted x now team w ≡ submitted y now team w
 submit_alike x y now team w h =
-    ap (λ (f : FixedPart). submit f now team (submissions_of team x.submissions) w) h.fixed
-    ∙ ap (λ own. submit y.fixed now team own w) (own_alike x y team h)
+    ap (λ (f : FixedPart). submit f now team (so_far w.key (submissions_of team x.submissions)) w) h.fixed
+    ∙ ap (λ own. submit y.fixed now team (so_far w.key own) w) (own_alike x y team h)

@@ -1,12 +1,11 @@
 -- A submission that is taken may be added.
-use Rattle.std.proofs.Common.{cond, ◌≡◌, ◌∙◌, ◌<◌, ◌≤◌, ◌+◌, ◌-◌, ℕ, suc, Bool, true, false, List, [], ◌∷◌, length, map, Option, Some, None, refl, sym, ap, subst, arith}
-use Rattle.std.specs.Prelude.{◌&&◌, ◌==◌, not, nat_le, nat_lt, filter, slice_get, if◌then◌else◌, IfSome}
-use Rattle.std.specs.List.{list_all, position_from, filter_map}
+use Rattle.std.proofs.Common.{cond, ◌≡◌, ◌∙◌, ◌<◌, ◌≤◌, ◌+◌, ◌-◌, ℕ, suc, Bool, true, false, List, [], ◌∷◌, length, map, Option, Some, None, Result, Ok, Err, refl, sym, ap, subst, arith}
+use Rattle.std.specs.Prelude.{◌&&◌, ◌==◌, not, nat_le, nat_lt, filter, find, slice_get, if◌then◌else◌, IfSome}
+use Rattle.std.specs.List.{list_all, filter_map}
 use Rattle.std.specs.Option.{option_map}
 use Rattle.std.specs.Str.{bytes_eq}
 use Rattle.std.proofs.lemmas.Bool.{false≢true, eq-eqb, le-leb}
 use Rattle.std.proofs.lemmas.Bool.Decides.{nat_tests}
-use Rattle.std.proofs.lemmas.Iterator.Adapters.{position_from-zero}
 use Rattle.std.proofs.lemmas.List.{length-map}
 use Rattle.std.proofs.lemmas.List.Folds.{list_all-map}
 use Rattle.std.proofs.lemmas.Option.{slice_get-map}
@@ -22,16 +21,19 @@ use Rattle.contest_types.specs.declared.audience.Phase.TheVariants as phase
 use Rattle.contest_types.specs.declared.limits.TheConstants.{TEAM_SUBMISSIONS, POSTED_FILE}
 use Rattle.contest_types.specs.declared.objects.Problem.{Problem}
 use Rattle.contest_types.specs.declared.objects.Language.{Language}
-use Rattle.contest_types.specs.declared.refusal.Refusal.TheVariants.{NotOpen, TeamLimit, EntryPointMissing, KeyReused, UnknownReference}
+use Rattle.contest_rules.specs.declared.rule_refusal.RuleRefusal.TheVariants.{NotOpen, TeamLimit, EntryPointMissing, KeyReused, UnknownReference}
 use Rattle.contest_types.specs.declared.submission.Submission.{Submission}
 use Rattle.contest_types.proofs.PlaceLemmas.{and_left, and_right, both_true, place_within}
 use Rattle.contest_types.proofs.SetupLemmas.{all_wider}
 use Rattle.contest_types.proofs.ValidParts.{parts, four, all_four}
 use Rattle.contest_types.proofs.SeriesLemmas.{in_any}
 use Rattle.contest_types.proofs.AddLemmas.{one_team}
-use Rattle.contest_rules.specs.declared.decision.Decision.TheVariants.{Add, Stands, Refused}
+use Rattle.contest_rules.specs.declared.decision.Decision.{Decision}
+use Rattle.contest_rules.specs.declared.decision.Decision.TheVariants.{Add, Stands}
+use Rattle.contest_rules.specs.declared.rule_refusal.RuleRefusal.{RuleRefusal}
+use Rattle.contest_rules.specs.declared.submitting.OwnSoFar.{OwnSoFar}
 use Rattle.contest_rules.specs.declared.submitting.WantedSubmission.{WantedSubmission}
-use Rattle.contest_rules.specs.Submitting.{lacks_entry_point, has_key, place_of_key, repeated, is_running, takes_submissions, later, next_submission, fresh, submit_to, submit}
+use Rattle.contest_rules.specs.Submitting.{asks_the_same, lacks_entry_point, has_key, repeated, is_running, takes_submissions, later, next_submission, fresh, so_far, standing_under, submit_to, submit}
 
 abbrev problem_ids : FixedPart → List (List ℕ)
 problem_ids f = map (λ (p : Problem). p.id) f.settings.problems
@@ -39,51 +41,77 @@ problem_ids f = map (λ (p : Problem). p.id) f.settings.problems
 abbrev language_ids : FixedPart → List (List ℕ)
 language_ids f = map (λ (l : Language). l.id) f.settings.languages
 
+-- what comes of it
+abbrev pub Decided : Type 0
+Decided = Result (Decision Submission Submission) RuleRefusal
+
 -- what is known of a submission that is taken
-pub record Taken (f : FixedPart) (now team : ℕ) (own : List Submission) (w : WantedSubmission) (s : Submission) : Type 0 where
+pub record Taken (f : FixedPart) (now team : ℕ) (own : OwnSoFar) (w : WantedSubmission) (s : Submission) : Type 0 where
   pub problem : ℕ
   pub language : ℕ
   pub is_problem : place_of w.problem (problem_ids f) ≡ Some problem
   pub is_language : place_of w.language (language_ids f) ≡ Some language
-  pub new_key : place_of_key w.key own ≡ None
+  pub complete : lacks_entry_point f language w.entry_point ≡ false
+  pub new_key : own.standing ≡ None
   pub takes : takes_submissions f now ≡ true
-  pub room : nat_le TEAM_SUBMISSIONS (length own) ≡ false
+  pub room : nat_le TEAM_SUBMISSIONS own.count ≡ false
   pub is : s ≡ next_submission now team own problem language w
 
-fresh_taken : (takes full : Bool) (n s : Submission) → (if not takes then Refused NotOpen else (if full then Refused TeamLimit else Add n)) ≡ Add s
-    → (takes ≡ true) × (full ≡ false) × (s ≡ n)
-fresh_taken true false n s e = let same : n ≡ s = cc e in (refl, refl, sym same)
-fresh_taken true true n s e = absurd (cc e)
-fresh_taken false full n s e = absurd (cc e)
+-- and of one that stands
+pub record Stood (f : FixedPart) (own : OwnSoFar) (w : WantedSubmission) (s : Submission) : Type 0 where
+  pub problem : ℕ
+  pub language : ℕ
+  pub is_problem : place_of w.problem (problem_ids f) ≡ Some problem
+  pub is_language : place_of w.language (language_ids f) ≡ Some language
+  pub complete : lacks_entry_point f language w.entry_point ≡ false
+  pub stands : own.standing ≡ Some s
+  pub same : asks_the_same s problem language w ≡ true
 
-no_repeat : (same : Bool) (place : ℕ) (s : Submission) → (if same then Stands place else Refused KeyReused) ≡ Add s → ⊥
-no_repeat true place s e = cc e
-no_repeat false place s e = cc e
+abbrev pub IfTaken : FixedPart → (now team : ℕ) → OwnSoFar → WantedSubmission → Decided → Type 0
+IfTaken f now team own w (Err refusal) = Unit {0}
+IfTaken f now team own w (Ok (Add s)) = Taken f now team own w s
+IfTaken f now team own w (Ok (Stands s)) = Stood f own w s
 
-taken_to : (f : FixedPart) (now team : ℕ) (own : List Submission) (w : WantedSubmission) (s : Submission) (problem language : ℕ)
-    → place_of w.problem (problem_ids f) ≡ Some problem → place_of w.language (language_ids f) ≡ Some language
-    → submit_to f now team own problem language w ≡ Add s → Taken f now team own w s
-taken_to f now team own w s problem language p l =
-    let go : (o : Option ℕ) → place_of_key w.key own ≡ o
-    → (elim o [ (Some place) ↦ repeated own place problem language w | None ↦ fresh f now team own problem language w ]) ≡ Add s → Taken f now team own w s =
-    elim [
-      | (Some place) ↦ λ k e. absurd (no_repeat _ place s e)
-      | None ↦ λ k e. (let t = fresh_taken _ _ _ s e in record { problem = problem; language = language; is_problem = p; is_language = l; new_key = k; takes = t.0; room = t.1; is = t.2 })
+taken_to : (f : FixedPart) (now team : ℕ) (own : OwnSoFar) (w : WantedSubmission) (problem language : ℕ)
+    → place_of w.problem (problem_ids f) ≡ Some problem → place_of w.language (language_ids f) ≡ Some language → lacks_entry_point f language w.entry_point ≡ false
+    → IfTaken f now team own w (submit_to f now team own problem language w)
+taken_to f now team own w problem language p l complete =
+    let on : (s : Submission) → own.standing ≡ Some s → (same : Bool) → asks_the_same s problem language w ≡ same → IfTaken f now team own w (if same then Ok (Stands s) else Err KeyReused) = λ s k. elim [
+      | true ↦ λ e. record { problem = problem; language = language; is_problem = p; is_language = l; complete = complete; stands = k; same = e }
+      | false ↦ λ e. tt
     ] in
-    go (place_of_key w.key own) refl
+    let room : own.standing ≡ None → takes_submissions f now ≡ true → (full : Bool) → nat_le TEAM_SUBMISSIONS own.count ≡ full
+    → IfTaken f now team own w (if full then Err TeamLimit else Ok (Add (next_submission now team own problem language w))) = λ k t. elim [
+      | true ↦ λ e. tt
+      | false ↦ λ e. record { problem = problem; language = language; is_problem = p; is_language = l; complete = complete; new_key = k; takes = t; room = e; is = refl }
+    ] in
+    let new : own.standing ≡ None → (takes : Bool) → takes_submissions f now ≡ takes
+    → IfTaken f now team own w (if not takes then Err NotOpen else (if nat_le TEAM_SUBMISSIONS own.count then Err TeamLimit else Ok (Add (next_submission now team own problem language w)))) = λ k. elim [
+      | true ↦ λ t. room k t (nat_le TEAM_SUBMISSIONS own.count) refl
+      | false ↦ λ t. tt
+    ] in
+    let go : (o : Option Submission) → own.standing ≡ o → IfTaken f now team own w (elim o as (λ _. Decided) [ (Some s) ↦ repeated s problem language w | None ↦ fresh f now team own problem language w ]) = elim [
+      | (Some s) ↦ λ k. on s k (asks_the_same s problem language w) refl
+      | None ↦ λ k. new k (takes_submissions f now) refl
+    ] in
+    go own.standing refl
 
-pub taken : (f : FixedPart) (now team : ℕ) (own : List Submission) (w : WantedSubmission) (s : Submission) → submit f now team own w ≡ Add s → Taken f now team own w s
-taken f now team own w s =
-    let complete : (problem language : ℕ) → place_of w.problem (problem_ids f) ≡ Some problem → place_of w.language (language_ids f) ≡ Some language → (lacks : Bool)
-    → (if lacks then Refused EntryPointMissing else submit_to f now team own problem language w) ≡ Add s → Taken f now team own w s =
-    λ problem language p l. elim [ true ↦ λ e. absurd (cc e) | false ↦ λ e. taken_to f now team own w s problem language p l e ] in
+-- what is decided says where it comes from
+pub decided : (f : FixedPart) (now team : ℕ) (own : OwnSoFar) (w : WantedSubmission) → IfTaken f now team own w (submit f now team own w)
+decided f now team own w =
+    let complete : (problem language : ℕ) → place_of w.problem (problem_ids f) ≡ Some problem → place_of w.language (language_ids f) ≡ Some language → (lacks : Bool) → lacks_entry_point f language w.entry_point ≡ lacks
+    → IfTaken f now team own w (if lacks then Err EntryPointMissing else submit_to f now team own problem language w) =
+    λ problem language p l. elim [ true ↦ λ e. tt | false ↦ λ e. taken_to f now team own w problem language p l e ] in
     let spoken : (problem : ℕ) → place_of w.problem (problem_ids f) ≡ Some problem → (o : Option ℕ) → place_of w.language (language_ids f) ≡ o
-    → (elim o [ None ↦ Refused UnknownReference | (Some language) ↦ if lacks_entry_point f language w.entry_point then Refused EntryPointMissing else submit_to f now team own problem language w ]) ≡ Add s → Taken f now team own w s =
-    λ problem p. elim [ None ↦ λ l e. absurd (cc e) | (Some language) ↦ λ l e. complete problem language p l (lacks_entry_point f language w.entry_point) e ] in
+    → IfTaken f now team own w (elim o as (λ _. Decided) [ None ↦ Err UnknownReference | (Some language) ↦ if lacks_entry_point f language w.entry_point then Err EntryPointMissing else submit_to f now team own problem language w ]) =
+    λ problem p. elim [ None ↦ λ l. tt | (Some language) ↦ λ l. complete problem language p l (lacks_entry_point f language w.entry_point) refl ] in
     let go : (o : Option ℕ) → place_of w.problem (problem_ids f) ≡ o
-    → (elim o [ None ↦ Refused UnknownReference | (Some problem) ↦ elim (place_of w.language (language_ids f)) [ None ↦ Refused UnknownReference | (Some language) ↦ if lacks_entry_point f language w.entry_point then Refused EntryPointMissing else submit_to f now team own problem language w ] ]) ≡ Add s → Taken f now team own w s =
-    elim [ None ↦ λ p e. absurd (cc e) | (Some problem) ↦ λ p e. spoken problem p (place_of w.language (language_ids f)) refl e ] in
+    → IfTaken f now team own w (elim o as (λ _. Decided) [ None ↦ Err UnknownReference | (Some problem) ↦ elim (place_of w.language (language_ids f)) as (λ _. Decided) [ None ↦ Err UnknownReference | (Some language) ↦ if lacks_entry_point f language w.entry_point then Err EntryPointMissing else submit_to f now team own problem language w ] ]) =
+    elim [ None ↦ λ p. tt | (Some problem) ↦ λ p. spoken problem p (place_of w.language (language_ids f)) refl ] in
     go (place_of w.problem (problem_ids f)) refl
+
+pub taken : (f : FixedPart) (now team : ℕ) (own : OwnSoFar) (w : WantedSubmission) (s : Submission) → submit f now team own w ≡ Ok (Add s) → Taken f now team own w s
+taken f now team own w s is = subst (IfTaken f now team own w) is (decided f now team own w)
 
 -- the contest has begun, and it hasn't ended
 running : (started ended none : Bool) → (is_running (if not started then phase.Before else (if ended then phase.Ended else phase.Running)) && none) ≡ true
@@ -149,26 +177,26 @@ not_after (Some last) now =
     go (nat_lt now last) refl
 
 -- a key that stands nowhere is new
-keyless : (key : List ℕ) (n : ℕ) (own : List Submission) → position_from (has_key key) n own ≡ None → is_among (filter_map (λ k. k) (map (λ (s : Submission). s.key) own)) key ≡ false
-keyless key n [] h = refl
-keyless key n (s ∷ own) h =
+keyless : (key : List ℕ) (own : List Submission) → find (has_key key) own ≡ None → is_among (filter_map (λ k. k) (map (λ (s : Submission). s.key) own)) key ≡ false
+keyless key [] h = refl
+keyless key (s ∷ own) h =
     let go : (k : Option (List ℕ)) → s.key ≡ k → is_among (filter_map (λ k. k) (k ∷ map (λ (t : Submission). t.key) own)) key ≡ false =
     elim [
-      | None ↦ λ e. keyless key (n + 1) own (rw e at h)
-      | (Some k) ↦ λ e. (let with : (b : Bool) → bytes_eq k key ≡ b → cond b (Some n) (position_from (has_key key) (n + 1) own) ≡ None → is_among (k ∷ filter_map (λ k. k) (map (λ (t : Submission). t.key) own)) key ≡ false =
-          elim [ true ↦ λ same none. absurd (cc none) | false ↦ λ other none. (rw other (keyless key (n + 1) own none)) ] in
-          with (bytes_eq k key) refl (rw e at h))
+      | None ↦ λ e. keyless key own (rw e at h)
+      | (Some k) ↦ λ e. (let with : (r : Submission) (b : Bool) → bytes_eq k key ≡ b → cond b (Some r) (find (has_key key) own) ≡ None → is_among (k ∷ filter_map (λ k. k) (map (λ (t : Submission). t.key) own)) key ≡ false =
+          λ r. elim [ true ↦ λ same none. absurd (cc none) | false ↦ λ other none. (rw other (keyless key own none)) ] in
+          with _ (bytes_eq k key) refl (rw e at h))
     ] in
     go s.key refl
 
-new_key : (key : Option (List ℕ)) (own : List Submission) → place_of_key key own ≡ None → is_new_key (map (λ (s : Submission). s.key) own) key ≡ true
+new_key : (key : Option (List ℕ)) (own : List Submission) → standing_under key own ≡ None → is_new_key (map (λ (s : Submission). s.key) own) key ≡ true
 new_key None own h = refl
-new_key (Some key) own h = let none = keyless key 0 own (sym (position_from-zero (has_key key) own) ∙ h) in rw none refl
+new_key (Some key) own h = let none = keyless key own h in rw none refl
 
 six : (a b c d e f : Bool) → a ≡ true → b ≡ true → c ≡ true → d ≡ true → e ≡ true → f ≡ true → (a && b && c && d && e && f) ≡ true
 six a b c d e f ta tb tc td te tf = rw (ta, tb, tc, td, te, tf) refl
 
-below : (a b : ℕ) → a < b → nat_lt a b ≡ true
+pub below : (a b : ℕ) → a < b → nat_lt a b ≡ true
 below a b h = grind (arith, nat_tests, h)
 
 within : (a b : ℕ) → a ≤ b → nat_le a b ≡ true
@@ -192,7 +220,7 @@ last_time own =
 next_is_valid : (f : FixedPart) (now team problem language : ℕ) (own : List Submission) (w : WantedSubmission)
     → team < length f.settings.teams → problem < length f.settings.problems → language < length f.settings.languages
     → length w.file ≤ POSTED_FILE → takes_submissions f now ≡ true → list_all (is_valid_submission f) own ≡ true
-    → is_valid_submission f (next_submission now team own problem language w) ≡ true
+    → is_valid_submission f (next_submission now team (so_far w.key own) problem language w) ≡ true
 next_is_valid f now team problem language own w t p l small takes valid =
     let end = end_of f.settings f.marks in
     let last = option_map (λ (s : Submission). s.time) (last_of own) in
@@ -204,8 +232,8 @@ next_is_valid f now team problem language own w t p l small takes valid =
     (later_passes (λ u. not (reached end u)) last now before lasts) (within _ _ small)
 
 next_follows : (now team problem language : ℕ) (own : List Submission) (w : WantedSubmission)
-    → never_fall (map (λ (s : Submission). s.time) own) ≡ true → place_of_key w.key own ≡ None → nat_le TEAM_SUBMISSIONS (length own) ≡ false
-    → is_next_submission own (next_submission now team own problem language w) ≡ true
+    → never_fall (map (λ (s : Submission). s.time) own) ≡ true → standing_under w.key own ≡ None → nat_le TEAM_SUBMISSIONS (length own) ≡ false
+    → is_next_submission own (next_submission now team (so_far w.key own) problem language w) ≡ true
 next_follows now team problem language own w falls new room =
     let times = map (λ (s : Submission). s.time) own in
     let last = option_map (λ (s : Submission). s.time) (last_of own) in
@@ -216,12 +244,12 @@ next_follows now team problem language own w falls new room =
 
 pub submitted_is_addable : (x : ContestState) (now team : ℕ) (w : WantedSubmission) (s : Submission) → is_valid x ≡ true
     → team < length x.fixed.settings.teams → length w.file ≤ POSTED_FILE
-    → submit x.fixed now team (submissions_of team x.submissions) w ≡ Add s → is_addable x (NewSubmission s) ≡ true
+    → submit x.fixed now team (so_far w.key (submissions_of team x.submissions)) w ≡ Ok (Add s) → is_addable x (NewSubmission s) ≡ true
 submitted_is_addable x now team w s valid there small e =
     let f = x.fixed in
     let own = submissions_of team x.submissions in
-    let t = taken f now team own w s e in
-    let n = next_submission now team own t.problem t.language w in
+    let t = taken f now team (so_far w.key own) w s e in
+    let n = next_submission now team (so_far w.key own) t.problem t.language w in
     let lists = (parts x valid).submissions in
     let rows = all_kept (is_valid_submission f) (λ (r : Submission). r.team == team) x.submissions (and_left (list_all (is_valid_submission f) x.submissions) _ lists) in
     let series : are_valid_submissions own ≡ true = in_any of_one_team are_valid_submissions one_team refl x.submissions n (and_right (list_all (is_valid_submission f) x.submissions) _ lists) in

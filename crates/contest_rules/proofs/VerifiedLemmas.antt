@@ -9,8 +9,8 @@ use Rattle.contest_types.specs.State.{proposals_for}
 use Rattle.contest_types.specs.ValidRejudgings.{is_released}
 use Rattle.contest_types.specs.declared.entry.Entry.TheVariants.{NewRelease}
 use Rattle.contest_types.specs.declared.proposal.Proposal.{Proposal}
-use Rattle.contest_types.specs.declared.refusal.Refusal.{Refusal}
-use Rattle.contest_types.specs.declared.refusal.Refusal.TheVariants.{UnknownReference, AlreadyReleased, NothingToVerify, SameJudge, TypeDiffers}
+use Rattle.contest_rules.specs.declared.rule_refusal.RuleRefusal.{RuleRefusal}
+use Rattle.contest_rules.specs.declared.rule_refusal.RuleRefusal.TheVariants.{UnknownReference, AlreadyReleased, NothingToVerify, SameJudge, TypeDiffers}
 use Rattle.contest_types.specs.declared.submission.Release.{Release}
 use Rattle.contest_types.proofs.LastLemmas.{last_more}
 use Rattle.contest_rules.specs.Laws.{VerifiedIsAddable}
@@ -25,7 +25,7 @@ repeated false true r v e = let same : r ≡ v = cc e in sym same
 repeated false false r v e = absurd (cc e)
 
 taken : (now : ℕ) (account : List ℕ) (n : NamedVerdict) (v : Release) (released : Bool) (o : Option Proposal)
-    → (if released then Err AlreadyReleased else elim o as (λ _. Result Release Refusal) [ None ↦ Err NothingToVerify | (Some p) ↦ verify_of now account n p ]) ≡ Ok v
+    → (if released then Err AlreadyReleased else elim o as (λ _. Result Release RuleRefusal) [ None ↦ Err NothingToVerify | (Some p) ↦ verify_of now account n p ]) ≡ Ok v
     → (released ≡ false) × (v ≡ first_release now n)
 taken now account n v true o e = absurd (cc e)
 taken now account n v false None e = absurd (cc e)
@@ -34,7 +34,7 @@ taken now account n v false (Some p) e = (refl, repeated (is_proposer account p.
 pub verified_is_addable : VerifiedIsAddable
 verified_is_addable x now account w v h =
     let go : (o : Option NamedVerdict) → named_verdict x.fixed x.submissions w ≡ o
-    → elim o as (λ _. Result Release Refusal) [ None ↦ Err UnknownReference | (Some n) ↦ verify_for x.proposals x.releases now account n ] ≡ Ok v → is_addable x (NewRelease v) ≡ true = elim [
+    → elim o as (λ _. Result Release RuleRefusal) [ None ↦ Err UnknownReference | (Some n) ↦ verify_for x.proposals x.releases now account n ] ≡ Ok v → is_addable x (NewRelease v) ≡ true = elim [
       | None ↦ λ e k. absurd (cc k)
       | (Some n) ↦ λ e k. (let t = taken now account n v (is_released n.team n.number x.releases) (last_proposal n.team n.number x.proposals) k in
           let named = named_there x w n e in

@@ -1,5 +1,10 @@
+pub mod RuleRefusals
 pub mod Submitting
 pub mod Verdicts
 pub mod Proposing
 pub mod Verifying
+pub mod Clarifying
+pub mod Opening
+pub mod Rounds
+pub mod Rejudging
 pub mod Laws

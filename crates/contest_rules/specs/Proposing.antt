@@ -9,8 +9,8 @@ use Rattle.contest_types.specs.declared.entry.Entry.TheVariants.{NewProposal, Ne
 use Rattle.contest_types.specs.declared.limits.TheConstants.{PROPOSALS}
 use Rattle.contest_types.specs.declared.proposal.Proposal.{Proposal}
 use Rattle.contest_types.specs.declared.proposal.Proposer.TheVariants.{Account}
-use Rattle.contest_types.specs.declared.refusal.Refusal.{Refusal}
-use Rattle.contest_types.specs.declared.refusal.Refusal.TheVariants.{UnknownReference, AlreadyReleased, TeamLimit}
+use Rattle.contest_rules.specs.declared.rule_refusal.RuleRefusal.{RuleRefusal}
+use Rattle.contest_rules.specs.declared.rule_refusal.RuleRefusal.TheVariants.{UnknownReference, AlreadyReleased, TeamLimit}
 use Rattle.contest_types.specs.declared.submission.Release.{Release}
 use Rattle.contest_types.specs.declared.submission.Submission.{Submission}
 use Rattle.contest_rules.specs.declared.proposing.NewVerdict.{NewVerdict}
@@ -33,17 +33,17 @@ new_verdict f now account n = record {
 }
 
 -- a verdict for a submission that is there: what is released changes no more by a proposal
-abbrev pub propose_for : FixedPart → List Proposal → List Release → (now : ℕ) → (account : List ℕ) → NamedVerdict → Result NewVerdict Refusal
+abbrev pub propose_for : FixedPart → List Proposal → List Release → (now : ℕ) → (account : List ℕ) → NamedVerdict → Result NewVerdict RuleRefusal
 propose_for f ps vs now account n =
     if is_released n.team n.number vs then Err AlreadyReleased
     else (if nat_le PROPOSALS (proposals_made n.team n.number ps) then Err TeamLimit else Ok (new_verdict f now account n))
 
--- the submission and the judgement type first
-abbrev pub propose : FixedPart → List Submission → List Proposal → List Release → (now : ℕ) → (account : List ℕ) → WantedVerdict → Result NewVerdict Refusal
-propose f ss ps vs now account w = elim (named_verdict f ss w) [
-  | None ↦ Err UnknownReference
-  | (Some n) ↦ propose_for f ps vs now account n
-]
+-- what is named first
+abbrev pub propose_named : FixedPart → Option NamedVerdict → List Proposal → List Release → (now : ℕ) → (account : List ℕ) → Result NewVerdict RuleRefusal
+propose_named f o ps vs now account = elim o [ None ↦ Err UnknownReference | (Some n) ↦ propose_for f ps vs now account n ]
+
+abbrev pub propose : FixedPart → List Submission → List Proposal → List Release → (now : ℕ) → (account : List ℕ) → WantedVerdict → Result NewVerdict RuleRefusal
+propose f ss ps vs now account w = propose_named f (named_verdict f ss w) ps vs now account
 
 -- what is added: the proposal, then its release
 abbrev pub entries_of : NewVerdict → List Entry

@@ -19,11 +19,14 @@ submission_named id ss = option_map of_submission (find (λ (s : Submission). by
 abbrev pub type_named : List ℕ → FixedPart → Option ℕ
 type_named id f = place_of id (map (λ (t : JudgementType). t.id) f.settings.types)
 
+-- what a verdict for a submission names, where it and the judgement type are there
+abbrev pub verdict_on : FixedPart → Option SubmissionRef → WantedVerdict → Option NamedVerdict
+verdict_on f o w =
+    option_and_then (λ (s : SubmissionRef). option_map (λ verdict. record { team = s.team; number = s.number; verdict = verdict }) (type_named w.judgement_type f)) o
+
 -- the submission and the judgement type that a verdict names, where both are there
 abbrev pub named_verdict : FixedPart → List Submission → WantedVerdict → Option NamedVerdict
-named_verdict f ss w =
-    option_and_then (λ (s : SubmissionRef). option_map (λ verdict. record { team = s.team; number = s.number; verdict = verdict }) (type_named w.judgement_type f))
-    (submission_named w.submission ss)
+named_verdict f ss w = verdict_on f (submission_named w.submission ss) w
 
 -- the first release on a submission
 abbrev pub first_release : (now : ℕ) → NamedVerdict → Release

@@ -8,8 +8,8 @@ use Rattle.contest_types.specs.ValidRejudgings.{is_released}
 use Rattle.contest_types.specs.declared.proposal.Proposal.{Proposal}
 use Rattle.contest_types.specs.declared.proposal.Proposer.{Proposer}
 use Rattle.contest_types.specs.declared.proposal.Proposer.TheVariants.{Account, Import}
-use Rattle.contest_types.specs.declared.refusal.Refusal.{Refusal}
-use Rattle.contest_types.specs.declared.refusal.Refusal.TheVariants.{UnknownReference, AlreadyReleased, NothingToVerify, SameJudge, TypeDiffers}
+use Rattle.contest_rules.specs.declared.rule_refusal.RuleRefusal.{RuleRefusal}
+use Rattle.contest_rules.specs.declared.rule_refusal.RuleRefusal.TheVariants.{UnknownReference, AlreadyReleased, NothingToVerify, SameJudge, TypeDiffers}
 use Rattle.contest_types.specs.declared.submission.Release.{Release}
 use Rattle.contest_types.specs.declared.submission.Submission.{Submission}
 use Rattle.contest_rules.specs.Verdicts.{first_release, named_verdict}
@@ -26,21 +26,21 @@ is_proposer account (Account id) = bytes_eq id account
 is_proposer account Import = false
 
 -- another account releases what was proposed by naming its type
-abbrev pub verify_of : (now : ℕ) → (account : List ℕ) → NamedVerdict → Proposal → Result Release Refusal
+abbrev pub verify_of : (now : ℕ) → (account : List ℕ) → NamedVerdict → Proposal → Result Release RuleRefusal
 verify_of now account n p = if is_proposer account p.proposer then Err SameJudge else (if p.verdict == n.verdict then Ok (first_release now n) else Err TypeDiffers)
 
 -- a verdict for a submission that is there
-abbrev pub verify_for : List Proposal → List Release → (now : ℕ) → (account : List ℕ) → NamedVerdict → Result Release Refusal
+abbrev pub verify_for : List Proposal → List Release → (now : ℕ) → (account : List ℕ) → NamedVerdict → Result Release RuleRefusal
 verify_for ps vs now account n =
     if is_released n.team n.number vs then Err AlreadyReleased
     else elim (last_proposal n.team n.number ps) [ None ↦ Err NothingToVerify | (Some p) ↦ verify_of now account n p ]
 
--- the submission and the judgement type first
-abbrev pub verify : FixedPart → List Submission → List Proposal → List Release → (now : ℕ) → (account : List ℕ) → WantedVerdict → Result Release Refusal
-verify f ss ps vs now account w = elim (named_verdict f ss w) [
-  | None ↦ Err UnknownReference
-  | (Some n) ↦ verify_for ps vs now account n
-]
+-- what is named first
+abbrev pub verify_named : Option NamedVerdict → List Proposal → List Release → (now : ℕ) → (account : List ℕ) → Result Release RuleRefusal
+verify_named o ps vs now account = elim o [ None ↦ Err UnknownReference | (Some n) ↦ verify_for ps vs now account n ]
+
+abbrev pub verify : FixedPart → List Submission → List Proposal → List Release → (now : ℕ) → (account : List ℕ) → WantedVerdict → Result Release RuleRefusal
+verify f ss ps vs now account w = verify_named (named_verdict f ss w) ps vs now account
 
 -- A word of a private function: nothing public is said with it.
 

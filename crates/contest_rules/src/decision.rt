@@ -1,13 +1,9 @@
-//! What a command comes to.
-use contest_types::Refusal;
-
-/// What a command comes to.
+//! What a command with a key comes to.
+/// What a command with a key comes to, where the rules allow it.
 #[derive(Drop)]
-pub enum Decision<T> {
+pub enum Decision<T, S> {
     /// A row is added.
     Add(T),
-    /// The same was asked before, under the same key: the row at this place, from 0, stands for it.
-    Stands(usize),
-    /// Nothing is added.
-    Refused(Refusal),
+    /// The same was asked before, under the same key: this row stands for it.
+    Stands(S),
 }

@@ -1,6 +1,6 @@
 //! Laws of the decisions: functions that do nothing, and whose contracts say what holds of every
 //! contest.
-ghost use Rattle.contest_rules.specs.Laws.{AlikeSubmitAlike, ProposedIsAddable, SubmittedIsAddable, VerifiedIsAddable};
+ghost use Rattle.contest_rules.specs.Laws.{AlikeClarifyAlike, AlikeSubmitAlike, AppliedIsAddable, ClarifiedIsAddable, OpenedIsAddable, ProposedIsAddable, RejudgedIsAddable, SubmittedIsAddable, VerifiedIsAddable};
 
 /// A submission that is taken keeps a valid contest valid.
 pub fn submitted_is_addable()
@@ -20,4 +20,30 @@ pub fn proposed_is_addable()
 /// And so does the release of one that is verified.
 pub fn verified_is_addable()
     ensures { VerifiedIsAddable }
+{}
+
+/// A clarification that is taken keeps a valid contest valid.
+pub fn clarified_is_addable()
+    ensures { ClarifiedIsAddable }
+{}
+
+/// Nothing that a team can't learn decides what becomes of what it asks: not what others ask and are
+/// told, and not under which keys.
+pub fn alike_clarify_alike()
+    ensures { AlikeClarifyAlike }
+{}
+
+/// A rejudging that is opened keeps a valid contest valid.
+pub fn opened_is_addable()
+    ensures { OpenedIsAddable }
+{}
+
+/// So does each state that a verdict gives to a member of it.
+pub fn rejudged_is_addable()
+    ensures { RejudgedIsAddable }
+{}
+
+/// And so do the releases of one that is applied.
+pub fn applied_is_addable()
+    ensures { AppliedIsAddable }
 {}

@@ -1,15 +1,27 @@
 //! What each command adds to a contest, or why it is refused.
 #![tactic(auto)]
 
+mod clarifying;
 mod decision;
 pub mod laws;
+mod opening;
 mod proposing;
+mod rejudging;
+mod rounds;
+mod rule_refusal;
 mod submitting;
 mod verdicts;
 mod verifying;
 
+pub use clarifying::{
+    NamedClarification, SaidBefore, Sender, WantedClarification, clarification_on,
+    decide_clarification,
+};
 pub use decision::Decision;
+pub use opening::{Candidate, WantedRejudging, decide_opening};
 pub use proposing::{NewVerdict, decide_proposal};
-pub use submitting::{WantedSubmission, decide_submission, has_key};
-pub use verdicts::WantedVerdict;
+pub use rejudging::{MemberChange, decide_apply, decide_cancel, decide_member};
+pub use rule_refusal::RuleRefusal;
+pub use submitting::{OwnSoFar, Standing, WantedSubmission, decide_submission, has_key};
+pub use verdicts::{NamedVerdict, WantedVerdict, verdict_on};
 pub use verifying::decide_verify;

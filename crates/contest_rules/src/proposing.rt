@@ -1,10 +1,11 @@
 //! A judge proposes a verdict.
 ghost use Rattle.std.specs.Prelude.{◌≡◌};
-ghost use Rattle.contest_rules.specs.Proposing.{propose, propose_for, proposals_made, release_at_once};
+ghost use Rattle.contest_rules.specs.Proposing.{propose_for, propose_named, proposals_made, release_at_once};
 
-use crate::verdicts::{NamedVerdict, WantedVerdict, first_release, is_released, named_verdict};
+use crate::RuleRefusal;
+use crate::verdicts::{NamedVerdict, first_release, is_released};
 use contest_types::limits::PROPOSALS;
-use contest_types::{Fixed, Id, Moment, Proposal, Proposer, Refusal, Release, Submission};
+use contest_types::{Fixed, Id, Moment, Proposal, Proposer, Release};
 
 /// What a proposal adds.
 #[derive(Drop)]
@@ -16,8 +17,8 @@ pub struct NewVerdict {
 }
 
 /// What becomes of the verdict that the account with this id proposes now (DOMjudge manual,
-/// "Judging": verification), over the contest's submissions, proposals and releases. It takes no
-/// memory.
+/// "Judging": verification), of what it names and over the contest's proposals and releases. It takes
+/// no memory.
 ///
 /// # Errors
 ///
@@ -25,18 +26,17 @@ pub struct NewVerdict {
 /// where the submission has a release; then `TeamLimit` where 1,000 proposals stand for it.
 pub fn decide_proposal(
     fixed: &Fixed,
-    submissions: &[Submission],
+    named: Option<NamedVerdict>,
     proposals: &[Proposal],
     releases: &[Release],
     now: Moment,
     account: Id,
-    wanted: &WantedVerdict,
-) -> Result<NewVerdict, Refusal>
-    ensures { result ≡ propose fixed.now submissions.now proposals.now releases.now now account wanted.now }
+) -> Result<NewVerdict, RuleRefusal>
+    ensures { result ≡ propose_named fixed.now named proposals.now releases.now now account }
 {
-    match named_verdict(fixed, submissions, wanted) {
+    match named {
         Some(named) => propose_for(fixed, proposals, releases, now, account, named),
-        None => Err(Refusal::UnknownReference),
+        None => Err(RuleRefusal::UnknownReference),
     }
 }
 
@@ -48,7 +48,7 @@ fn propose_for(
     now: Moment,
     account: Id,
     named: NamedVerdict,
-) -> Result<NewVerdict, Refusal>
+) -> Result<NewVerdict, RuleRefusal>
     ensures { result ≡ propose_for fixed.now proposals.now releases.now now account named }
 {
     let NamedVerdict {
@@ -57,10 +57,10 @@ fn propose_for(
         verdict,
     } = named;
     if is_released(releases, team, number) {
-        return Err(Refusal::AlreadyReleased);
+        return Err(RuleRefusal::AlreadyReleased);
     }
     if proposals_made(proposals, team, number) >= PROPOSALS {
-        return Err(Refusal::TeamLimit);
+        return Err(RuleRefusal::TeamLimit);
     }
     Ok(NewVerdict {
         proposal: Proposal {

@@ -1,11 +1,11 @@
 //! A team submits.
-ghost use Rattle.std.specs.Prelude.{◌≡◌, ◌<◌, IfSome, Some, length};
-ghost use Rattle.std.specs.List.{position};
-ghost use Rattle.contest_rules.specs.Submitting.{asks_the_same, fresh, has_key, lacks_entry_point, later, place_of_key, submit, submit_to, takes_submissions, time_after};
+ghost use Rattle.std.specs.Prelude.{◌≡◌, None};
+ghost use Rattle.contest_rules.specs.Submitting.{asks_the_same, fresh, has_key, lacks_entry_point, later, repeated, submit, takes_submissions};
 
-use crate::Decision;
+use crate::{Decision, RuleRefusal};
 use contest_types::limits::TEAM_SUBMISSIONS;
-use contest_types::{Fixed, Id, Moment, Name, Phase, Refusal, Rows, Submission, phase};
+use contest_types::{Fixed, Id, Moment, Name, Phase, Rows, Submission, phase};
+use std::marker::Model;
 
 /// What a team asks for when it submits (Contest API 2023-06, submissions).
 #[derive(Drop)]
@@ -22,84 +22,114 @@ pub struct WantedSubmission {
     pub key: Option<Id>,
 }
 
-/// What becomes of a submission that the team at a place, from 0, hands in now; `own` are the team's
-/// submissions in the order in which they were accepted. It takes no memory.
+/// A submission that stands, and its file, which isn't loaded with it.
+#[derive(Drop)]
+pub struct Standing<'a> {
+    /// The submission, without its file.
+    pub submission: &'a Submission,
+    /// The bytes of its file.
+    pub file: &'a [u8],
+}
+
+impl<'a> Model for Standing<'a> {
+    ghost use Rattle.contest_types.specs.declared.submission.Submission.{Submission as TheSubmission};
+
+    ghost Value = { TheSubmission };
+
+    ghost view = { λ s. record s.submission.now { file = s.file.now } };
+}
+
+/// A team's submissions so far, as far as its next one is decided by them.
+#[derive(Drop)]
+pub struct OwnSoFar<'a> {
+    /// How many there are.
+    pub count: usize,
+    /// When the last one came.
+    pub last: Option<Moment>,
+    /// The one under the key that is asked with, if there is one.
+    pub standing: Option<Standing<'a>>,
+}
+
+/// What becomes of a submission that the team at a place, from 0, hands in now. It takes no memory.
+///
+/// # Errors
 ///
 /// A problem or a language that isn't there is refused first (`UnknownReference`), then a missing
 /// entry point (`EntryPointMissing`). A key that stands answers for itself, whatever now is: with
 /// equal content its submission stands, with other content it is refused (`KeyReused`). Then come
 /// the clock (`NotOpen` unless the contest runs and no finalized mark is set) and the team's limit of
 /// 500 (`TeamLimit`). A submission counts as of now, but never before the team's last (own).
-pub fn decide_submission(
+pub fn decide_submission<'a>(
     fixed: &Fixed,
-    own: &[Submission],
+    own: OwnSoFar<'a>,
     now: Moment,
     team: usize,
     wanted: WantedSubmission,
-) -> Decision<Submission>
-    ensures { result ≡ submit fixed.now now team own.now wanted }
+) -> Result<Decision<Submission, Standing<'a>>, RuleRefusal>
+    ensures { result ≡ submit fixed.now now team own.entry wanted }
 {
     let Some(problem) = fixed.settings.problem_place(wanted.problem.as_bytes()) else {
-        return Decision::Refused(Refusal::UnknownReference);
+        return Err(RuleRefusal::UnknownReference);
     };
     let Some(language) = fixed.settings.language_place(wanted.language.as_bytes()) else {
-        return Decision::Refused(Refusal::UnknownReference);
+        return Err(RuleRefusal::UnknownReference);
     };
     if lacks_entry_point(fixed, language, &wanted.entry_point) {
-        return Decision::Refused(Refusal::EntryPointMissing);
+        return Err(RuleRefusal::EntryPointMissing);
     }
-    submit_to(fixed, own, now, team, problem, language, wanted)
+    match own.standing {
+        Some(standing) => repeated(standing, problem, language, &wanted),
+        None => fresh(
+            fixed, own.count, own.last, now, team, problem, language, wanted,
+        ),
+    }
 }
 
-// The same, where the places of the problem and of the language are known.
-fn submit_to(
-    fixed: &Fixed,
-    own: &[Submission],
-    now: Moment,
-    team: usize,
+// What stands under the key, if it is what is asked for.
+fn repeated<'a>(
+    standing: Standing<'a>,
     problem: usize,
     language: usize,
-    wanted: WantedSubmission,
-) -> Decision<Submission>
-    ensures { result ≡ submit_to fixed.now now team own.now problem language wanted }
+    wanted: &WantedSubmission,
+) -> Result<Decision<Submission, Standing<'a>>, RuleRefusal>
+    ensures { result ≡ repeated standing.entry problem language wanted.now }
 {
-    if let Some(place) = place_of_key(own, &wanted.key) {
-        if asks_the_same(&own[place], problem, language, &wanted) {
-            return Decision::Stands(place);
-        }
-        return Decision::Refused(Refusal::KeyReused);
+    if asks_the_same(&standing, problem, language, wanted) {
+        Ok(Decision::Stands(standing))
+    } else {
+        Err(RuleRefusal::KeyReused)
     }
-    fresh(fixed, own, now, team, problem, language, wanted)
 }
 
 // What no standing key answers for: the clock is asked, and then how many the team has.
-fn fresh(
+fn fresh<'a>(
     fixed: &Fixed,
-    own: &[Submission],
+    count: usize,
+    last: Option<Moment>,
     now: Moment,
     team: usize,
     problem: usize,
     language: usize,
     wanted: WantedSubmission,
-) -> Decision<Submission>
-    ensures { result ≡ fresh fixed.now now team own.now problem language wanted }
+) -> Result<Decision<Submission, Standing<'a>>, RuleRefusal>
+    ensures { result ≡ fresh fixed.now now team (record { count = count; last = last; standing = None }) problem language wanted }
 {
     if !takes_submissions(fixed, now) {
-        return Decision::Refused(Refusal::NotOpen);
+        return Err(RuleRefusal::NotOpen);
     }
-    if own.len() >= TEAM_SUBMISSIONS {
-        return Decision::Refused(Refusal::TeamLimit);
+    if count >= TEAM_SUBMISSIONS {
+        return Err(RuleRefusal::TeamLimit);
     }
-    Decision::Add(Submission {
+    Ok(Decision::Add(Submission {
         team,
-        number: own.len() + 1,
-        time: time_after(own, now),
+        number: count + 1,
+        time: later(last, now),
         problem,
         language,
         entry_point: wanted.entry_point,
         file: wanted.file,
         key: wanted.key,
-    })
+    }))
 }
 
 // Whether the language at a place requires an entry point that isn't given.
@@ -110,24 +140,6 @@ fn lacks_entry_point(fixed: &Fixed, language: usize, entry_point: &Option<Name>)
         Some(language) => language.entry_point_required && entry_point.is_none(),
         None => false,
     }
-}
-
-// Where the submission with a key stands among a team's own, from 0.
-fn place_of_key(own: &[Submission], key: &Option<Id>) -> Option<usize>
-    ensures place { result ≡ place_of_key key.now own.now }
-    ensures within { IfSome result (λ place. place < length own.now) }
-{
-    match key {
-        Some(key) => place_with(own, key),
-        None => None,
-    }
-}
-
-fn place_with(own: &[Submission], key: &Id) -> Option<usize>
-    ensures place { result ≡ position (λ s. has_key key.now s) own.now }
-    ensures within { IfSome result (λ place. place < length own.now) }
-{
-    own.iter().position(|submission| has_key(submission, key))
 }
 
 /// Whether a submission was posted with this idempotency key.
@@ -142,17 +154,17 @@ pub fn has_key(submission: &Submission, key: &Id) -> bool
 
 // Whether a submission that stands is what is asked for.
 fn asks_the_same(
-    standing: &Submission,
+    standing: &Standing<'_>,
     problem: usize,
     language: usize,
     wanted: &WantedSubmission,
 ) -> bool
     ensures { result ≡ asks_the_same standing.now problem language wanted.now }
 {
-    standing.problem == problem
-        && standing.language == language
-        && standing.entry_point == wanted.entry_point
-        && standing.file.as_slice() == wanted.file.as_slice()
+    standing.submission.problem == problem
+        && standing.submission.language == language
+        && standing.submission.entry_point == wanted.entry_point
+        && standing.file == wanted.file.as_slice()
 }
 
 // Whether submissions are accepted now.
@@ -163,17 +175,11 @@ fn takes_submissions(fixed: &Fixed, now: Moment) -> bool
 }
 
 // Now, or the time of the team's last submission where that is later.
-fn time_after(own: &[Submission], now: Moment) -> Moment
-    ensures { result ≡ time_after own.now now }
+fn later(last: Option<Moment>, now: Moment) -> Moment
+    ensures { result ≡ later last now }
 {
-    match own.last() {
-        Some(last) => later(last.time, now),
-        None => now,
+    match last {
+        Some(last) if last > now => last,
+        Some(_) | None => now,
     }
-}
-
-fn later(last: Moment, now: Moment) -> Moment
-    ensures { result ≡ later (Some last) now }
-{
-    if last > now { last } else { now }
 }

@@ -3,10 +3,9 @@ ghost use Rattle.std.specs.Prelude.{◌≡◌};
 ghost use Rattle.std.specs.Option.{option_map};
 ghost use Rattle.contest_types.specs.State.{of_submission};
 ghost use Rattle.contest_types.specs.ValidRejudgings.{is_released};
-ghost use Rattle.contest_rules.specs.Verdicts.{first_release, named_verdict, submission_named};
+ghost use Rattle.contest_rules.specs.Verdicts.{first_release, verdict_on};
 
 use contest_types::{Fixed, Id, Moment, Release, Submission};
-use contest_view::has_submission_id;
 
 /// The verdict that a judge asks for.
 #[derive(Drop)]
@@ -28,29 +27,23 @@ pub struct NamedVerdict {
     pub verdict: usize,
 }
 
-/// What a verdict names; none where the submission or the judgement type isn't there.
-pub(crate) fn named_verdict(
+/// What a verdict for a submission names; none where the submission or the judgement type isn't there.
+pub fn verdict_on(
     fixed: &Fixed,
-    submissions: &[Submission],
+    submission: Option<&Submission>,
     wanted: &WantedVerdict,
 ) -> Option<NamedVerdict>
-    ensures { result ≡ named_verdict fixed.now submissions.now wanted.now }
+    ensures { result ≡ verdict_on fixed.now (option_map of_submission (option_map (λ s. s.now) submission.entry)) wanted.now }
 {
-    let submission = submission_named(submissions, wanted.submission.as_bytes())?;
-    let types = &fixed.settings;
-    let verdict = types.judgement_type_place(wanted.judgement_type.as_bytes())?;
+    let submission = submission?;
+    let verdict = fixed
+        .settings
+        .judgement_type_place(wanted.judgement_type.as_bytes())?;
     Some(NamedVerdict {
         team: submission.team,
         number: submission.number,
         verdict,
     })
-}
-
-// The submission that has an id.
-fn submission_named<'s>(submissions: &'s [Submission], id: &[u8]) -> Option<&'s Submission>
-    ensures { option_map (λ s. of_submission s.now) result ≡ submission_named id.now submissions.now }
-{
-    submissions.iter().find(|submission| has_submission_id(submission.team, submission.number, id))
 }
 
 /// Whether a release stands on a team's submission with this number.

@@ -1,14 +1,15 @@
 //! A judge verifies a verdict that another proposed.
 ghost use Rattle.std.specs.Prelude.{◌≡◌};
 ghost use Rattle.std.specs.Option.{option_map};
-ghost use Rattle.contest_rules.specs.Verifying.{is_proposer, last_proposal, later_for, verify, verify_for, verify_of};
+ghost use Rattle.contest_rules.specs.Verifying.{is_proposer, last_proposal, later_for, verify_for, verify_named, verify_of};
 
-use crate::verdicts::{NamedVerdict, WantedVerdict, first_release, is_released, named_verdict};
-use contest_types::{Fixed, Id, Moment, Proposal, Proposer, Refusal, Release, Submission};
+use crate::RuleRefusal;
+use crate::verdicts::{NamedVerdict, first_release, is_released};
+use contest_types::{Id, Moment, Proposal, Proposer, Release};
 
 /// What becomes of the verdict that the account with this id verifies now (DOMjudge manual, "Judging":
-/// verification), over the contest's submissions, proposals and releases: the release that is added. It
-/// takes no memory.
+/// verification), of what it names and over the contest's proposals and releases: the release that is
+/// added. It takes no memory.
 ///
 /// # Errors
 ///
@@ -16,19 +17,17 @@ use contest_types::{Fixed, Id, Moment, Proposal, Proposer, Refusal, Release, Sub
 /// where the submission has a release, `NothingToVerify` where nothing was proposed for it, `SameJudge`
 /// where this account made the last proposal, and `TypeDiffers` where that one names another type.
 pub fn decide_verify(
-    fixed: &Fixed,
-    submissions: &[Submission],
+    named: Option<NamedVerdict>,
     proposals: &[Proposal],
     releases: &[Release],
     now: Moment,
     account: &Id,
-    wanted: &WantedVerdict,
-) -> Result<Release, Refusal>
-    ensures { result ≡ verify fixed.now submissions.now proposals.now releases.now now account.now wanted.now }
+) -> Result<Release, RuleRefusal>
+    ensures { result ≡ verify_named named proposals.now releases.now now account.now }
 {
-    match named_verdict(fixed, submissions, wanted) {
+    match named {
         Some(named) => verify_for(proposals, releases, now, account, named),
-        None => Err(Refusal::UnknownReference),
+        None => Err(RuleRefusal::UnknownReference),
     }
 }
 
@@ -39,15 +38,15 @@ fn verify_for(
     now: Moment,
     account: &Id,
     named: NamedVerdict,
-) -> Result<Release, Refusal>
+) -> Result<Release, RuleRefusal>
     ensures { result ≡ verify_for proposals.now releases.now now account.now named }
 {
     if is_released(releases, named.team, named.number) {
-        return Err(Refusal::AlreadyReleased);
+        return Err(RuleRefusal::AlreadyReleased);
     }
     match last_proposal(proposals, named.team, named.number) {
         Some(proposal) => verify_of(now, account, named, proposal),
-        None => Err(Refusal::NothingToVerify),
+        None => Err(RuleRefusal::NothingToVerify),
     }
 }
 
@@ -57,14 +56,14 @@ fn verify_of(
     account: &Id,
     named: NamedVerdict,
     proposal: &Proposal,
-) -> Result<Release, Refusal>
+) -> Result<Release, RuleRefusal>
     ensures { result ≡ verify_of now account.now named proposal.now }
 {
     if is_proposer(account, &proposal.proposer) {
-        return Err(Refusal::SameJudge);
+        return Err(RuleRefusal::SameJudge);
     }
     if proposal.verdict != named.verdict {
-        return Err(Refusal::TypeDiffers);
+        return Err(RuleRefusal::TypeDiffers);
     }
     Ok(first_release(now, named))
 }

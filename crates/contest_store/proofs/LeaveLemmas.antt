@@ -3,7 +3,7 @@ use Rattle.std.proofs.Common.{◌≡◌, ◌∙◌, ◌+◌, ◌≤◌, ℕ, Boo
 use Rattle.std.specs.Prelude.{OnErr, MatchResult, nat_lt, if◌then◌else◌}
 use Rattle.std.proofs.lemmas.Bool.Decides.{nat_tests}
 use Rattle.contest_types.specs.State.{ContestState}
-use Rattle.contest_types.specs.Streams.{most_faults, one_more, Failed}
+use Rattle.contest_streams.specs.Streams.{most_faults, one_more, Failed}
 use Rattle.contest_store.specs.Keeping.{Kept, Shows, Leaves, CountsFaults, CountsRefusals}
 use Rattle.contest_store.specs.declared.store_error.StoreError.{StoreError}
 use Rattle.contest_store.specs.declared.store_error.StoreError.TheVariants.{Fault, Memory}

@@ -1,24 +1,16 @@
 -- A contest in memory.
-use Rattle.std.specs.Prelude.{◌≡◌, ◌≤◌, ℕ, ◌-◌, ◌==◌, Bool, true, false, List, [], length, map, Option, None, Some, take}
+use Rattle.std.specs.Prelude.{◌≡◌, ◌≤◌, ℕ, ◌-◌, ◌==◌, Bool, true, false, List, length, map, Option, None, Some, Result, Err, take, if◌then◌else◌}
 use Rattle.std.specs.Option.{option_map}
-use Rattle.contest_types.specs.Streams.{one_more}
+use Rattle.contest_streams.specs.Streams.{one_more}
 use Rattle.contest_types.specs.Loads.{without_file}
-use Rattle.contest_types.specs.State.{FixedPart, ContestState}
+use Rattle.contest_types.specs.State.{ContestState}
 use Rattle.contest_types.specs.declared.entry.Entry.{Entry}
 use Rattle.contest_types.specs.declared.entry.Entry.TheVariants.{NewSubmission}
 use Rattle.contest_types.specs.declared.submission.Submission.{Submission}
+use Rattle.contest_lists.specs.Lists.{filed}
 use Rattle.contest_store.specs.Keeping.{Kept}
-
--- a contest in which nothing but submissions stands
-abbrev pub with_submissions : FixedPart → List Submission → ContestState
-with_submissions fixed submissions = record {
-  fixed = fixed;
-  submissions = submissions;
-  proposals = [];
-  releases = [];
-  clarifications = [];
-  rejudgings = [];
-}
+use Rattle.contest_store.specs.declared.store_error.StoreError.{StoreError}
+use Rattle.contest_store.specs.declared.store_error.StoreError.TheVariants.{Fault}
 
 -- the submissions with their files, and how many of them are committed; the lists as the last commit left
 -- them, and with what was added since, if anything was; how many calls failed, were refused memory and
@@ -40,10 +32,6 @@ latest committed (Some pending) = pending
 
 abbrev pub lists_of : Stored → ContestState
 lists_of s = latest s.committed s.pending
-
--- the contest with these submissions
-abbrev pub filed : List Submission → ContestState → ContestState
-filed submissions x = record x { submissions = submissions }
 
 -- the submission that a change adds, if it adds one
 abbrev pub submission_in : Entry → Option Submission
@@ -100,3 +88,13 @@ failed s = record (rolled_back (counted s)) { calls_left = None }
 -- a call that goes on
 abbrev pub gone_on : Stored → Stored
 gone_on s = record s { calls_left = option_map (λ calls. calls - 1) s.calls_left }
+
+-- a call faults where it is made to fail, and nowhere else
+abbrev pub FaultsIf : {T : Type 0} → Bool → Result T StoreError → Type 0
+FaultsIf due (Err Fault) = due ≡ true
+FaultsIf due _ = due ≡ false
+
+-- how many more calls go on after one, until one is made to fail; after that all do
+abbrev pub left_after : Option ℕ → Option ℕ
+left_after None = None
+left_after (Some calls) = if calls == 0 then None else Some (calls - 1)

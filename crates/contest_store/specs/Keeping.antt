@@ -1,7 +1,7 @@
 -- All that contracts see of a store, and what a call on it leaves, whoever keeps the contest (own).
 use Rattle.std.specs.Prelude.{◌≡◌, ◌⊎◌, ◌≤◌, ℕ, Bool, Option, Some, IsTrue, Result, Ok, Err, OnOk, OnErr, MatchResult}
 use Rattle.contest_types.specs.State.{ContestState}
-use Rattle.contest_types.specs.Streams.{one_more, Failed}
+use Rattle.contest_streams.specs.Streams.{one_more, Failed}
 use Rattle.contest_store.specs.declared.store_error.StoreError.{StoreError}
 use Rattle.contest_store.specs.declared.store_error.StoreError.TheVariants.{Fault, Memory}
 

@@ -1,5 +1,3 @@
 pub mod StoreErrors
 pub mod Keeping
-pub mod Lists
-pub mod TeamRows
 pub mod InMemory

@@ -1,16 +1,15 @@
 //! A contest in memory: for tests of what stands above a store.
 ghost use Rattle.std.specs.Prelude.{◌≡◌, ◌==◌, ◌&&◌, ◌++◌, IfOk, IsTrue, OnOk, OnErr, [], None, Some, true, false, find, map, option_map};
 ghost use Rattle.std.specs.Option.{option_to_list};
-ghost use Rattle.contest_store.specs.InMemory.{committed_of, contest_of, counted, failed, filed, gone_on, is_due, lists_of, refused, rolled_back, submission_in, with_submissions};
-ghost use Rattle.contest_store.specs.Lists.{unfiled};
+ghost use Rattle.contest_lists.specs.Lists.{filed, unfiled, with_submissions};
+ghost use Rattle.contest_store.specs.InMemory.{committed_of, contest_of, counted, failed, gone_on, is_due, lists_of, refused, rolled_back, submission_in};
 ghost use Rattle.contest_types.specs.Addable.{is_addable};
 ghost use Rattle.contest_types.specs.Loads.{file_of, without_file};
 ghost use Rattle.contest_types.specs.State.{add};
-ghost use Rattle.contest_types.specs.Streams.{one_more};
+ghost use Rattle.contest_streams.specs.Streams.{one_more};
 
-use crate::copies::copied_bytes;
-use crate::lists::push;
-use crate::{ContestStore, CopyRow, Lists, StoreError};
+use crate::{ContestStore, StoreError};
+use contest_lists::{CopyRow, Lists, copied_bytes, push};
 use contest_types::{Entry, Fixed, Rows, Submission};
 use std::alloc::{AllocError, Global};
 use std::marker::Model;
@@ -72,8 +71,7 @@ impl MemoryStore {
         }
     }
 
-    /// Lets so many more calls go on, and the one after them fail. That it then fails is shown by tests
-    /// (library_tests and desk_walks): the clauses of the calls are those of any store.
+    /// Lets so many more calls go on, and the one after them fail: no other call faults.
     pub fn fail_after(&mut self, calls: u32)
         ensures { self.new ≡ record self.old { calls_left = Some calls } }
     {
@@ -179,6 +177,7 @@ impl MemoryStore {
         ensures ok { OnOk result (contest_of self.new ≡ add (contest_of self.old) entry.now) }
         ensures kept { OnOk result (committed_of self.new ≡ committed_of self.old) }
         ensures counts { OnOk result ((self.new.faults ≡ self.old.faults) × (self.new.refusals ≡ self.old.refusals) × (self.new.commits ≡ self.old.commits)) }
+        ensures left { OnOk result (self.new.calls_left ≡ self.old.calls_left) }
         ensures err { OnErr result (self.new ≡ self.old) }
     {
         let next = self.latest().copied(alloc)?;
@@ -192,6 +191,7 @@ impl MemoryStore {
         ensures ok { OnOk result (contest_of self.new ≡ add (contest_of self.old) entry.now) }
         ensures kept { OnOk result (committed_of self.new ≡ committed_of self.old) }
         ensures counts { OnOk result ((self.new.faults ≡ self.old.faults) × (self.new.refusals ≡ self.old.refusals) × (self.new.commits ≡ self.old.commits)) }
+        ensures left { OnOk result (self.new.calls_left ≡ self.old.calls_left) }
         ensures err { OnErr result (self.new ≡ self.old) }
     {
         let mut next = next;
@@ -203,7 +203,8 @@ impl MemoryStore {
 
 impl ContestStore for MemoryStore {
     ghost use Rattle.std.specs.Prelude.{refl};
-    ghost use Rattle.contest_store.specs.InMemory.{kept_of};
+    ghost use Rattle.contest_store.specs.InMemory.{FaultsIf, kept_of, left_after};
+    ghost use Rattle.contest_store.specs.Keeping.{Adds, Commits, Reads};
 
     ghost kept = { kept_of };
 
@@ -211,7 +212,13 @@ impl ContestStore for MemoryStore {
 
     ghost survives = { λ s clean. ∣ (_, refl) ∣₁ };
 
-    fn load(&mut self, _alloc: Global) -> Result<(), StoreError> {
+    // Beyond what any store promises, each call says when it faults, and how many more go on then.
+    fn load(&mut self, _alloc: Global) -> Result<(), StoreError>
+        ensures leaves { Reads result (kept_of self.old) (kept_of self.new) }
+        ensures loaded { OnOk result (IsTrue (kept_of self.new).is_loaded) }
+        ensures faults { FaultsIf (is_due self.old.calls_left) result }
+        ensures left { self.new.calls_left ≡ left_after self.old.calls_left }
+    {
         if self.fails() {
             return Err(StoreError::Fault);
         }
@@ -227,7 +234,12 @@ impl ContestStore for MemoryStore {
         alloc: Global,
         team: usize,
         number: usize,
-    ) -> Result<Option<Rows<u8>>, StoreError> {
+    ) -> Result<Option<Rows<u8>>, StoreError>
+        ensures value { (kept_of self.new).is_clean → IfOk result (λ found. found ≡ file_of (kept_of self.old).contest team number) }
+        ensures leaves { Reads result (kept_of self.old) (kept_of self.new) }
+        ensures faults { FaultsIf (is_due self.old.calls_left) result }
+        ensures left { self.new.calls_left ≡ left_after self.old.calls_left }
+    {
         if self.fails() {
             return Err(StoreError::Fault);
         }
@@ -238,7 +250,13 @@ impl ContestStore for MemoryStore {
     }
 
     // The entry is dropped by name: where it ends at a return, each of its kinds is a step of the proof.
-    fn append(&mut self, alloc: Global, entry: Entry) -> Result<(), StoreError> {
+    fn append(&mut self, alloc: Global, entry: Entry) -> Result<(), StoreError>
+        requires loaded { IsTrue (kept_of self.old).is_loaded }
+        requires addable { (kept_of self.old).is_clean → is_addable (kept_of self.old).contest entry ≡ true }
+        ensures leaves { Adds result (kept_of self.old) (kept_of self.new) (add (kept_of self.old).contest entry) }
+        ensures faults { FaultsIf (is_due self.old.calls_left) result }
+        ensures left { self.new.calls_left ≡ left_after self.old.calls_left }
+    {
         if self.fails() {
             drop(entry);
             return Err(StoreError::Fault);
@@ -251,7 +269,12 @@ impl ContestStore for MemoryStore {
         }
     }
 
-    fn commit(&mut self) -> Result<(), StoreError> {
+    fn commit(&mut self) -> Result<(), StoreError>
+        requires { IsTrue (kept_of self.old).is_loaded }
+        ensures leaves { Commits result (kept_of self.old) (kept_of self.new) (kept_of self.old).contest }
+        ensures faults { FaultsIf (is_due self.old.calls_left) result }
+        ensures left { self.new.calls_left ≡ left_after self.old.calls_left }
+    {
         if self.fails() {
             return Err(StoreError::Fault);
         }

@@ -4,9 +4,10 @@ ghost use Rattle.contest_types.specs.State.{ContestState, add};
 ghost use Rattle.contest_types.specs.Addable.{is_addable};
 ghost use Rattle.contest_types.specs.Loads.{file_of};
 ghost use Rattle.contest_store.specs.Keeping.{Kept, Reads, Adds, Commits, LeavesOnly};
-ghost use Rattle.contest_store.specs.Lists.{loaded};
+ghost use Rattle.contest_lists.specs.Lists.{loaded};
 
-use crate::{Lists, StoreError};
+use crate::StoreError;
+use contest_lists::Lists;
 use contest_types::{Entry, Rows};
 use std::alloc::Global;
 

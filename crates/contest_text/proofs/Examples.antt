@@ -9,7 +9,7 @@ use Rattle.contest_score.specs.Ranking.{Scoreboard}
 use Rattle.contest_types.proofs.ExampleContest.{settings}
 use Rattle.contest_text.specs.BoardCsv.{board_csv}
 use Rattle.contest_text.specs.CellText.{cell_text}
-use Rattle.contest_text.specs.Csv.{field_text}
+use Rattle.csv.specs.Writing.{default_writer, escaped, field_text, fields_text, is_blank}
 use Rattle.contest_text.specs.BoardText.{word_of}
 use Rattle.contest_types.specs.declared.audience.Phase.TheVariants as phase
 
@@ -51,15 +51,15 @@ running : word_of phase.Running false false ≡ codes "running"
 running = refl
 
 -- a field is quoted where it has to be, and a quote in it stands twice
-plain_field : field_text (codes "Alpha") ≡ codes "Alpha"
+plain_field : field_text default_writer (codes "Alpha") ≡ codes "Alpha"
 plain_field = refl
 
-field_with_comma : field_text (codes "Alpha, Beta") ≡ codes "\"Alpha, Beta\""
-unfolding chars encode_utf8
+field_with_comma : field_text default_writer (codes "Alpha, Beta") ≡ codes "\"Alpha, Beta\""
+unfolding escaped
 field_with_comma = refl
 
-field_with_quote : field_text (codes "a\"b") ≡ codes "\"a\"\"b\""
-unfolding chars encode_utf8
+field_with_quote : field_text default_writer (codes "a\"b") ≡ codes "\"a\"\"b\""
+unfolding escaped
 field_with_quote = refl
 
 -- the board of two teams, of which the second solved nothing
@@ -72,5 +72,5 @@ board = record {
 }
 
 two_teams : board_csv settings board ≡ codes "rank,team_id,team,solved,time,last,A\n1,t1,Alpha,1,30,10,+3/10\n2,t2,Beta,0,0,,-1?1\n"
-unfolding digits
+unfolding digits fields_text is_blank
 two_teams = refl

@@ -1,5 +1,4 @@
 pub mod Padding
 pub mod CellText
 pub mod BoardText
-pub mod Csv
 pub mod BoardCsv

@@ -4,7 +4,7 @@
 mod board;
 mod cell_text;
 mod csv_board;
-mod csv_field;
+mod csv_record;
 mod padding;
 
 pub use board::board_text;

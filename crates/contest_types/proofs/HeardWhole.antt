@@ -54,9 +54,9 @@ in_both (c ∷ cs) =
     go c.from_jury refl
 
 -- what is asked of the clarifications of an addressee
-record Few (cs : List Clarification) : Type 0 where
-  numbers : map (λ (c : Clarification). c.number) cs ≡ range_with_len 1 (length cs)
-  few : length cs ≤ TEAM_REQUESTS + JURY_CLARIFICATIONS
+pub record Few (cs : List Clarification) : Type 0 where
+  pub numbers : map (λ (c : Clarification). c.number) cs ≡ range_with_len 1 (length cs)
+  pub few : length cs ≤ TEAM_REQUESTS + JURY_CLARIFICATIONS
 
 few_of : (cs : List Clarification) → are_valid_clarifications cs ≡ true → Few cs
 few_of cs h =
@@ -71,11 +71,11 @@ few_of cs h =
     }
 
 -- the tests of the clarifications, of each alone and of those of one addressee
-record Tests (x : ContestState) : Type 0 where
-  alone : list_all (is_valid_clarification x) x.clarifications ≡ true
-  series : (c : Clarification) → Few (clarifications_to c.addressee x.clarifications)
+pub record Tests (x : ContestState) : Type 0 where
+  pub alone : list_all (is_valid_clarification x) x.clarifications ≡ true
+  pub series : (c : Clarification) → Few (clarifications_to c.addressee x.clarifications)
 
-tests : (x : ContestState) → is_valid x ≡ true → Tests x
+pub tests : (x : ContestState) → is_valid x ≡ true → Tests x
 tests x valid =
     let alone = list_all (is_valid_clarification x) x.clarifications in
     let numbered = in_each to_one_addressee are_valid_clarifications x.clarifications in
@@ -89,7 +89,7 @@ first_of_five : (a b c d e : Bool) → (a && b && c && d && e) ≡ true → a �
 first_of_five a b c d e v = and_left a b (and_left (a && b) c (and_left (a && b && c) d (and_left (a && b && c && d) e v)))
 
 -- it goes to all, or to a team that is there
-goes_to : (x : ContestState) (c : Clarification) → is_valid x ≡ true → Has x.clarifications c → is_an_addressee x.fixed c.addressee ≡ true
+pub goes_to : (x : ContestState) (c : Clarification) → is_valid x ≡ true → Has x.clarifications c → is_an_addressee x.fixed c.addressee ≡ true
 goes_to x c valid h =
     first_of_five (is_an_addressee x.fixed c.addressee) (is_some (account_named x.fixed.accounts c.account)) (option_map_or (λ problem. nat_lt problem (length x.fixed.settings.problems)) c.problem true)
     (option_map_or (has_clarification x) c.reply true) (is_well_sent x.fixed c) (all_has (is_valid_clarification x) x.clarifications c (tests x valid).alone h)
@@ -98,7 +98,7 @@ has_addressee : (f : FixedPart) (p : Addressee) → is_an_addressee f p ≡ true
 has_addressee f ToAll h = inl refl
 has_addressee f (ToTeam team) h = inr (has_map ToTeam (team_places f.settings) team (has_team f.settings team (below team (length f.settings.teams) h)))
 
-own_number : (x : ContestState) (c : Clarification) → is_valid x ≡ true → Has x.clarifications c → c.number ≤ TEAM_REQUESTS + JURY_CLARIFICATIONS
+pub own_number : (x : ContestState) (c : Clarification) → is_valid x ≡ true → Has x.clarifications c → c.number ≤ TEAM_REQUESTS + JURY_CLARIFICATIONS
 own_number x c valid h =
     let cs = clarifications_to c.addressee x.clarifications in
     let here : Has cs c = has_filter (λ (d : Clarification). same_addressee d.addressee c.addressee) x.clarifications c h (addressed_itself c.addressee) in
@@ -113,7 +113,7 @@ abbrev team_letter : ℕ
 team_letter = 99
 
 -- an id tells the addressee and the number
-one_id : (f : FixedPart) (p q : Addressee) (m n : ℕ) → length f.settings.teams ≤ TEAMS → is_an_addressee f p ≡ true → is_an_addressee f q ≡ true
+pub one_id : (f : FixedPart) (p q : Addressee) (m n : ℕ) → length f.settings.teams ≤ TEAMS → is_an_addressee f p ≡ true → is_an_addressee f q ≡ true
     → m < 2 ^ 64 → n < 2 ^ 64 → clarification_id p m ≡ clarification_id q n → (same_addressee p q ≡ true) × (m ≡ n)
 one_id f ToAll ToAll m n few hp hq lm ln e = (refl, decimal_injective m n lm ln (cc e))
 one_id f ToAll (ToTeam u) m n few hp hq lm ln e = (let heads : jury_letter ≡ team_letter = cc e in absurd (omega (arith, heads)))
@@ -127,7 +127,7 @@ one_id f (ToTeam t) (ToTeam u) m n few hp hq lm ln e =
     (subst (λ z. same_addressee (ToTeam t) (ToTeam z) ≡ true) team (addressed_itself (ToTeam t)), both.1)
 
 -- one addressee has one clarification with a number
-one_clarification : (x : ContestState) (c d : Clarification) → is_valid x ≡ true → Has x.clarifications c → Has x.clarifications d → same_addressee c.addressee d.addressee ≡ true → c.number ≡ d.number → c ≡ d
+pub one_clarification : (x : ContestState) (c d : Clarification) → is_valid x ≡ true → Has x.clarifications c → Has x.clarifications d → same_addressee c.addressee d.addressee ≡ true → c.number ≡ d.number → c ≡ d
 one_clarification x c d valid hc hd same number =
     let to_one : Clarification → Bool = λ e. same_addressee e.addressee d.addressee in
     one_row (λ (e : Clarification). e.number) 1 (clarifications_to d.addressee x.clarifications) c d ((tests x valid).series d).numbers

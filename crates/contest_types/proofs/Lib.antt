@@ -4,7 +4,6 @@ pub mod CopyLemmas
 pub mod SetupLemmas
 pub mod IdLemmas
 pub mod TextLemmas
-pub mod StreamLemmas
 pub mod RefusalLemmas
 mod ExamplesRefusals
 pub mod RelTimeLemmas

@@ -5,7 +5,6 @@ pub mod RelTimeText
 pub mod RelTimeRead
 pub mod Calendar
 pub mod MomentText
-pub mod Streams
 pub mod Refusals
 pub mod Places
 pub mod Additions

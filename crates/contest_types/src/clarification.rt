@@ -3,7 +3,7 @@ use crate::{Id, Moment, Text};
 
 /// Whose clarifications one belongs to. A team's are those between that team and the jury, in either
 /// direction.
-#[derive(Clone, Copy, PartialEq, Eq)]
+#[derive(Clone, Copy, PartialEq, Eq, Hash)]
 pub enum Addressee {
     /// All: the jury tells everyone.
     All,
@@ -12,7 +12,7 @@ pub enum Addressee {
 }
 
 /// What names a clarification: whose it is, and which of those it is, counted from 1.
-#[derive(Clone, Copy, PartialEq, Eq)]
+#[derive(Clone, Copy, PartialEq, Eq, Hash)]
 pub struct Reference {
     /// Whose it is.
     pub addressee: Addressee,

@@ -14,6 +14,7 @@ mod entry;
 mod fixed;
 mod id;
 mod id_list;
+mod import_kind;
 pub mod laws;
 pub mod limits;
 mod marks;
@@ -31,7 +32,6 @@ mod settings;
 mod settings_names;
 mod sight;
 pub mod sight_laws;
-pub mod streams;
 mod submission;
 mod text;
 mod time_span;
@@ -47,6 +47,7 @@ pub use entry::Entry;
 pub use fixed::Fixed;
 pub use id::{Id, ids_are_ascii, is_id};
 pub use id_list::Identified;
+pub use import_kind::{ImportKind, SettingsKind};
 pub use marks::Marks;
 pub use minute::Minute;
 pub use moment::{Moment, one_moment, one_text, print_time, text_is_counted};
@@ -60,10 +61,9 @@ pub use rel_time::{RelTime, one_time, print_reltime, printed_reads};
 pub use rows::Rows;
 pub use settings::Settings;
 pub use sight::{
-    Mask, is_public, knows_all_of, mask_for, seen_verdict, sees_submission, sees_team,
-    verdict_under,
+    Mask, hears, is_public, knows_all_of, mask_for, seen_verdict, sees_clarification,
+    sees_submission, sees_team, verdict_under,
 };
-pub use streams::Counted;
 pub use submission::{Release, Submission};
 pub use text::Text;
 pub use time_span::TimeSpan;

@@ -1,11 +1,13 @@
 //! Who sees what: teams, submissions and their verdicts.
 ghost use Rattle.std.specs.Prelude.{◌≡◌};
 ghost use Rattle.contest_types.specs.Masks.{knows_all_of, mask_for, verdict_under};
-ghost use Rattle.contest_types.specs.Sight.{last_judgement, seen_verdict, sees_submission, sees_team, type_of};
+ghost use Rattle.contest_types.specs.Sight.{hears, last_judgement, seen_verdict, sees_clarification, sees_submission, sees_team, type_of};
 ghost use Rattle.contest_types.specs.State.{ContestState};
 ghost use Rattle.contest_types.specs.TeamPlaces.{is_public};
 
-use crate::{Audience, Marks, Moment, Settings, Submission, is_frozen, is_thawed};
+use crate::{
+    Addressee, Audience, Clarification, Marks, Moment, Settings, Submission, is_frozen, is_thawed,
+};
 
 /// Whether the team at a place, from 0, isn't hidden. It takes no memory.
 pub fn is_public(settings: &Settings, team: usize) -> bool
@@ -44,6 +46,29 @@ pub fn sees_submission(audience: Audience, settings: &Settings, submission: &Sub
     ensures { (x : ContestState) → x.fixed.settings ≡ settings.now → result ≡ sees_submission audience x submission.now }
 {
     sees_team(audience, settings, submission.team)
+}
+
+/// Whether a caller hears what belongs to an addressee: what is to all, and all of a team that it knows
+/// all of. It takes no memory.
+pub fn hears(audience: Audience, _settings: &Settings, addressee: Addressee) -> bool
+    ensures { result ≡ hears audience _settings.now addressee }
+{
+    match addressee {
+        Addressee::All => true,
+        Addressee::Team(team) => knows_all_of(audience, team),
+    }
+}
+
+/// Whether a caller hears a clarification: who hears what belongs to its addressee does. It takes no
+/// memory.
+pub fn sees_clarification(
+    audience: Audience,
+    settings: &Settings,
+    clarification: &Clarification,
+) -> bool
+    ensures { result ≡ sees_clarification audience settings.now clarification.now }
+{
+    hears(audience, settings, clarification.addressee)
 }
 
 /// Which of a team's verdicts are seen.

@@ -9,7 +9,7 @@ use Rattle.contest_types.specs.declared.audience.Audience.TheVariants as audienc
 use Rattle.contest_types.proofs.ExampleContest.{hours, accepted, submitted, released}
 use Rattle.contest_types.proofs.ExampleTalk.{base, hidden_submission, own_submission}
 use Rattle.contest_view.specs.FileReads.{file_found}
-use Rattle.contest_view.specs.Items.{Item}
+use Rattle.contest_objects.specs.Items.{Item}
 use Rattle.contest_view.specs.Reads.{submission_items, submission_found}
 
 abbrev listed_for : Audience → List (List ℕ)

@@ -1,16 +1,20 @@
-pub mod ObjectLemmas
-pub mod ProposalObjectLemmas
-pub mod CollectionLemmas
-pub mod SettingsObjectLemmas
-pub mod ContestObjectLemmas
-pub mod KeyPlaces
-pub mod Sorting
+pub mod Listed
+pub mod SeriesApart
 pub mod SeenApart
-pub mod SeenKeys
-pub mod SeenArray
-pub mod SubmissionIds
+pub mod SeenOrder
+pub mod ClarificationLists
+pub mod OwnNumbers
+pub mod NamedLemmas
+pub mod SubmissionLists
 pub mod SeenById
 pub mod ReadLaws
 pub mod FileReadLemmas
-mod ExamplesState
 mod ExamplesReads
+pub mod BoardObjectLemmas
+pub mod BoardLaws
+mod ExamplesBoards
+pub mod LastRowLemmas
+pub mod JudgementLemmas
+pub mod JudgementIds
+pub mod JudgementLaws
+pub mod ProposalLemmas

@@ -6,18 +6,20 @@ use Rattle.std.proofs.lemmas.Bool.{false≢true}
 use Rattle.std.proofs.lemmas.Slice.Eq.{bytes_eq-Decides}
 use Rattle.contest_types.specs.Order.{Has}
 use Rattle.contest_types.specs.State.{ContestState}
-use Rattle.contest_types.specs.Sight.{sees_submission, seen_submission, seen_submissions}
+use Rattle.contest_types.specs.Sight.{sees_submission, seen_clarifications, seen_submission, seen_submissions}
 use Rattle.contest_types.specs.Valid.{is_valid}
 use Rattle.contest_types.specs.declared.audience.Audience.{Audience}
 use Rattle.contest_types.specs.declared.submission.Submission.{Submission}
 use Rattle.contest_types.proofs.InOrderLemmas.{find_has, found_in}
 use Rattle.contest_types.proofs.PlaceLemmas.{and_left, and_right, both_true}
 use Rattle.contest_types.proofs.Rising.{find_passes}
-use Rattle.contest_types.proofs.SightLemmas.{seen_alike}
-use Rattle.contest_view.specs.Items.{array_of, found_in as item_found}
-use Rattle.contest_view.specs.Laws.{AlikeReadTheSame, SeenIsFound, NothingElseIsFound}
+use Rattle.contest_types.proofs.SightLemmas.{heard_alike, seen_alike}
+use Rattle.contest_objects.specs.Items.{array_of, found_in as item_found}
+use Rattle.contest_view.specs.Laws.{AlikeReadTheSame, AlikeReadTheSameClarifications, SeenIsFound, NothingElseIsFound}
 use Rattle.contest_types.specs.VisibleIds.{submission_id}
-use Rattle.contest_view.specs.Objects.{submission_object}
+use Rattle.contest_objects.specs.Objects.{submission_object}
+use Rattle.contest_objects.specs.ClarificationObjects.{clarification_item}
+use Rattle.contest_view.specs.Clarifications.{clarification_items}
 use Rattle.contest_view.specs.Reads.{submission_item, submission_items}
 use Rattle.contest_view.proofs.SeenById.{is_asked, has_this_id, one_with_id, seen_found, seen_none, found_as}
 
@@ -25,6 +27,12 @@ pub alike_read : AlikeReadTheSame
 alike_read a now x y held alike =
     let same : submission_items a now x ≡ submission_items a now y =
     ap (λ f. map (submission_item f) (seen_submissions a now x)) alike.fixed ∙ ap (map (submission_item y.fixed)) (seen_alike a now x y held alike) in
+    (ap array_of same, λ id. ap (λ items. item_found items id) same)
+
+pub clarifications_alike : AlikeReadTheSameClarifications
+clarifications_alike a x y alike =
+    let same : clarification_items a x ≡ clarification_items a y =
+    ap (λ f. map (clarification_item f) (seen_clarifications a x)) alike.fixed ∙ ap (map (clarification_item y.fixed)) (heard_alike a x y alike) in
     (ap array_of same, λ id. ap (λ items. item_found items id) same)
 
 -- the submission that is found among all has the id

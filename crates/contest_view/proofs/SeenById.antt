@@ -7,7 +7,7 @@ use Rattle.std.proofs.lemmas.Slice.Eq.{bytes_eq-Decides}
 use Rattle.contest_types.specs.Loads.{without_file, loaded_submissions}
 use Rattle.contest_types.specs.Order.{Has}
 use Rattle.contest_types.specs.State.{FixedPart, ContestState}
-use Rattle.contest_types.specs.Sight.{SeenSubmission, program_for, sees_team, seen_submission, seen_submissions}
+use Rattle.contest_types.specs.Sight.{SeenSubmission, sees_team, seen_submission, seen_submissions}
 use Rattle.contest_types.specs.Valid.{is_valid}
 use Rattle.contest_types.specs.declared.audience.Audience.{Audience}
 use Rattle.contest_types.specs.declared.limits.TheConstants.{TEAMS}
@@ -18,15 +18,14 @@ use Rattle.contest_types.proofs.PlaceLemmas.{and_left, and_right, both_true}
 use Rattle.contest_types.proofs.Rising.{find_passes}
 use Rattle.contest_types.proofs.SeenWhole.{listed_seen, seen_listed, one_submission, team_there}
 use Rattle.contest_types.proofs.ValidParts.{parts}
-use Rattle.contest_view.specs.Items.{Item}
+use Rattle.contest_objects.specs.Items.{Item}
 use Rattle.contest_types.specs.VisibleIds.{submission_id}
-use Rattle.contest_view.specs.Objects.{submission_data, submission_object}
-use Rattle.contest_view.specs.Keys.{if_seen}
+use Rattle.contest_objects.specs.Objects.{submission_object}
+use Rattle.contest_view.specs.Rows.{if_seen}
 use Rattle.contest_view.specs.Reads.{named_submission, submission_item, submission_found}
-use Rattle.contest_view.proofs.CollectionLemmas.{find_mapped}
+use Rattle.contest_objects.proofs.CollectionLemmas.{find_mapped}
 use Rattle.contest_view.proofs.SeenApart.{number_small, within_limit}
-use Rattle.contest_view.proofs.SeenKeys.{same_object}
-use Rattle.contest_view.proofs.SubmissionIds.{one_id}
+use Rattle.contest_objects.proofs.SubmissionIds.{one_id}
 
 -- this one is asked for
 abbrev pub is_asked : Audience → ContestState → List ℕ → Submission → Bool
@@ -78,27 +77,6 @@ found_as a now x id =
 -- files don't enter
 pub found_loaded : (a : Audience) (x : ContestState) (id : List ℕ) → find (is_asked a x id) (loaded_submissions x) ≡ option_map without_file (find (is_asked a x id) x.submissions)
 found_loaded a x id = find_mapped (is_asked a x id) without_file x.submissions
-
-from_loaded : (o : Option Submission) (row : Submission) → option_map without_file o ≡ Some row → (s : Submission) × (o ≡ Some s) × (row ≡ without_file s)
-from_loaded None row e = absurd (cc e)
-from_loaded (Some s) row e = (s, refl, (let same : without_file s ≡ row = cc e in sym same))
-
-none_loaded : (o : Option Submission) → option_map without_file o ≡ None → o ≡ None
-none_loaded None e = refl
-none_loaded (Some s) e = absurd (cc e)
-
-pub found_is : (a : Audience) (now : ℕ) (x : ContestState) → is_valid x ≡ true → (id : List ℕ) (row : Submission) → find (is_asked a x id) (loaded_submissions x) ≡ Some row
-    → Some (submission_data x.fixed row.team row.number row.time row.problem row.language (program_for a row)) ≡ submission_found a now x id
-found_is a now x valid id row e =
-    let f = from_loaded (find (is_asked a x id) x.submissions) row (sym (found_loaded a x id) ∙ e) in
-    let object : submission_data x.fixed row.team row.number row.time row.problem row.language (program_for a row) ≡ submission_object x.fixed (seen_submission a now x f.0) =
-    ap (λ (r : Submission). submission_data x.fixed r.team r.number r.time r.problem r.language (program_for a r)) f.2 ∙ same_object x.fixed a f.0 in
-    ap Some object ∙ sym (found_as a now x id ∙ ap (option_map (submission_object x.fixed)) (seen_found a now x valid id f.0 f.1))
-
-pub none_is : (a : Audience) (now : ℕ) (x : ContestState) → is_valid x ≡ true → (id : List ℕ) → find (is_asked a x id) (loaded_submissions x) ≡ None → None ≡ submission_found a now x id
-none_is a now x valid id e =
-    let none : find (is_asked a x id) x.submissions ≡ None = none_loaded (find (is_asked a x id) x.submissions) (sym (found_loaded a x id) ∙ e) in
-    sym (found_as a now x id ∙ ap (option_map (submission_object x.fixed)) (seen_none a now x valid id none (find (has_this_id id) (seen_submissions a now x)) refl))
 
 seen_without : (a : Audience) (f : FixedPart) (o : Option Submission) → option_map without_file (if_seen a f o) ≡ if_seen a f (option_map without_file o)
 seen_without a f None = refl

@@ -11,9 +11,13 @@ use Rattle.contest_types.specs.Valid.{is_valid}
 use Rattle.contest_types.specs.declared.audience.Audience.{Audience}
 use Rattle.contest_types.specs.declared.submission.Submission.{Submission}
 use Rattle.contest_types.specs.VisibleIds.{submission_id}
+use Rattle.contest_view.specs.Clarifications.{clarifications_data, clarification_found}
 use Rattle.contest_view.specs.FileReads.{file_found, file_place}
-use Rattle.contest_view.specs.Objects.{submission_object}
+use Rattle.contest_objects.specs.Objects.{submission_object}
 use Rattle.contest_view.specs.Reads.{submissions_data, submission_found}
+use Rattle.contest_view.specs.Judgements.{judgements_data, judgement_found}
+use Rattle.contest_view.specs.Proposals.{proposals_data}
+use Rattle.contest_view.specs.Scoreboards.{scoreboard_data}
 
 -- until the thaw, alike contests give an audience the same submissions to read, all of them and by any id
 abbrev pub AlikeReadTheSame : Type 0
@@ -49,3 +53,25 @@ abbrev pub PlacedFileIsFound : Type 0
 PlacedFileIsFound =
     (a : Audience) (now : ℕ) (x : ContestState) (id : List ℕ) → is_valid x ≡ true
     → option_and_then (λ (p : ℕ × ℕ). file_of x p.0 p.1) (file_place a x.fixed (loaded_submissions x) id) ≡ file_found a now x id
+
+-- until the thaw, alike contests give an audience the same judgements to read, all of them and by any id
+abbrev pub AlikeReadTheSameJudgements : Type 0
+AlikeReadTheSameJudgements =
+    (a : Audience) (now : ℕ) (x y : ContestState) → MayBeHeld a now x → Alike a x y
+    → (judgements_data a now x ≡ judgements_data a now y) × ((id : List ℕ) → judgement_found a now x id ≡ judgement_found a now y id)
+
+-- and the same proposals, which are none
+abbrev pub AlikeReadTheSameProposals : Type 0
+AlikeReadTheSameProposals = (a : Audience) (now : ℕ) (x y : ContestState) → MayBeHeld a now x → Alike a x y → proposals_data a now x ≡ proposals_data a now y
+
+-- alike contests give an audience the same clarifications to read, all of them and by any id: of those between others it
+-- hears nothing
+abbrev pub AlikeReadTheSameClarifications : Type 0
+AlikeReadTheSameClarifications =
+    (a : Audience) (x y : ContestState) → Alike a x y
+    → (clarifications_data a x ≡ clarifications_data a y) × ((id : List ℕ) → clarification_found a x id ≡ clarification_found a y id)
+
+-- until the thaw, alike contests show an audience the same scoreboard
+abbrev pub AlikeShowTheSameScoreboard : Type 0
+AlikeShowTheSameScoreboard =
+    (a : Audience) (now : ℕ) (x y : ContestState) → MayBeHeld a now x → Alike a x y → scoreboard_data a now x ≡ scoreboard_data a now y

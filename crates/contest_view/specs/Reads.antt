@@ -1,24 +1,15 @@
 -- What an audience reads of a contest, as JSON (Contest API 2023-06). All of it is made of what the
 -- audience sees, so that nothing tells what isn't seen from what isn't there.
-use Rattle.std.specs.Prelude.{◌≡◌, ℕ, List, Option, Some, map, find, slice_get}
-use Rattle.std.specs.Option.{option_map}
+use Rattle.std.specs.Prelude.{ℕ, List, Option, map, find}
 use Rattle.std.specs.Str.{bytes_eq}
 use Rattle.serde_json.specs.Data.{Data}
 use Rattle.contest_types.specs.State.{FixedPart, ContestState}
-use Rattle.contest_types.specs.Sight.{SeenSubmission, seen_submission, seen_submissions}
+use Rattle.contest_types.specs.Sight.{SeenSubmission, seen_submissions}
 use Rattle.contest_types.specs.declared.audience.Audience.{Audience}
 use Rattle.contest_types.specs.declared.submission.Submission.{Submission}
 use Rattle.contest_types.specs.VisibleIds.{submission_id}
-use Rattle.contest_view.specs.Objects.{submission_object}
-use Rattle.contest_view.specs.Items.{Item, array_of, found_in}
-
--- what is seen of the submission at a place of the list of all, if there is one
-abbrev pub seen_row : Audience → ℕ → ContestState → ℕ → Option SeenSubmission
-seen_row a now x place = option_map (seen_submission a now x) (slice_get x.submissions place)
-
--- at these places, in this order, stands all that an audience sees of submissions
-abbrev pub IsSeenOrder : Audience → ℕ → ContestState → List ℕ → Type 0
-IsSeenOrder a now x places = map (seen_row a now x) places ≡ map Some (seen_submissions a now x)
+use Rattle.contest_objects.specs.Objects.{submission_object}
+use Rattle.contest_objects.specs.Items.{Item, array_of, found_in}
 
 -- the submission with this id, byte for byte, whoever sees it
 abbrev pub named_submission : (id : List ℕ) → List Submission → Option Submission

@@ -1,6 +1,6 @@
-//! Laws of what is served: functions that do nothing, and whose contracts say what holds of every
+//! Laws of what is shown: functions that do nothing, and whose contracts say what holds of every
 //! contest.
-ghost use Rattle.contest_view.specs.Laws.{AlikeReadTheSame, AlikeReadTheSameFiles, SeenIsFound, NothingElseIsFound, FilesAreForTheirTeams, PlacedFileIsFound};
+ghost use Rattle.contest_view.specs.Laws.{AlikeReadTheSame, AlikeReadTheSameFiles, SeenIsFound, NothingElseIsFound, FilesAreForTheirTeams, PlacedFileIsFound, AlikeReadTheSameJudgements, AlikeReadTheSameProposals, AlikeReadTheSameClarifications, AlikeShowTheSameScoreboard};
 
 /// Until the thaw, contests that are alike for an audience give it the same submissions to read, all
 /// of them and by any id.
@@ -33,4 +33,26 @@ pub fn files_are_for_their_teams()
 /// In a valid contest the file that is read is that of the submission which `file_place` names.
 pub fn placed_file_is_found()
     ensures { PlacedFileIsFound }
+{}
+
+/// Until the thaw, contests that are alike for an audience give it the same judgements to read, all of
+/// them and by any id.
+pub fn judgements_alike()
+    ensures { AlikeReadTheSameJudgements }
+{}
+
+/// And no proposals, whatever judges propose.
+pub fn proposals_alike()
+    ensures { AlikeReadTheSameProposals }
+{}
+
+/// Contests that are alike for an audience give it the same clarifications to read, all of them and by
+/// any id: those between others change nothing.
+pub fn clarifications_alike()
+    ensures { AlikeReadTheSameClarifications }
+{}
+
+/// Until the thaw, contests that are alike for an audience show it the same scoreboard.
+pub fn scoreboard_alike()
+    ensures { AlikeShowTheSameScoreboard }
 {}

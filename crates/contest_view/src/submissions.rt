@@ -7,90 +7,112 @@ ghost use Rattle.contest_types.specs.Loads.{loaded_submissions};
 ghost use Rattle.contest_types.specs.State.{ContestState};
 ghost use Rattle.contest_types.specs.Valid.{is_valid};
 ghost use Rattle.contest_view.specs.FileReads.{file_place, place_for};
-ghost use Rattle.contest_view.specs.Keys.{if_seen};
+ghost use Rattle.contest_view.specs.Rows.{if_seen, own_cmp, row_cmp};
+ghost use Rattle.contest_view.specs.SeenLists.{Shows};
 ghost use Rattle.contest_view.specs.Reads.{named_submission, submissions_data, submission_found};
 
-use crate::collection::{Collection, objects_at};
-use crate::seen_places::seen_order;
-use crate::submission_object::submission_value;
-use crate::visible_ids::has_submission_id;
-use contest_types::{Audience, Fixed, Submission, knows_all_of, sees_team};
+use crate::named::named_rows;
+use crate::seen::Seen;
+use contest_objects::{Collection, Ordered, get, has_submission_id, list, submission_value};
+use contest_types::{Audience, Fixed, Settings, Submission, knows_all_of, sees_team};
 use serde_json::Value;
 use std::alloc::{AllocError, Global};
+use std::cmp::Ordering;
+
+/// Which of two submissions is listed first: by time, team id and number (Contest API 2023-06,
+/// submissions).
+pub fn compare_submissions(settings: &Settings, first: &Submission, second: &Submission) -> Ordering
+    ensures { result ≡ row_cmp settings.now first.now second.now }
+{
+    match first.time.milliseconds().cmp(&second.time.milliseconds()) {
+        Ordering::Equal => compare_own(settings, first, second),
+        times => times,
+    }
+}
+
+// Of two of one time: by team id and number.
+fn compare_own(settings: &Settings, first: &Submission, second: &Submission) -> Ordering
+    ensures { result ≡ own_cmp settings.now first.now second.now }
+{
+    let teams = settings
+        .team_id(first.team)
+        .cmp(settings.team_id(second.team));
+    teams.then(first.number.cmp(&second.number))
+}
 
 /// Submissions as an audience is served them.
 #[derive(Clone, Copy)]
 struct Submissions<'a> {
-    fixed: &'a Fixed,
-    audience: Audience,
+    seen: &'a Seen<'a>,
 }
 
 impl<'a> Collection for Submissions<'a> {
-    ghost use Rattle.contest_types.specs.Sight.{sees_team};
-    ghost use Rattle.contest_view.specs.Keys.{row_item};
+    ghost use Rattle.contest_view.specs.Rows.{row_item};
 
     type Row = Submission;
 
-    ghost sees = { λ c row. sees_team c.audience c.fixed.now.settings row.team };
-
-    ghost item = { λ c. row_item c.fixed.now c.audience };
-
-    fn sees(&self, row: &Submission) -> bool {
-        sees_team(self.audience, &self.fixed.settings, row.team)
-    }
+    ghost item = { λ c. row_item c.seen.now.lists.now.fixed c.seen.now.audience };
 
     fn has_id(&self, row: &Submission, id: &[u8]) -> bool {
-        has_submission_id(row.team, row.number, id)
+        let settings = &self.seen.lists.fixed().settings;
+        sees_team(self.seen.audience, settings, row.team)
+            && has_submission_id(row.team, row.number, id)
     }
 
-    fn object(&self, alloc: Global, row: &Submission) -> Result<Value, AllocError> {
-        submission_value(alloc, self.fixed, self.audience, row)
+    fn object(&self, alloc: Global, row: &Submission) -> Result<Option<Value>, AllocError> {
+        let fixed = self.seen.lists.fixed();
+        if !sees_team(self.seen.audience, &fixed.settings, row.team) {
+            return Ok(None);
+        }
+        let value = submission_value(alloc, fixed, self.seen.audience, row)?;
+        Ok(Some(value))
     }
 }
 
+impl<'a> Ordered for Submissions<'a> {
+    ghost use Rattle.contest_view.specs.Rows.{row_cmp, row_total};
+
+    ghost cmp = { λ c. row_cmp c.seen.now.lists.now.fixed.settings };
+
+    fn compare(&self, first: &Submission, second: &Submission) -> Ordering {
+        compare_submissions(&self.seen.lists.fixed().settings, first, second)
+    }
+
+    ghost total = { λ c. row_total c.seen.now.lists.now.fixed.settings };
+}
+
 /// The array of the submissions that an audience sees, by time, team id and number (Contest API
-/// 2023-06, submissions). The submissions of the contest come in the order in which they were
-/// accepted, and without their files.
+/// 2023-06, submissions).
 ///
 /// # Errors
 ///
 /// Want of memory alone.
-pub fn submissions_value(
-    alloc: Global,
-    fixed: &Fixed,
-    audience: Audience,
-    submissions: &[Submission],
-) -> Result<Value, AllocError>
-    ensures seen { (now : ℕ) (x : ContestState) → is_valid x ≡ true → x.fixed ≡ fixed.now → loaded_submissions x ≡ submissions.now
-        → IfOk result (λ v. view v ≡ submissions_data audience now x) }
+pub fn submissions_value(alloc: Global, seen: &Seen<'_>) -> Result<Value, AllocError>
+    ensures seen { (x : ContestState) → Shows seen.entry.now x → IfOk result (λ v. view v ≡ submissions_data seen.entry.now.audience seen.entry.now.now x) }
     ensures no_floats { IfOk result (λ v. has_float (view v) ≡ false) }
 {
-    let places = seen_order(alloc, &fixed.settings, audience, submissions)?;
-    let collection = Submissions { fixed, audience };
-    let values = objects_at(alloc, &collection, submissions, &places)?;
-    Ok(Value::Array(values))
+    let rows = seen.lists.submissions();
+    let value = list(alloc, &Submissions { seen }, rows)?;
+    Ok(value)
 }
 
 /// The submission with an id, if the audience sees it: one that it doesn't see is as one that isn't
-/// there. The one with the id, whoever sees it, comes without its file.
+/// there. It is as quick whatever was submitted.
 ///
 /// # Errors
 ///
 /// Want of memory alone.
 pub fn submission_by_id(
     alloc: Global,
-    fixed: &Fixed,
-    audience: Audience,
-    named: Option<&Submission>,
+    seen: &Seen<'_>,
+    id: &[u8],
 ) -> Result<Option<Value>, AllocError>
-    ensures seen { (now : ℕ) (x : ContestState) (id : List ℕ) → is_valid x ≡ true → x.fixed ≡ fixed.now → named_submission id (loaded_submissions x) ≡ option_map (λ s. s.now) named.entry
-        → IfOk result (λ found. option_map view found ≡ submission_found audience now x id) }
+    ensures seen { (x : ContestState) → Shows seen.entry.now x → IfOk result (λ found. option_map view found ≡ submission_found seen.entry.now.audience seen.entry.now.now x id.now) }
     ensures no_floats { IfOk result (λ found. IfSome found (λ v. has_float (view v) ≡ false)) }
 {
-    match if_seen(fixed, audience, named) {
-        Some(submission) => Ok(Some(submission_value(alloc, fixed, audience, submission)?)),
-        None => Ok(None),
-    }
+    let rows = named_rows(seen.lists, id);
+    let found = get(alloc, &Submissions { seen }, rows, id)?;
+    Ok(found)
 }
 
 /// Whose file an audience reads by an id: by the place of the team, from 0, and the submission's number,

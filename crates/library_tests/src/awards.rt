@@ -1,6 +1,6 @@
 //! Awards of small boards, as they are listed.
 
-use contest_fixtures::{SettingRow, demo_settings, moment};
+use contest_fixtures::{SettingRow, moment, rehearsal_settings};
 use contest_score::{Awards, Board, CellRow, Row, Score, Solve, awards};
 use contest_types::{Medals, Minute, Settings};
 use std::alloc::Global;
@@ -141,7 +141,7 @@ fn listed_in(alloc: Global, settings: &Settings, awarded: &Awarded) -> Result<St
 }
 
 fn listed(alloc: Global, awarded: &Awarded) -> Result<String, Fail> {
-    let settings = demo_settings(alloc, awarded.medals, &ROWS)?;
+    let settings = rehearsal_settings(alloc, awarded.medals, &ROWS)?;
     listed_in(alloc, &settings, awarded)
 }
 

@@ -1,6 +1,6 @@
 //! Cells of a contest's own lists: which release on a submission counts.
 
-use contest_fixtures::{SettingRow, after, demo};
+use contest_fixtures::{SettingRow, after, rehearsal};
 use contest_score::{Cell, Cells, can_be_scored, contest_cells};
 use contest_types::{Audience, Fixed, Minute, Release, Rows, Submission};
 use std::alloc::Global;
@@ -147,6 +147,6 @@ fn assert_all_count(rt: &(impl Abort + AllocGlobal), fixed: &Fixed) -> Result<()
 
 #[test]
 fn the_last_release_counts(rt: HostRuntime) -> Result<(), Fail> {
-    let fixed = demo(rt.alloc(), &ROWS, Rows::new(rt.alloc()))?;
+    let fixed = rehearsal(rt.alloc(), &ROWS, Rows::new(rt.alloc()))?;
     assert_all_count(&rt, &fixed)
 }

@@ -1,7 +1,7 @@
 //! The command `replay` over memory: words and a file, and what comes of them.
 
 use contest_fixtures::text_of;
-use contest_types::Counted;
+use contest_streams::Counted;
 use std::alloc::Global;
 use std::fmt;
 use std::io::{Read, Write};
@@ -44,7 +44,7 @@ pub fn replay<R: Read, O: Write, E: Write>(
     let mut reader = Counted::new(reader);
     let mut out = Counted::new(out);
     let mut err = Counted::new(err);
-    contest_replay_cli::replay(alloc, words, &mut reader, &mut out, &mut err)
+    contest_cli_replay::replay(alloc, words, &mut reader, &mut out, &mut err)
 }
 
 /// What the command gives for what a reader gives.

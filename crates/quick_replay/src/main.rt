@@ -4,15 +4,15 @@
 
 ghost use Rattle.std.specs.Prelude.{◌≡◌, map, true, false};
 ghost use Rattle.std.specs.List.{list_any};
-ghost use Rattle.contest_types.specs.Streams.{stream};
-ghost use Rattle.contest_words.specs.Endings.{ShowsSome};
-ghost use Rattle.contest_words.specs.Help.{is_help};
-ghost use Rattle.contest_replay_cli.specs.Replay.{Replays};
+ghost use Rattle.contest_streams.specs.Streams.{stream};
+ghost use Rattle.contest_cli_words.specs.Endings.{ShowsSome};
+ghost use Rattle.contest_cli_words.specs.Help.{is_help};
+ghost use Rattle.contest_cli_replay.specs.Replay.{Replays};
 
-use contest_replay_cli::{replay, replay_app};
+use contest_cli_replay::{replay, replay_app};
+use contest_cli_words::{CommandError, asks_help, borrowed, refuse_arguments, show_help};
+use contest_streams::Counted;
 use contest_types::Refusal;
-use contest_types::streams::Counted;
-use contest_words::{CommandError, asks_help, borrowed, refuse_arguments, show_help};
 use std::alloc::{AllocError, Global};
 use std::env;
 use std::io::{Read, Write};

@@ -3,7 +3,7 @@ use Rattle.std.specs.Prelude.{◌≡◌, [], true}
 use Rattle.contest_types.specs.Addable.{is_addable}
 use Rattle.contest_types.specs.State.{FixedPart}
 use Rattle.contest_types.specs.declared.entry.Entry.{Entry}
-use Rattle.contest_store.specs.InMemory.{with_submissions}
+use Rattle.contest_lists.specs.Lists.{with_submissions}
 
 -- no settings but the head, and no accounts
 pub record IsBare (f : FixedPart) : Type 0 where

@@ -2,7 +2,7 @@
 ghost use Rattle.std.specs.Prelude.{IfOk};
 ghost use Rattle.store_tests.specs.FirstChanges.{IsBare, MayBeFirst};
 
-use contest_fixtures::{MEDALS, after, demo_head, id, name};
+use contest_fixtures::{MEDALS, after, id, name, rehearsal_head};
 use contest_types::{
     Account, Digest, Entry, Fixed, Group, Id, JudgementType, Language, Marks, MemberState, Name,
     Problem, Rejudging, RejudgingState, Role, Rows, Settings, Team,
@@ -15,7 +15,7 @@ use std::test::Fail;
 pub fn bare(alloc: Global) -> Result<Rc<Fixed>, Fail>
     ensures { IfOk result (λ f. IsBare f.value) }
 {
-    let settings = Settings::new(alloc, demo_head(alloc, MEDALS)?)?;
+    let settings = Settings::new(alloc, rehearsal_head(alloc, MEDALS)?)?;
     let fixed = Fixed {
         settings,
         accounts: Rows::new(alloc),

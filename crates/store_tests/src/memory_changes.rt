@@ -1,11 +1,13 @@
 //! Changes of a contest in memory: each is made, and a fault takes it away.
 ghost use Rattle.std.specs.Prelude.{◌≡◌, []};
 ghost use Rattle.contest_types.specs.State.{FixedPart};
-ghost use Rattle.contest_store.specs.InMemory.{contest_of, with_submissions};
+ghost use Rattle.contest_lists.specs.Lists.{with_submissions};
+ghost use Rattle.contest_store.specs.InMemory.{contest_of};
 ghost use Rattle.store_tests.specs.FirstChanges.{IsBare};
 
 use crate::first_changes::{bare, first_change};
-use contest_store::{ContestStore, Lists, MemoryStore, StoreError};
+use contest_lists::Lists;
+use contest_store::{ContestStore, MemoryStore, StoreError};
 use std::alloc::Global;
 use std::process::Abort;
 use std::test::Fail;

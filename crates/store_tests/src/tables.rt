@@ -4,17 +4,17 @@ ghost use Rattle.sqlite.specs.Held.{state};
 ghost use Rattle.sqlite.specs.State.{HasCleanDisk};
 ghost use Rattle.sqlite.specs.Steps.{over_memory};
 ghost use Rattle.contest_types.specs.State.{FixedPart};
-ghost use Rattle.contest_store.specs.InMemory.{with_submissions};
-ghost use Rattle.contest_tables.specs.Connected.{IsBare as HasNoTable};
-ghost use Rattle.contest_sqlite.specs.Contests.{committed_of, contest_of};
-ghost use Rattle.contest_sqlite.specs.Value.{shown_in};
+ghost use Rattle.contest_lists.specs.Lists.{with_submissions};
+ghost use Rattle.contest_store_tables.specs.Connected.{IsBare as HasNoTable};
+ghost use Rattle.contest_store_sqlite.specs.Contests.{committed_of, contest_of};
+ghost use Rattle.contest_store_sqlite.specs.Value.{shown_in};
 ghost use Rattle.store_tests.specs.FirstChanges.{IsBare};
 
 use crate::first_changes::first_change;
 use crate::memory_changes::{AFTER, counts};
-use contest_fixtures::{MEDALS, after, demo_head};
-use contest_sqlite::Store;
-use contest_store::ContestStore;
+use contest_fixtures::{MEDALS, after, rehearsal_head};
+use contest_store::{ContestStore, StoreError};
+use contest_store_sqlite::{OpenError, Store};
 use contest_types::{Contest, Moment, Refusal};
 use sqlite::{Connection, MemStore};
 use std::alloc::Global;
@@ -28,12 +28,12 @@ pub fn no_tables(alloc: Global) -> Result<Connection<MemStore>, Fail>
 
 fn contest(alloc: Global) -> Result<Contest, Fail> {
     Ok(Contest {
-        head: demo_head(alloc, MEDALS)?,
+        head: rehearsal_head(alloc, MEDALS)?,
         start: None,
     })
 }
 
-pub fn refused<T: Drop>(_of: (Refusal, T)) -> Fail {
+pub fn refused<E: Copy, T: Drop>(_of: (E, T)) -> Fail {
     Fail::from("the store was refused")
 }
 
@@ -108,15 +108,18 @@ fn compares_the_heads_of_contests(rt: HostRuntime) -> Result<(), Fail> {
     Ok(())
 }
 
-fn opened(alloc: Global) -> Result<Option<Refusal>, Fail> {
+fn opened(alloc: Global) -> Result<Option<OpenError>, Fail> {
     match Store::open(alloc, no_tables(alloc)?) {
         Ok(_) => Ok(None),
-        Err((refusal, _)) => Ok(Some(refusal)),
+        Err((error, _)) => Ok(Some(error)),
     }
 }
 
 #[test]
 fn is_refused_without_tables(rt: HostRuntime) -> Result<(), Fail> {
-    assert_eq!(rt; opened(rt.alloc())?, Some(Refusal::StoreFault));
+    assert_eq!(rt;
+        opened(rt.alloc())?,
+        Some(OpenError::Store(StoreError::Fault))
+    );
     Ok(())
 }

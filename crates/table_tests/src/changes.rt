@@ -1,12 +1,13 @@
 //! A contest's tables take a change of each kind, and show it.
 use crate::rows::{SHOWN, Shown};
 use crate::sixteen::{CHANGES, change};
-use contest_changes::append;
-use contest_fixed_rows::{contest_cells, desk_cells};
-use contest_fixtures::demo;
-use contest_rows::is_row;
-use contest_store::{Lists, StoreError};
-use contest_tables::{Counts, TableName, Tables};
+use contest_fixtures::rehearsal;
+use contest_lists::Lists;
+use contest_store::StoreError;
+use contest_store_changes::append;
+use contest_store_fixed_rows::{contest_cells, desk_cells};
+use contest_store_rows::{VERSION, is_row};
+use contest_store_tables::{Counts, TableName, Tables};
 use contest_types::{Entry, Fixed, Rows};
 use sqlite::{Connection, MemStore, Row};
 use std::alloc::Global;
@@ -30,7 +31,7 @@ fn made(alloc: Global, fixed: &Fixed) -> Result<Tables<MemStore>, StoreError> {
 fn make_tables(tables: &mut Tables<MemStore>, fixed: &Fixed) -> Result<(), StoreError> {
     tables.begin()?;
     tables.make()?;
-    tables.insert(TableName::Desk, &desk_cells())?;
+    tables.insert(TableName::Desk, &desk_cells(VERSION))?;
     tables.insert(TableName::Contest, &contest_cells(fixed))
 }
 
@@ -104,7 +105,7 @@ fn shown_over(alloc: Global, lists: &mut Lists) -> Result<(usize, Counts), Fail>
 }
 
 fn shown_after(alloc: Global) -> Result<(usize, Counts), Fail> {
-    let mut lists = Lists::new(alloc, demo(alloc, &[], Rows::new(alloc))?);
+    let mut lists = Lists::new(alloc, rehearsal(alloc, &[], Rows::new(alloc))?);
     shown_over(alloc, &mut lists)
 }
 

@@ -1,5 +1,5 @@
 //! The rows that the tables show after all changes, table by table.
-use contest_tables::TableName;
+use contest_store_tables::TableName;
 use sqlite::types::ValueRef;
 use sqlite::types::ValueRef::{Blob, Int, Null, Text};
 
@@ -12,8 +12,8 @@ pub static SHOWN: [Shown; 10] = [
         TableName::Contest,
         &[&[
             Int(1),
-            Text(b"demo"),
-            Text(b"Demo Cup"),
+            Text(b"rehearsal"),
+            Text(b"Rehearsal"),
             Int(18_000_000),
             Int(3_600_000),
             Int(20),

@@ -1,6 +1,6 @@
 //! What stands in a database is told apart: nothing, the tables of a desk, others.
 use contest_store::StoreError;
-use contest_tables::{Standing, Tables};
+use contest_store_tables::{Standing, Tables};
 use sqlite::{Connection, MemStore};
 use std::alloc::Global;
 

@@ -1,6 +1,6 @@
 //! One contest's tables: each is made, takes a row and shows it, and a row that may change changes.
 use contest_store::StoreError;
-use contest_tables::{Counts, RowChange, TableName, Tables};
+use contest_store_tables::{Counts, RowChange, TableName, Tables};
 use sqlite::types::ValueRef;
 use sqlite::types::ValueRef::{Blob, Int, Null, Text};
 use sqlite::{Connection, MemStore, Row};

@@ -1,30 +1,30 @@
 //! One request served by a new desk at 9:05, and what stands at it then.
 
-use crate::demo_desk::desk;
+use crate::rehearsal_desk::desk;
 use crate::streams::{Full, Source, ample, whole};
 use contest_desk::Desk;
 use contest_fixtures::{after, text_of};
 use contest_http::{ServeFault, Served, serve_one};
 use contest_store::MemoryStore;
-use contest_types::Counted;
+use contest_streams::Counted;
 use std::alloc::Global;
 use std::fmt;
 use std::test::Fail;
 
 /// A team's program, which a desk takes.
 pub const POST: &str =
-    "POST /contests/demo/submissions HTTP/1.1\r\nHost: x\r\nAuthorization: Bearer token-a1\r\nContent-Length: 64\r\n\r\n{\"problem_id\":\"a\",\"language_id\":\"cpp\",\"files\":[{\"data\":\"YWJj\"}]}";
+    "POST /contests/rehearsal/submissions HTTP/1.1\r\nHost: x\r\nAuthorization: Bearer token-a1\r\nContent-Length: 64\r\n\r\n{\"problem_id\":\"a\",\"language_id\":\"cpp\",\"files\":[{\"data\":\"YWJj\"}]}";
 
 /// The same of a team that waits for the interim reply before it sends the body.
 pub const EXPECTING: &str =
-    "POST /contests/demo/submissions HTTP/1.1\r\nHost: x\r\nAuthorization: Bearer token-a1\r\nExpect: 100-continue\r\nContent-Length: 64\r\n\r\n{\"problem_id\":\"a\",\"language_id\":\"cpp\",\"files\":[{\"data\":\"YWJj\"}]}";
+    "POST /contests/rehearsal/submissions HTTP/1.1\r\nHost: x\r\nAuthorization: Bearer token-a1\r\nExpect: 100-continue\r\nContent-Length: 64\r\n\r\n{\"problem_id\":\"a\",\"language_id\":\"cpp\",\"files\":[{\"data\":\"YWJj\"}]}";
 
 /// The interim reply.
 pub const INTERIM: &str = "HTTP/1.1 100 Continue\r\n\r\n";
 
 /// The reply to either.
 pub const TAKEN: &str =
-    "HTTP/1.1 200 OK\r\nDate: Sat, 02 Mar 2024 09:05:00 GMT\r\nContent-Type: application/json\r\nContent-Length: 216\r\nConnection: close\r\n\r\n{\"contest_time\":\"0:05:00.000\",\"files\":[{\"href\":\"contests/demo/submissions/s1-1/files\",\"mime\":\"application/zip\"}],\"id\":\"s1-1\",\"language_id\":\"cpp\",\"problem_id\":\"a\",\"team_id\":\"t1\",\"time\":\"2024-03-02T09:05:00.000+00:00\"}";
+    "HTTP/1.1 200 OK\r\nDate: Sat, 02 Mar 2024 09:05:00 GMT\r\nContent-Type: application/json\r\nContent-Length: 221\r\nConnection: close\r\n\r\n{\"contest_time\":\"0:05:00.000\",\"files\":[{\"href\":\"contests/rehearsal/submissions/s1-1/files\",\"mime\":\"application/zip\"}],\"id\":\"s1-1\",\"language_id\":\"cpp\",\"problem_id\":\"a\",\"team_id\":\"t1\",\"time\":\"2024-03-02T09:05:00.000+00:00\"}";
 
 /// The reply to what is no request.
 pub const MALFORMED: &str =
@@ -32,7 +32,7 @@ pub const MALFORMED: &str =
 
 /// The team reads its submissions.
 const LIST: &str =
-    "GET /contests/demo/submissions HTTP/1.1\r\nHost: x\r\nAuthorization: Bearer token-a1\r\n\r\n";
+    "GET /contests/rehearsal/submissions HTTP/1.1\r\nHost: x\r\nAuthorization: Bearer token-a1\r\n\r\n";
 
 /// How a request was served, what was written, and whether its submission stands.
 #[derive(Drop)]

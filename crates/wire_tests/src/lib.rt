@@ -3,11 +3,11 @@
 #![tactic(auto)]
 
 #[cfg(test)]
-mod demo_desk;
-#[cfg(test)]
 mod exchange;
 #[cfg(test)]
 mod reading;
+#[cfg(test)]
+mod rehearsal_desk;
 #[cfg(test)]
 mod socket;
 #[cfg(test)]

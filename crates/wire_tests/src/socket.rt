@@ -1,10 +1,10 @@
 //! A request over a connection of the machine itself.
 
-use crate::demo_desk::desk;
 use crate::exchange::{POST, TAKEN};
+use crate::rehearsal_desk::desk;
 use contest_fixtures::{after, text_of};
 use contest_http::{ServeFault, Served, serve_one};
-use contest_types::Counted;
+use contest_streams::Counted;
 use std::alloc::Global;
 use std::io::{Read, Write};
 use std::net::{Ipv4Addr, Shutdown, TcpListener, TcpStream};

@@ -1,6 +1,6 @@
 use Rattle.std.proofs.Common.{◌≡◌, ◌∙◌, List, ℕ, refl, subst, inl}
-use Rattle.contest_types.specs.Streams.{Stream, Tells}
-use Rattle.contest_words.specs.Endings.{TellsWords}
+use Rattle.contest_streams.specs.Streams.{Stream, Tells}
+use Rattle.contest_cli_words.specs.Endings.{TellsWords}
 use Rattle.contest_cli.proofs.commands.refuse_command.Goals as goal
 
 told_as : (text other : List ℕ) (old new : Stream) → text ≡ other → Tells old new text → TellsWords other old new 2

@@ -1,5 +1,5 @@
 use Rattle.std.proofs.Common.{inl, inr}
-use Rattle.contest_words.proofs.StreamLemmas.{keeps_same}
+use Rattle.contest_cli_words.proofs.StreamLemmas.{keeps_same}
 use Rattle.contest_cli.proofs.file_commands.board_by_words.Goals as goal
 
 pub returns-in-Ok : goal.returns-in-Ok

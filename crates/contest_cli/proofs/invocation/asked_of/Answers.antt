@@ -2,7 +2,7 @@ use Rattle.std.proofs.Common.{◌≡◌, ◌∙◌, sym, ap, ℕ, List, Bor, Boo
 use Rattle.std.specs.Prelude.{if◌then◌else◌}
 use Rattle.std.specs.List.{list_any}
 use Rattle.clap.proofs.WalkLemmas.{list_any-map}
-use Rattle.contest_words.specs.Help.{is_help}
+use Rattle.contest_cli_words.specs.Help.{is_help}
 use Rattle.contest_cli.specs.declared.invocation.CommandName.{CommandName}
 use Rattle.contest_cli.specs.declared.invocation.Invocation.{Invocation}
 use Rattle.contest_cli.specs.declared.invocation.Invocation.TheVariants.{To, HelpOf}

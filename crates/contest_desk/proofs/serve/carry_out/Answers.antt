@@ -1,7 +1,7 @@
 use Rattle.std.proofs.Common.{◌∙◌, ap}
 use Rattle.contest_types.specs.Addable.{are_addable}
-use Rattle.contest_store.specs.Lists.{loaded}
-use Rattle.contest_operations.specs.Commands.{file_at}
+use Rattle.contest_lists.specs.Lists.{loaded}
+use Rattle.contest_postings.specs.OwnSubmissions.{file_at}
 use Rattle.contest_operations.specs.declared.outcome.Outcome.{Outcome}
 use Rattle.contest_operations.specs.Wishes.{file_needed}
 use Rattle.contest_operations.proofs.LawLemmas.{come_addable}

@@ -3,7 +3,7 @@ use Rattle.contest_types.specs.State.{ContestState}
 use Rattle.contest_operations.specs.Step.{outcome_of, wish_or_reply}
 use Rattle.contest_operations.specs.Wishes.{wish_outcome}
 use Rattle.contest_operations.proofs.WishLemmas.{wished_sound}
-use Rattle.contest_desk.proofs.MemoryLemmas.{wished_takes}
+use Rattle.contest_operations.proofs.MemoryLemmas.{wished_takes}
 use Rattle.contest_desk.proofs.ServingLemmas.{then_kept}
 use Rattle.contest_desk.proofs.serve.serve.Goals as goal
 

@@ -1,6 +1,6 @@
 use Rattle.std.proofs.Common.{◌++◌, arith, take}
 use Rattle.std.proofs.lemmas.Grind.{common_steps}
-use Rattle.contest_types.proofs.StreamLemmas.{consumes_both}
+use Rattle.contest_streams.proofs.StreamLemmas.{consumes_both}
 use Rattle.contest_http.proofs.body.read_by.Goals as goal
 
 -- the last piece is taken too, though memory for it was refused

@@ -1,5 +1,4 @@
-use Rattle.std.proofs.Common.{length, ◌-◌, ◌≡◌, ◌≤◌, drop}
-use Rattle.std.proofs.Common.{map}
+use Rattle.std.proofs.Common.{length, ◌-◌, ◌≡◌, ◌≤◌, drop, map}
 use Rattle.httparse.specs.Spans.{header_bytes}
 use Rattle.contest_http.specs.Fields.{values}
 use Rattle.contest_http.proofs.fields.first.Given as goal

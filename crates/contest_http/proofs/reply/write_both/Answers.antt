@@ -1,4 +1,4 @@
-use Rattle.contest_types.proofs.StreamLemmas.{front_second}
+use Rattle.contest_streams.proofs.StreamLemmas.{front_second}
 use Rattle.contest_http.proofs.reply.write_both.Goals as goal
 
 pub returns-in-Err-write_all-clause-err : goal.returns-in-Err-write_all-clause-err

@@ -1,4 +1,5 @@
-use Rattle.std.proofs.Common.{inr}
+use Rattle.std.proofs.Common.{inr, subst}
+use Rattle.contest_streams.specs.Streams.{Failed}
 use Rattle.contest_http.proofs.ServeLemmas.{answers_alike, serves_asked, serves_failed, serves_nothing, serves_refused}
 use Rattle.contest_http.proofs.serving.serve_one.Goals as goal
 
@@ -21,19 +22,7 @@ returns-in-Asked-clause-bytes g c input left p q =
     let read = rw c.in-Asked.is at (c.in-Ok.ensures.bytes input left p q) in
     let e = c.handle-reply.ensures in
     serves_asked g.S.ContestStore.kept input left _ _ _ c.args.now c.args.desk.now c.handle-reply.new.self c.in-Asked.credential c.in-Asked.request c.in-Asked.head_only
-    c.handle-reply.result c.answer-in-Asked.result read record {
-      answered = e.reply;
-      contest = e.contest;
-      unchanged = e.unchanged;
-      lasts = e.kept;
-      opens = e.open;
-      up = e.up;
-      shut = e.shut;
-      crash = e.crash;
-      fault = e.fault;
-      no_fault = e.no_fault;
-      isolated = e.isolated;
-    } c.answer-in-Asked.ensures.bytes
+    c.handle-reply.result c.answer-in-Asked.result read record { answered = e.reply; leaves = e.leaves; isolated = e.isolated; memory = e.memory } c.answer-in-Asked.ensures.bytes
 
 pub returns-in-Asked-clause-handled : goal.returns-in-Asked-clause-handled
 returns-in-Asked-clause-handled g c =
@@ -42,19 +31,7 @@ returns-in-Asked-clause-handled g c =
       c.in-Asked.credential,
       c.in-Asked.request,
       c.handle-reply.result,
-      record {
-        answered = e.reply;
-        contest = e.contest;
-        unchanged = e.unchanged;
-        lasts = e.kept;
-        opens = e.open;
-        up = e.up;
-        shut = e.shut;
-        crash = e.crash;
-        fault = e.fault;
-        no_fault = e.no_fault;
-        isolated = e.isolated;
-      },
+      record { answered = e.reply; leaves = e.leaves; isolated = e.isolated; memory = e.memory },
     )
 
 pub returns-in-Asked-clause-isolated : goal.returns-in-Asked-clause-isolated
@@ -64,3 +41,6 @@ returns-in-Asked-clause-isolated g c input left p q clean =
 pub returns-in-Err-clause-bytes : goal.returns-in-Err-clause-bytes
 returns-in-Err-clause-bytes g c input left p q =
     serves_failed g.S.ContestStore.kept input left _ _ c.args.now c.args.desk.now c.in-Err.fault (c.in-Err.ensures.bytes input left p q)
+
+pub returns-in-Asked-clause-write : goal.returns-in-Asked-clause-write
+returns-in-Asked-clause-write g c e = subst (λ faults. Failed faults c.answer-in-Asked.new.writer.faults) c.in-Ok.ensures.calm (c.answer-in-Asked.ensures.write e)

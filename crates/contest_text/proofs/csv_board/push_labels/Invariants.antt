@@ -1,7 +1,10 @@
-use Rattle.std.specs.Prelude.{◌≡◌, ◌++◌, map, take, string_bytes}
+use Rattle.std.specs.Prelude.{◌≡◌, ◌++◌, [], map, take}
+use Rattle.csv.specs.Records.{fields_of, partial_of}
 use Rattle.contest_types.specs.ProblemPlaces.{label_at}
-use Rattle.contest_text.specs.Csv.{further_fields}
 use Rattle.contest_text.proofs.csv_board.push_labels.Given as goal
 
 abbrev pub invariant-loop-place : goal.invariant-loop-place
-invariant-loop-place l = string_bytes l.out ≡ string_bytes l.fn.out ++ further_fields (map (label_at l.settings) (take l.place-index l.columns))
+invariant-loop-place l = record {
+  fields : fields_of l.fields ≡ fields_of l.fn.fields ++ map (label_at l.settings) (take l.place-index l.columns);
+  whole : partial_of l.fields ≡ [];
+}

@@ -1,6 +1,5 @@
-use Rattle.std.proofs.Common.{◌≡◌, Err, IfOk, None, Some, subst}
-use Rattle.contest_types.specs.declared.refusal.Refusal.TheVariants.{NotFound}
-use Rattle.contest_boards.specs.Scoreboards.{board_found}
+use Rattle.std.proofs.Common.{◌≡◌, IfOk, None, Some, subst}
+use Rattle.contest_view.specs.Scoreboards.{board_found}
 use Rattle.contest_desk.specs.Boards.{board_told}
 use Rattle.contest_desk.proofs.BoardLemmas.{told_board, told_missing}
 use Rattle.contest_desk.proofs.desk.Desk.board.Goals as goal

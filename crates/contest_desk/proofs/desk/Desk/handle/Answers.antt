@@ -2,14 +2,17 @@ use Rattle.std.proofs.Common.{◌≡◌, ◌∙◌, true, sym, subst, ap, inl, i
 use Rattle.std.specs.Prelude.{◌⊎◌}
 use Rattle.contest_types.specs.Alike.{Alike, MayBeHeld}
 use Rattle.contest_types.specs.State.{add_all}
-use Rattle.contest_types.specs.Streams.{Failed, one_more}
+use Rattle.contest_types.specs.declared.refusal.Refusal.TheVariants.{StoreFault}
+use Rattle.contest_streams.specs.Streams.{Failed}
 use Rattle.contest_operations.specs.Laws.{HasSight}
-use Rattle.contest_operations.specs.Replies.{refused}
-use Rattle.contest_operations.specs.Step.{may_take_memory, outcome}
-use Rattle.contest_desk.proofs.FaultLemmas.{ordinary_apart, fault_counted, memory_counted, store_reply}
-use Rattle.contest_operations.proofs.LawLemmas.{steps_alike, steps_keep_valid}
-use Rattle.contest_desk.proofs.ServingLemmas.{stays_settled}
+use Rattle.contest_operations.specs.Replies.{IsStoreReply, refused}
+use Rattle.contest_operations.specs.Step.{may_take_memory, outcome, step}
 use Rattle.contest_operations.specs.declared.reply.Reply.{Reply}
+use Rattle.contest_operations.proofs.LawLemmas.{step_alike, steps_keep_valid}
+use Rattle.contest_desk.specs.Doing.{DoesOrFails}
+use Rattle.contest_desk.proofs.DoingLemmas.{does, fails}
+use Rattle.contest_desk.proofs.FaultLemmas.{memory_counted, ordinary_apart, reply_fault, store_reply}
+use Rattle.contest_desk.proofs.ServingLemmas.{stays_settled}
 use Rattle.contest_desk.proofs.desk.Desk.handle.Goals as goal
 
 pub invariant_of-self : goal.invariant_of-self
@@ -25,32 +28,37 @@ returns-in-Ok-clause-isolated g c = λ clean other a y sight held valid h.
     let old = g.S.ContestStore.kept c.self.inside.store in
     let s = c.in-Ok.ensures.leaves.ok clean in
     let settled = c.self.invariant.0 (c.serve.ensures.leaves.clean clean) (c.serve.ensures.leaves.up clean s.up) in
-    let alike = steps_alike a c.args.now c.args.credential c.args.request old.contest y settled.1 valid
+    let alike = step_alike a c.args.now c.args.credential c.args.request old.contest y settled.1 valid
     (subst (λ r. HasSight (g.S.ContestStore.kept r).contest.fixed c.args.credential a) before sight) (subst (λ r. MayBeHeld a c.args.now (g.S.ContestStore.kept r).contest) before held) (subst (λ r. Alike a (g.S.ContestStore.kept r).contest y) before h) in
     (c.in-Ok.ensures.reply clean ∙ alike.0, subst (λ z. Alike a z (add_all y (outcome y c.args.now c.args.credential c.args.request).entries)) (sym s.now_is) alike.1)
 
-pub returns-in-Ok-clause-unchanged : goal.returns-in-Ok-clause-unchanged
-returns-in-Ok-clause-unchanged g c = λ clean opened fails. absurd (ordinary_apart c.in-Ok.reply c.in-Ok.ensures.ordinary fails)
-
-pub returns-in-Ok-clause-fault : goal.returns-in-Ok-clause-fault
-returns-in-Ok-clause-fault g c = λ is. absurd (ordinary_apart c.in-Ok.reply c.in-Ok.ensures.ordinary (inl is))
-
-pub returns-in-Ok-clause-no_commit : goal.returns-in-Ok-clause-no_commit
-returns-in-Ok-clause-no_commit g c = λ clean fails. absurd (ordinary_apart c.in-Ok.reply c.in-Ok.ensures.ordinary fails)
+pub returns-in-Ok-clause-leaves : goal.returns-in-Ok-clause-leaves
+returns-in-Ok-clause-leaves g c =
+    let old = g.S.ContestStore.kept c.self.inside.store in
+    let new = g.S.ContestStore.kept c.serve.new.store in
+    let entries = (outcome old.contest c.args.now c.args.credential c.args.request).entries in
+    let settled = stays_settled old new entries _ c.serve.result (steps_keep_valid c.args.now c.args.credential c.args.request old.contest) c.self.invariant.0 c.serve.ensures.leaves in
+    subst (λ r. DoesOrFails (g.S.ContestStore.kept r) new (step (g.S.ContestStore.kept r).contest c.args.now c.args.credential c.args.request).1
+    (outcome (g.S.ContestStore.kept r).contest c.args.now c.args.credential c.args.request).entries (IsStoreReply c.in-Ok.reply) (c.in-Ok.reply ≡ refused StoreFault)) c.self.view_is
+    (does c.in-Ok.reply old new entries _ _ _ (ordinary_apart c.in-Ok.reply c.in-Ok.ensures.ordinary) (λ told. inl told) settled (g.met.S.ContestStore.settled c.serve.new.store) c.in-Ok.ensures.leaves)
 
 pub returns-in-Ok-clause-memory : goal.returns-in-Ok-clause-memory
 returns-in-Ok-clause-memory g c = λ clean is. absurd (ordinary_apart c.in-Ok.reply c.in-Ok.ensures.ordinary (inr is))
 
-pub returns-in-Ok-clause-open : goal.returns-in-Ok-clause-open
-returns-in-Ok-clause-open g c = λ clean. inr ((c.in-Ok.ensures.leaves.ok clean).up, ordinary_apart c.in-Ok.reply c.in-Ok.ensures.ordinary)
-
 pub returns-clause-isolated : goal.returns-clause-isolated
 returns-clause-isolated g c = λ clean other. absurd (other (store_reply c.in-Err.error c.refused.result (c.refused.ensures ∙ ap refused c.refusal.ensures)))
 
-pub returns-clause-fault : goal.returns-clause-fault
-returns-clause-fault g c = λ told.
-    fault_counted Reply c.in-Err.error _ _ c.refused.result c.in-Err.ensures.leaves.faults (c.refused.ensures ∙ ap refused c.refusal.ensures) told
-    ∙ ap (λ r. one_more (g.S.ContestStore.kept r).faults) c.self.view_is
+pub returns-clause-leaves : goal.returns-clause-leaves
+returns-clause-leaves g c =
+    let old = g.S.ContestStore.kept c.self.inside.store in
+    let new = g.S.ContestStore.kept c.serve.new.store in
+    let entries = (outcome old.contest c.args.now c.args.credential c.args.request).entries in
+    let settled = stays_settled old new entries _ c.serve.result (steps_keep_valid c.args.now c.args.credential c.args.request old.contest) c.self.invariant.0 c.serve.ensures.leaves in
+    let is : c.refused.result ≡ refused _ = c.refused.ensures ∙ ap refused c.refusal.ensures in
+    subst (λ r. DoesOrFails (g.S.ContestStore.kept r) new (step (g.S.ContestStore.kept r).contest c.args.now c.args.credential c.args.request).1
+    (outcome (g.S.ContestStore.kept r).contest c.args.now c.args.credential c.args.request).entries (IsStoreReply c.refused.result) (c.refused.result ≡ refused StoreFault)) c.self.view_is
+    (fails {T = Reply} c.in-Err.error old new entries _ _ _ (store_reply c.in-Err.error c.refused.result is) (reply_fault c.in-Err.error c.refused.result is) c.self.invariant.0 settled
+    (g.met.S.ContestStore.settled c.serve.new.store) c.in-Err.ensures.leaves)
 
 pub returns-clause-memory : goal.returns-clause-memory
 returns-clause-memory g c = λ clean told.

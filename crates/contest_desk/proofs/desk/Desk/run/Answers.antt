@@ -19,29 +19,24 @@ loop-item-init g c = record {
 pub loop-item-preserved : goal.loop-item-preserved
 loop-item-preserved g c =
     let handles : (g.S.ContestStore.kept c.perform-answer.new.self).is_clean → Handles (g.S.ContestStore.kept c.loop-item.self) (g.S.ContestStore.kept c.perform-answer.new.self) c.in-Some.item c.perform-answer.result = λ clean. record {
-      opens = c.perform-answer.ensures.open clean;
+      clean = clean;
       answers = c.perform-answer.ensures.answer clean;
-      becomes = c.perform-answer.ensures.contest clean;
-      stays = c.perform-answer.ensures.unchanged clean;
-      up = c.perform-answer.ensures.up clean;
-      kept = c.perform-answer.ensures.kept clean;
-      crash = c.perform-answer.ensures.crash clean;
-      shut = c.perform-answer.ensures.shut clean;
+      leaves = c.perform-answer.ensures.leaves;
     } in
     let more : c.push.new.self.items ≡ c.loop-item.answers.items ++ c.perform-answer.result ∷ [] = search rules in
     record {
       run = λ clean. handled (g.S.ContestStore.kept c.args.self.now) (g.S.ContestStore.kept c.loop-item.self) (g.S.ContestStore.kept c.perform-answer.new.self) c.args.items.items c.loop-item.item-iterator.rest.items c.next.new.self.rest.items
-          c.loop-item.answers.items c.push.new.self.items c.in-Some.item c.perform-answer.result c.in-Some.ensures.steps.0 more (handles clean) (c.loop-item.invariant.run (c.perform-answer.ensures.clean clean));
+          c.loop-item.answers.items c.push.new.self.items c.in-Some.item c.perform-answer.result c.in-Some.ensures.steps.0 more (handles clean) (c.loop-item.invariant.run (c.perform-answer.ensures.leaves.clean clean));
       opens = λ clean all opened. open_after (g.S.ContestStore.kept c.loop-item.self) (g.S.ContestStore.kept c.perform-answer.new.self) c.in-Some.item c.loop-item.answers.items c.push.new.self.items c.perform-answer.result more (handles clean) all;
       faults = subst (λ rs. CountsAnswers rs (g.S.ContestStore.kept c.args.self.now).faults (g.S.ContestStore.kept c.perform-answer.new.self).faults) (sym more)
-          (counts_more c.loop-item.answers.items c.perform-answer.result _ _ _ c.loop-item.invariant.faults c.perform-answer.ensures.faults);
-      clean = λ clean. c.loop-item.invariant.clean (c.perform-answer.ensures.clean clean);
-      up = λ clean opened. c.loop-item.invariant.up (c.perform-answer.ensures.clean clean) (c.perform-answer.ensures.up clean opened);
-      shuts = λ clean opened. elim (c.loop-item.invariant.shuts (c.perform-answer.ensures.clean clean) opened) [
-        | inl still ↦ elim (c.perform-answer.ensures.shuts clean still) [ inl now_open ↦ inl now_open | inr failed ↦ inr (then_failed _ _ _ c.loop-item.invariant.troubles failed) ]
-        | inr failed ↦ inr (failed_then _ _ _ failed c.perform-answer.ensures.troubles)
+          (counts_more c.loop-item.answers.items c.perform-answer.result _ _ _ c.loop-item.invariant.faults (c.perform-answer.ensures.leaves.fault, c.perform-answer.ensures.leaves.no_fault));
+      clean = λ clean. c.loop-item.invariant.clean (c.perform-answer.ensures.leaves.clean clean);
+      up = λ clean opened. c.loop-item.invariant.up (c.perform-answer.ensures.leaves.clean clean) (c.perform-answer.ensures.leaves.up clean opened);
+      shuts = λ clean opened. elim (c.loop-item.invariant.shuts (c.perform-answer.ensures.leaves.clean clean) opened) [
+        | inl still ↦ elim (c.perform-answer.ensures.leaves.shuts clean still) [ inl now_open ↦ inl now_open | inr failed ↦ inr (then_failed _ _ _ c.loop-item.invariant.troubles failed) ]
+        | inr failed ↦ inr (failed_then _ _ _ failed c.perform-answer.ensures.leaves.troubles)
       ];
-      troubles = let a = c.loop-item.invariant.troubles in let b = c.perform-answer.ensures.troubles in omega (arith, a, b);
+      troubles = let a = c.loop-item.invariant.troubles in let b = c.perform-answer.ensures.leaves.troubles in omega (arith, a, b);
       room = search rules;
     }
 

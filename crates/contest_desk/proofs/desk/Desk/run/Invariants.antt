@@ -1,6 +1,6 @@
 use Rattle.std.proofs.Common.{◌+◌, ◌≤◌, length, vec_len, vec_capacity}
 use Rattle.std.specs.Prelude.{◌⊎◌, All, IsTrue}
-use Rattle.contest_types.specs.Streams.{Failed}
+use Rattle.contest_streams.specs.Streams.{Failed}
 use Rattle.contest_desk.specs.Items.{IsStoreAnswer}
 use Rattle.contest_desk.specs.Runs.{CountsAnswers}
 use Rattle.contest_desk.proofs.RunLemmas.{GoesOn}

@@ -1,7 +1,7 @@
 use Rattle.std.proofs.Common.{◌≡◌, ap, sym, ◌∙◌}
 use Rattle.contest_types.specs.State.{add}
 use Rattle.contest_store.specs.InMemory.{contest_of, latest, lists_of}
-use Rattle.contest_store.specs.Lists.{unfiled}
+use Rattle.contest_lists.specs.Lists.{unfiled}
 use Rattle.contest_store.proofs.FiledLemmas.{filed_added, still_filed}
 use Rattle.contest_store.proofs.memory.MemoryStore.put.Goals as goal
 

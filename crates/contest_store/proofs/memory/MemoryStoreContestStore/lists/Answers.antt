@@ -1,5 +1,6 @@
 use Rattle.std.proofs.Common.{◌∙◌}
-use Rattle.contest_store.specs.InMemory.{lists_of, filed}
+use Rattle.contest_lists.specs.Lists.{filed}
+use Rattle.contest_store.specs.InMemory.{lists_of}
 use Rattle.contest_store.proofs.memory.MemoryStoreContestStore.lists.Goals as goal
 
 pub returns : goal.returns

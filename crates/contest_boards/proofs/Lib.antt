@@ -1,3 +1,0 @@
-pub mod ObjectLemmas
-pub mod BoardLaws
-mod ExamplesBoards

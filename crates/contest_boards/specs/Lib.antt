@@ -1,2 +1,0 @@
-pub mod Scoreboards
-pub mod Laws

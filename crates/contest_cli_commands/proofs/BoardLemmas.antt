@@ -1,0 +1,130 @@
+-- What is told of a board that is asked for.
+use Rattle.std.proofs.Common.{◌≡◌, ◌∙◌, ap, sym, refl, subst, inl, inr, ℕ, List, Option, Some, None, Result, Ok, Err, arith, true}
+use Rattle.std.specs.Prelude.{◌⊎◌, IfErr}
+use Rattle.std.specs.Result.{IsErrAnd}
+use Rattle.sqlite.specs.State.{HasCleanDisk, State}
+use Rattle.contest_types.specs.Masks.{is_audience}
+use Rattle.contest_types.specs.Setup.{Setup}
+use Rattle.contest_types.specs.State.{ContestState}
+use Rattle.contest_streams.specs.Streams.{Stream, Tells}
+use Rattle.contest_types.specs.declared.audience.Audience.{Audience}
+use Rattle.contest_types.specs.declared.marks.Marks.{Marks}
+use Rattle.contest_types.specs.declared.refusal.Refusal.{Refusal}
+use Rattle.contest_types.specs.declared.refusal.Refusal.TheVariants.{NotFound}
+use Rattle.contest_score.specs.Ranking.{Scoreboard}
+use Rattle.contest_view.specs.Scoreboards.{board_found}
+use Rattle.contest_desk.specs.Boards.{board_told}
+use Rattle.contest_store.specs.Keeping.{Kept, LeavesNoMore}
+use Rattle.contest_store.specs.StoreErrors.{refusal_of}
+use Rattle.contest_store.specs.declared.store_error.StoreError.{StoreError}
+use Rattle.contest_store.specs.declared.store_error.StoreError.TheVariants as error
+use Rattle.contest_store_sqlite.specs.Contests.{contest_in_trees, may_leave_of}
+use Rattle.contest_store_sqlite.specs.Creation.{IsOfOpen, KeepsLists}
+use Rattle.contest_store_sqlite.specs.Opening.{Opened}
+use Rattle.contest_store_sqlite.specs.declared.open_error.OpenError.TheVariants as open_error
+use Rattle.contest_cli_words.specs.CommandErrors.{IsMemory, IsWords, exit_status_of, line_of}
+use Rattle.contest_cli_words.specs.Endings.{Shows}
+use Rattle.contest_cli_words.specs.declared.command_error.CommandError.{CommandError}
+use Rattle.contest_cli_words.specs.declared.command_error.CommandError.TheVariants.{Clock, File, Net, Refused, Usage}
+use Rattle.contest_cli_words.proofs.StreamLemmas.{keeps_same}
+use Rattle.contest_cli_commands.specs.Board.{Boards, Gives, IsStoreStop, ShowsKept, StopsBoard, TellsBoard, audience_of}
+use Rattle.contest_cli_words.specs.declared.asked_board.AskedBoard.{AskedBoard}
+
+-- what the store failed with
+pub by_error : (e : StoreError) → IsStoreStop (Refused (refusal_of e))
+by_error error.Fault = inl refl
+by_error error.Memory = inr refl
+
+pub of_open : (r : Refusal) → IsOfOpen r → IsStoreStop (Refused r)
+of_open r (open_error.Store e, is) = subst (λ (q : Refusal). IsStoreStop (Refused q)) (sym is) (by_error e)
+
+-- a board that there is was refused by the store
+pub board_refused : (r : Result (Option Scoreboard) StoreError) (a : Audience) (now : ℕ) (x : ContestState) (refusal : Refusal) → Err refusal ≡ board_told r
+    → (◌≡◌ {A = Result Scoreboard Refusal} (Err refusal) (Err NotFound) → board_found a now x ≡ None) → is_audience x.fixed.settings a ≡ true → IsStoreStop (Refused refusal)
+board_refused (Ok (Some b)) a now x refusal is missing there = cc
+board_refused (Ok None) a now x refusal is missing there =
+    let none = missing is in cc
+board_refused (Err error.Fault) a now x refusal is missing there = inl cc
+board_refused (Err error.Memory) a now x refusal is missing there = inr cc
+
+-- what an error is turned into stops for the same reason
+pub told_err : {T : Type 0} (r : Result T CommandError) (P Q : CommandError → Type 0) → IsErrAnd r P → ((stop : CommandError) → P stop → Q stop) → IfErr r Q
+told_err (Ok v) P Q told turns = tt
+told_err (Err e) P Q told turns = turns e told
+
+-- no audience was found in the settings that were read
+pub no_audience : (x : ContestState) (s : Setup) (m : Marks) (asked : AskedBoard) (stop : CommandError) → ◌≡◌ {A = Setup × Marks} (s, m) (x.fixed.settings, x.fixed.marks)
+    → IsMemory stop ⊎ (IsWords stop × (audience_of s asked.who ≡ None)) → StopsBoard (λ y. y ≡ x) asked stop
+no_audience x s m asked stop read (inl memory) = inl (inr memory)
+no_audience x s m asked stop read (inr (words, none)) =
+    inr (words, (x, refl, subst (λ (t : Setup). audience_of t asked.who ≡ None) (ap (λ (p : Setup × Marks). p.0) read) none))
+
+module _ (clean : Type 0) (Is : ContestState → Type 0) (now : ℕ) (asked : AskedBoard) (err_old err_new : Stream) (status : ℕ) where
+  -- a text is shown
+  pub shown : (out_old out_new : Stream) (text : List ℕ) → (clean → Gives Is now asked text) → Shows text out_old out_new err_old err_new status
+      → TellsBoard clean Is now asked out_old out_new err_old err_new status
+  shown out_old out_new text gives s = record {
+    statuses = omega (arith, s.statuses);
+    done = λ e. (text, gives, (s.done e).0, (s.done e).1);
+    refused = λ e. (File, (s.cut e).2, inr (refl, (s.cut e).0, text, gives, (s.cut e).1));
+    unknown = λ e. absurd (omega (arith, s.statuses, e));
+  }
+
+  -- there is none, and why is told
+  refused_one : (out : Stream) (stop : CommandError) → (IsWords stop → ⊥) → exit_status_of stop ≡ 1 → (clean → StopsBoard Is asked stop) → status ≡ exit_status_of stop → Tells err_old err_new (line_of stop)
+      → TellsBoard clean Is now asked out out err_old err_new status
+  refused_one out stop no_words one why is told = record {
+    statuses = omega (arith, one, is);
+    done = λ e. absurd (omega (arith, one, is, e));
+    refused = λ e. (stop, told, inl (λ c. elim (why c) [ inl failed ↦ failed | inr unknown ↦ absurd (no_words unknown.0) ], keeps_same out.bytes));
+    unknown = λ e. absurd (omega (arith, one, is, e));
+  }
+
+  pub stopped : (out : Stream) (stop : CommandError) → (clean → StopsBoard Is asked stop) → status ≡ exit_status_of stop → Tells err_old err_new (line_of stop)
+      → TellsBoard clean Is now asked out out err_old err_new status
+  stopped out (Usage text) why is told = record {
+    statuses = omega (arith, is);
+    done = λ e. absurd (omega (arith, is, e));
+    refused = λ e. absurd (omega (arith, is, e));
+    unknown = λ e. (λ c. elim (why c) [ inl (inl failed) ↦ cc | inl (inr failed) ↦ cc | inr unknown ↦ unknown.1 ], keeps_same out.bytes, _, told);
+  }
+  stopped out (Refused r) why is told = refused_one out (Refused r) (λ w. w) refl why is told
+  stopped out File why is told = refused_one out File (λ w. w) refl why is told
+  stopped out Clock why is told = refused_one out Clock (λ w. w) refl why is told
+  stopped out Net why is told = refused_one out Net (λ w. w) refl why is told
+
+-- what is told of one contest is told of another that is the same
+pub told_of : (clean other : Type 0) (Is Was : ContestState → Type 0) (now : ℕ) (asked : AskedBoard) (out_old out_new err_old err_new : Stream) (status : ℕ)
+    → (other → clean) → (other → (x : ContestState) → Is x → Was x) → TellsBoard clean Is now asked out_old out_new err_old err_new status
+    → TellsBoard other Was now asked out_old out_new err_old err_new status
+told_of clean other Is Was now asked out_old out_new err_old err_new status as_clean same t = record {
+  statuses = t.statuses;
+  done = λ e. let d = t.done e in (d.0, λ c. gives d.0 c (d.1 (as_clean c)), d.2, d.3);
+  refused = λ e.
+      let d = t.refused e in (
+        d.0,
+        d.1,
+        elim d.2 [
+          | inl (failed, keeps) ↦ inl (λ c. failed (as_clean c), keeps)
+          | inr (file, fails, text, given, front) ↦ inr (file, fails, text, λ c. gives text c (given (as_clean c)), front)
+        ],
+      );
+  unknown = λ e. let d = t.unknown e in (λ c. let u = d.0 (as_clean c) in (u.0, same c u.0 u.1, u.2), d.1, d.2, d.3);
+} where
+  gives : (text : List ℕ) → other → Gives Is now asked text → Gives Was now asked text
+  gives text c g = (g.0, same c g.0 g.1, g.2)
+
+-- where nothing was committed, a crash leaves what it could leave before
+pub leaves_no_more : (old new : State) → KeepsLists old new → HasCleanDisk new → LeavesNoMore (may_leave_of old) (may_leave_of new)
+leaves_no_more old new keeps clean c left = elim (keeps.crash clean left.0 left.1) [ inl before ↦ (left.0, before, left.2) | inr none ↦ absurd none ]
+
+-- what a desk shows is what the tables show from which it was opened, and a crash leaves no more than it could before that
+pub shown_by_desk : (now : ℕ) (asked : AskedBoard) (out_old out_new err_old err_new : Stream) (status : ℕ) (old new : State) (first last : Kept)
+    → ShowsKept now asked out_old out_new err_old err_new first last status
+    → (HasCleanDisk new → last.is_clean) → (HasCleanDisk new → Opened old first) → (HasCleanDisk new → LeavesNoMore last.may_leave (may_leave_of new))
+    → Boards now asked out_old out_new err_old err_new old new status
+shown_by_desk now asked out_old out_new err_old err_new status old new first last shows as_clean opened kept = record {
+  told = told_of last.is_clean (HasCleanDisk new) (λ x. x ≡ first.contest) (λ x. contest_in_trees old.now.trees ≡ Some x) now asked out_old out_new err_old err_new status as_clean
+      (λ clean x is. let o = opened clean in o.found ∙ ap Some (sym (is ∙ o.shows.now_is))) shows.told;
+  leaves = λ clean d left. (opened clean).crash d (shows.crash (as_clean clean) d (kept clean d left));
+}

@@ -1,0 +1,27 @@
+use Rattle.std.proofs.Common.{◌≡◌, Some, inl, subst}
+use Rattle.sqlite.specs.Held.{state}
+use Rattle.sqlite.specs.State.{HasCleanDisk}
+use Rattle.contest_store_sqlite.specs.Contests.{contest_in_trees, may_leave_of}
+use Rattle.contest_store_sqlite.specs.Keeping.{IsTrusted}
+use Rattle.contest_store_sqlite.specs.Value.{stored}
+use Rattle.contest_cli_commands.proofs.BoardLemmas.{leaves_no_more, of_open, shown_by_desk, stopped}
+use Rattle.contest_cli_commands.proofs.board_command.run_board.Goals as goal
+
+pub returns-in-Ok : goal.returns-in-Ok
+returns-in-Ok g c =
+    let old = state g.S.Store c.args.conn in
+    let same = rw c.into_store.ensures.store at c.into_connection.ensures.connection in
+    let trusted : HasCleanDisk (state g.S.Store c.into_connection.result) → IsTrusted (state g.S.Store c.show_board-status.new.desk.conn) =
+    λ clean. subst (λ conn. IsTrusted (state g.S.Store conn)) same (c.into_connection.ensures.clean clean) in
+    shown_by_desk c.args.now c.args.asked _ _ _ _ c.show_board-status.result old (state g.S.Store c.into_connection.result) (stored g.S.Store c.in-Ok.desk)
+    (stored g.S.Store c.show_board-status.new.desk) c.show_board-status.ensures (λ clean. trusted clean)
+    (λ clean. c.in-Ok.ensures.opened (c.show_board-status.ensures.clean (trusted clean)).0)
+    (λ clean d left. subst (λ conn. may_leave_of (state g.S.Store conn) d) same left)
+
+pub returns-in-Err : goal.returns-in-Err
+returns-in-Err g c =
+    let old = state g.S.Store c.args.conn in
+    record {
+      told = stopped _ (λ x. contest_in_trees old.now.trees ≡ Some x) c.args.now c.args.asked _ _ _ _ _ (λ _. inl (of_open c.refusal.result c.refusal.ensures.kinds)) c.refuse.ensures.status c.refuse.ensures.told;
+      leaves = leaves_no_more old (state g.S.Store c.in-Err.conn) c.in-Err.ensures.refused;
+    }

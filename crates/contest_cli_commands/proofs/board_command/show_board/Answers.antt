@@ -1,0 +1,12 @@
+use Rattle.std.proofs.Common.{◌≡◌}
+use Rattle.contest_cli_commands.proofs.BoardLemmas.{stopped}
+use Rattle.contest_cli_commands.proofs.board_command.show_board.Goals as goal
+
+pub returns-in-Err : goal.returns-in-Err
+returns-in-Err g c =
+    let new = g.S.ContestStore.kept c.text_in.new.desk in
+    record {
+      told = stopped new.is_clean (λ x. x ≡ (g.S.ContestStore.kept c.args.desk.now).contest) c.args.now c.args.asked _ _ _ _ c.in-Err.stop c.in-Err.ensures.stops c.refuse.ensures.status c.refuse.ensures.told;
+      crash = c.in-Err.ensures.crash;
+      clean = c.in-Err.ensures.clean;
+    }

@@ -1,0 +1,33 @@
+use Rattle.std.proofs.Common.{Err, ap, subst}
+use Rattle.sqlite.specs.Held.{state}
+use Rattle.sqlite.specs.State.{HasCleanDisk}
+use Rattle.contest_streams.specs.Streams.{stream}
+use Rattle.contest_desk.specs.Items.{HasStoreError}
+use Rattle.contest_cli_commands.specs.Import.{Steps}
+use Rattle.contest_cli_commands.proofs.ImportLemmas.{fault_stops, refuses}
+use Rattle.contest_cli_commands.proofs.InputLemmas.{was_read}
+use Rattle.contest_cli_commands.proofs.import_command.import.Goals as goal
+
+pub returns-in-Err-clause-err : goal.returns-in-Err-clause-err
+returns-in-Err-clause-err g c =
+    rw c.from.ensures (fault_stops c.args.now c.args.kind (stream g.R.Read.remaining c.args.reader.now) (stream g.R.Read.remaining c.read_limited.new.reader) (state g.S.Store c.args.conn) c.in-Err.fault
+    (λ is. c.in-Err.ensures.too_large (ap Err is)) (λ is. c.in-Err.ensures.failed (ap Err is)))
+
+pub returns-in-Ok-added-clause-leaves : goal.returns-in-Ok-added-clause-leaves
+returns-in-Ok-added-clause-leaves g c =
+    let input = stream g.R.Read.remaining c.args.reader.now in
+    c.import_bytes-added.ensures.leaves input (was_read input c.in-Ok.ensures.ok c.deref.ensures.value)
+
+pub returns-clause-err : goal.returns-clause-err
+returns-clause-err g c =
+    let input = stream g.R.Read.remaining c.args.reader.now in
+    let old = state g.S.Store c.args.conn in
+    let new = state g.S.Store c.import_bytes-added.result.1 in
+    let steps = c.import_bytes-added.ensures.steps input (was_read input c.in-Ok.ensures.ok c.deref.ensures.value) in
+    refuses c.args.now c.args.kind input old new c.in-Err-added.refusal
+    (subst (λ answer. ¬ HasStoreError answer → HasCleanDisk new → Steps c.args.now c.args.kind input old new answer) c.in-Err-added.is steps)
+
+pub returns-clause-leaves : goal.returns-clause-leaves
+returns-clause-leaves g c =
+    let input = stream g.R.Read.remaining c.args.reader.now in
+    c.import_bytes-added.ensures.leaves input (was_read input c.in-Ok.ensures.ok c.deref.ensures.value)

@@ -1,0 +1,148 @@
+//! The machine that the program runs on.
+ghost use Rattle.std.specs.Prelude.{◌≡◌, ◌≢◌, ◌≤◌, ◌/◌, IfOk, IfErr, SomeIff};
+ghost use Rattle.std.specs.Time.{system_time_nanos};
+ghost use Rattle.std.specs.IoError.{error_kind};
+ghost use Rattle.sqlite.specs.Files.{AreFoundIn, file_state};
+ghost use Rattle.sqlite.specs.State.{HasCleanDisk};
+ghost use Rattle.sqlite.specs.WalFiles.{image_at};
+ghost use Rattle.contest_types.specs.MomentText.{latest};
+ghost use Rattle.contest_types.specs.declared.refusal.Refusal.TheVariants.{Memory, StoreFault};
+ghost use Rattle.contest_store_tables.specs.Numbered.{IsNumbered};
+ghost use Rattle.contest_cli_machine.specs.Unopened.{IsNoFile, IsNoStore};
+
+use crate::host_network::HostNetwork;
+use crate::machine::{Machine, Opened, ServedFile};
+use contest_cli_words::CommandError;
+use contest_streams::Counted;
+use contest_types::{Moment, Refusal};
+use sqlite::{Connection, Error, ErrorCode, FileFrom, FileStore, Start};
+use std::fs::{File, Files};
+use std::io::{self, ErrorKind};
+use std::time::{Clock, SystemTime, UNIX_EPOCH};
+
+/// The runtime, and what stands for what the files hold that keep a contest.
+#[derive(Drop)]
+pub struct Host<'a, D: Start> {
+    pub rt: &'a HostRuntime,
+    pub disk: D,
+}
+
+impl<'a, D: Start> Machine for Host<'a, D> {
+    ghost use Rattle.sqlite.specs.Files.{AreFoundIn, file_state};
+    ghost use Rattle.sqlite.specs.State.{HasCleanDisk};
+    ghost use Rattle.sqlite.specs.WalFiles.{image_at};
+
+    type Disk = FileStore<FileFrom<D>>;
+
+    type File = File;
+
+    type Network = HostNetwork<'a>;
+
+    ghost found = { λ conn. HasCleanDisk (file_state conn) → AreFoundIn (image_at D.Start) (file_state conn).now.trees };
+
+    fn now(&self) -> Result<Moment, CommandError> {
+        moment_now(self.rt)
+    }
+
+    fn open(
+        self,
+        file: &str,
+        path: &str,
+    ) -> Result<Opened<FileStore<FileFrom<D>>, File>, CommandError> {
+        let conn = open_store(self.rt, file, self.disk)?;
+        let reader = open_file(self.rt, path)?;
+        Ok(Opened { conn, reader })
+    }
+
+    fn open_store(self, file: &str) -> Result<Connection<FileStore<FileFrom<D>>>, CommandError> {
+        open_store(self.rt, file, self.disk)
+    }
+
+    fn open_to_serve(
+        self,
+        file: &str,
+    ) -> Result<ServedFile<FileStore<FileFrom<D>>, HostNetwork<'a>>, CommandError> {
+        let conn = open_store(self.rt, file, self.disk)?;
+        let network = HostNetwork { rt: self.rt };
+        Ok(ServedFile { conn, network })
+    }
+
+    fn close(mut store: FileStore<FileFrom<D>>) {
+        let _ = store.checkpoint();
+        drop(store.close());
+    }
+}
+
+// The moment that a clock shows.
+pub(crate) fn moment_now(clock: &impl Clock) -> Result<Moment, CommandError>
+    ensures { IfErr result (λ stop. stop ≡ CommandError.Clock) }
+{
+    match SystemTime::now(clock) {
+        Ok(now) => match moment_of(now) {
+            Some(moment) => Ok(moment),
+            None => Err(CommandError::Clock),
+        },
+        Err(_) => Err(CommandError::Clock),
+    }
+}
+
+// The moment of a time, to the millisecond; none past the last moment that there is.
+fn moment_of(time: SystemTime) -> Option<Moment>
+    ensures { SomeIff result (system_time_nanos time / 1_000_000 ≤ latest) (system_time_nanos time / 1_000_000) }
+{
+    let since_1970 = time.duration_since(UNIX_EPOCH).unwrap();
+    match u64::try_from(since_1970.as_millis()) {
+        Ok(milliseconds) => Moment::from_milliseconds(milliseconds),
+        Err(_) => None,
+    }
+}
+
+// A connection to the SQLite file at a path, which is made where there is none. In a desk's database the
+// rows rise by their numbers.
+fn open_store<D: Start>(
+    rt: &HostRuntime,
+    path: &str,
+    disk: D,
+) -> Result<Connection<FileStore<FileFrom<D>>>, CommandError>
+    ensures found { IfOk result (λ conn. HasCleanDisk (file_state conn) → AreFoundIn (image_at D.Start) (file_state conn).now.trees) }
+    ensures numbered { IfOk result (λ conn. IsNumbered (file_state conn)) }
+    ensures refused { IfErr result IsNoStore }
+{
+    match Connection::open_from(rt, path, false, disk) {
+        Ok(conn) => Ok(conn),
+        Err((error, _)) => Err(no_store(&error)),
+    }
+}
+
+// What is said of an SQLite file that can't be opened.
+fn no_store(error: &Error) -> CommandError
+    ensures memory { error.now ≡ Error.SqliteFailure ErrorCode.OutOfMemory → result ≡ CommandError.Refused Memory }
+    ensures fault { error.now ≢ Error.SqliteFailure ErrorCode.OutOfMemory → result ≡ CommandError.Refused StoreFault }
+{
+    match error {
+        Error::SqliteFailure(ErrorCode::OutOfMemory) => CommandError::Refused(Refusal::Memory),
+        _ => CommandError::Refused(Refusal::StoreFault),
+    }
+}
+
+// The file at a path, to be read.
+fn open_file<F: Files>(files: &F, path: &str) -> Result<Counted<F::File>, CommandError>
+    ensures { IfErr result IsNoFile }
+{
+    match File::open(files, path) {
+        Ok(file) => Ok(Counted::new(file)),
+        Err(error) => Err(no_file(&error)),
+    }
+}
+
+// What is said of a file that can't be opened.
+fn no_file(error: &io::Error) -> CommandError
+    ensures memory { error_kind error.now ≡ ErrorKind.OutOfMemory → result ≡ CommandError.Refused Memory }
+    ensures fault { error_kind error.now ≢ ErrorKind.OutOfMemory → result ≡ CommandError.File }
+{
+    if error.kind() == ErrorKind::OutOfMemory {
+        CommandError::Refused(Refusal::Memory)
+    } else {
+        CommandError::File
+    }
+}

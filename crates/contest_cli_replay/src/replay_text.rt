@@ -1,0 +1,79 @@
+//! The text that `replay` gives of a file.
+ghost use Rattle.std.specs.Prelude.{◌≡◌, ◌⊎◌, ◌<◌, ◌^◌, Ok, Err, IfOk, IfErr, All, length, string_bytes};
+ghost use Rattle.contest_score.specs.MaskedCells.{IsAdmitted};
+ghost use Rattle.contest_cli_replay.specs.ReplayText.{board_of, audience_for, moment_for, board_text_of};
+
+use crate::replay_words::Options;
+use contest_replay::read_replay_csv;
+use contest_score::{JudgedSubmission, board, plain_cells};
+use contest_text::board_text;
+use contest_types::{Audience, Marks, Moment, Refusal, RelTime, Settings, TimeSpan};
+use std::alloc::Global;
+
+/// The text of the board that the options ask for, at a contest time or at the end, of the contest
+/// that the bytes spell. The error is the bytes' first fault, or want of memory.
+pub(crate) fn replay_text(
+    alloc: Global,
+    options: &Options<'_>,
+    at: Option<RelTime>,
+    bytes: &[u8],
+) -> Result<String, Refusal>
+    ensures ok { IfOk result (λ text. board_of options.now.jury options.now.thawed at bytes.now ≡ Ok (string_bytes text)) }
+    ensures err { IfErr result (λ r. (r ≡ Refusal.Memory) ⊎ (board_of options.now.jury options.now.thawed at bytes.now ≡ Err r)) }
+{
+    let mut contest = read_replay_csv(alloc, bytes)?;
+    let marks = contest.marks(options.thawed);
+    let now = moment_for(contest.settings(), at);
+    contest.retain_until(now);
+    text_of(
+        alloc,
+        contest.settings(),
+        &marks,
+        now,
+        audience_for(options.jury),
+        contest.submissions(),
+    )
+}
+
+/// The text of the board of these submissions, for a caller at a moment.
+fn text_of(
+    alloc: Global,
+    settings: &Settings,
+    marks: &Marks,
+    now: Moment,
+    audience: Audience,
+    submissions: &[JudgedSubmission],
+) -> Result<String, Refusal>
+    requires few { length submissions.now < 2 ^ 32 }
+    requires admitted { All (IsAdmitted settings.now marks.now) submissions.now }
+    ensures text { IfOk result (λ text. string_bytes text ≡ board_text_of audience settings.now marks.now now submissions.now) }
+    ensures err { IfErr result (λ e. e ≡ Refusal.Memory) }
+{
+    let cells = plain_cells(alloc, settings, marks, audience, now, submissions)?;
+    let board = board(alloc, settings, &cells)?;
+    board_text(alloc, settings, marks, now, audience, &board)
+}
+
+/// Who looks: the jury, or anyone.
+fn audience_for(jury: bool) -> Audience
+    ensures { result ≡ audience_for jury }
+{
+    if jury {
+        Audience::Jury
+    } else {
+        Audience::Public
+    }
+}
+
+/// The moment of a contest time, at the earliest the start; the end where none is asked for.
+fn moment_for(settings: &Settings, at: Option<RelTime>) -> Moment
+    ensures { result ≡ moment_for settings.now at }
+{
+    match at {
+        None => Moment::from_time_span(settings.head().duration),
+        Some(time) => match TimeSpan::from_reltime(time) {
+            Some(span) => Moment::from_time_span(span),
+            None => Moment::from_time_span(TimeSpan::ZERO),
+        },
+    }
+}

@@ -1,0 +1,5 @@
+mod NumberLemmas
+mod WordLemmas
+mod RefusalNames
+pub mod ArgumentLemmas
+pub mod StreamLemmas

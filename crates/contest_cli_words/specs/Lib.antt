@@ -1,0 +1,9 @@
+pub mod InitWords
+pub mod ImportWords
+pub mod ServeWords
+pub mod BoardWords
+pub mod Arguments
+pub mod Help
+pub mod RefusalLine
+pub mod CommandErrors
+pub mod Endings

@@ -1,4 +1,0 @@
-pub mod InitWords
-pub mod ImportWords
-pub mod ServeWords
-pub mod BoardWords

@@ -1,0 +1,6 @@
+pub mod AccountLemmas
+pub mod PartLemmas
+pub mod FixedAlone
+pub mod FixedLemmas
+pub mod ChangeLemmas
+pub mod TeamRowLemmas

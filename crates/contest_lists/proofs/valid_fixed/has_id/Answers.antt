@@ -1,0 +1,12 @@
+use Rattle.std.proofs.Common.{rules, tests, ◌∙◌}
+use Rattle.std.specs.Str.{bytes_eq}
+use Rattle.std.proofs.lemmas.Iterator.{YieldsList-from_slice}
+use Rattle.std.proofs.lemmas.Iterator.Search.{any_from_yields_List}
+use Rattle.contest_types.specs.declared.account.Account.{Account}
+use Rattle.contest_types.proofs.PlaceLemmas.{any_named}
+use Rattle.contest_lists.proofs.valid_fixed.has_id.Goals as goal
+
+pub returns : goal.returns
+returns c =
+    any_from_yields_List (λ (a : Account). bytes_eq a.id c.args.id.now) _ _ c.any.result c.any.ensures.ran (YieldsList-from_slice c.args.accounts.now (cc)) (λ x b q k. search (rules, tests))
+    ∙ any_named (λ (a : Account). a.id) c.args.id.now c.args.accounts.now

@@ -1,0 +1,15 @@
+//! A contest in memory: its lists, and one change of them.
+#![tactic(auto)]
+
+mod copies;
+mod filling;
+mod fixed_changes;
+mod indexed_submissions;
+mod lists;
+mod outcomes;
+mod valid_fixed;
+
+pub use copies::{CopyRow, copied_bytes, copied_fixed};
+pub use fixed_changes::add_account;
+pub use lists::{Lists, push};
+pub use valid_fixed::is_valid_fixed;

@@ -1,0 +1,11 @@
+pub mod Times
+pub mod Objects
+pub mod Members
+pub mod Items
+pub mod SettingsObjects
+pub mod ProposalObjects
+pub mod StateObject
+pub mod ContestObjects
+pub mod ClarificationObjects
+pub mod JudgementObjects
+pub mod RejudgingObjects

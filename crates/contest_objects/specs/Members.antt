@@ -1,0 +1,40 @@
+-- The members of a JSON object, put in one by one.
+use Rattle.std.specs.Prelude.{ℕ, List, [], ◌∷◌, Option, Some, None}
+use Rattle.std.specs.Option.{option_map, option_map_or}
+use Rattle.serde_json.specs.Data.{Data, Members, boolean, null, number, put, string, unsigned}
+use Rattle.contest_types.specs.MomentText.{moment_text}
+use Rattle.contest_objects.specs.Times.{contest_time_data, moment_or_null, span_data, span_or_null}
+use Rattle.contest_objects.specs.declared.members.Member.{Member}
+use Rattle.contest_objects.specs.declared.members.Member.TheVariants.{Text, TextOrNull, Number, NumberOrNull, Flag, Span, SpanOrNull, Time, TimeOrNull, ContestTime, Absent}
+
+-- a whole number, or null
+abbrev pub number_or_null : Option ℕ → Data
+number_or_null n = option_map_or (λ k. number (unsigned k)) n null
+
+-- a text, or null
+abbrev pub text_or_null : Option (List ℕ) → Data
+text_or_null t = option_map_or string t null
+
+-- what stands under a name, if anything
+abbrev pub shown : Member → Option Data
+shown (Text t) = Some (string t.now)
+shown (TextOrNull t) = Some (text_or_null (option_map (λ s. s.now) t))
+shown (Number n) = Some (number (unsigned n))
+shown (NumberOrNull n) = Some (number_or_null n)
+shown (Flag b) = Some (boolean b)
+shown (Span s) = Some (span_data s.now)
+shown (SpanOrNull s) = Some (span_or_null s.now)
+shown (Time m) = Some (string (moment_text m.now))
+shown (TimeOrNull m) = Some (moment_or_null m.now)
+shown (ContestTime start time) = Some (contest_time_data start.now time.now)
+shown Absent = None
+
+-- the members, with one that is only there with a value
+abbrev pub put_where : Option Data → List ℕ → Members → Members
+put_where None name ms = ms
+put_where (Some d) name ms = put name d ms
+
+-- the members, with all of these
+abbrev pub with_all : List (List ℕ × Option Data) → Members → Members
+with_all [] ms = ms
+with_all (m ∷ rest) ms = with_all rest (put_where m.1 m.0 ms)

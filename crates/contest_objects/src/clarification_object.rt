@@ -1,0 +1,150 @@
+//! Clarifications as they are served.
+ghost use Rattle.std.specs.Prelude.{◌≡◌, false, IfOk, option_map};
+ghost use Rattle.std.specs.Option.{option_and_then};
+ghost use Rattle.serde_json.specs.Data.{object};
+ghost use Rattle.serde_json.specs.View.{view};
+ghost use Rattle.serde_json.specs.Written.{has_float};
+ghost use Rattle.contest_types.specs.ProblemPlaces.{problem_id_at};
+ghost use Rattle.contest_types.specs.Sight.{heard_reference, seen_clarification};
+ghost use Rattle.contest_objects.specs.ClarificationObjects.{clarification_data, clarification_members, receiver, reference_id, team_of, writer};
+
+use crate::members::{Member, object_of};
+use crate::visible_ids::clarification_id;
+use arrayvec::ArrayString;
+use contest_types::{
+    Addressee, Audience, Clarification, Fixed, Moment, Reference, Settings, hears,
+};
+use serde_json::Value;
+use std::alloc::{AllocError, Global};
+
+/// What stands in a clarification's members.
+#[derive(Drop)]
+struct Members<'a> {
+    from: Option<&'a str>,
+    id: &'a str,
+    problem: Option<&'a str>,
+    reply: Option<&'a str>,
+    start: &'a Option<Moment>,
+    text: &'a str,
+    time: &'a Moment,
+    to: Option<&'a str>,
+}
+
+/// The JSON value of a clarification that an audience hears (Contest API 2023-06, clarification object):
+/// `contest_time`, `from_team_id`, `id`, `problem_id`, `reply_to_id`, `text`, `time` and `to_team_id`.
+///
+/// # Errors
+///
+/// Want of memory alone.
+#[tactic(auto, using(crate::proofs::ClarificationObjectLemmas::has_no_float))]
+pub fn clarification_value(
+    alloc: Global,
+    fixed: &Fixed,
+    audience: Audience,
+    clarification: &Clarification,
+) -> Result<Value, AllocError>
+    ensures value { IfOk result (λ v. view v ≡ clarification_data fixed.now (seen_clarification audience fixed.now.settings clarification.now)) }
+    ensures no_floats { IfOk result (λ v. has_float (view v) ≡ false) }
+{
+    let settings = &fixed.settings;
+    let (addressee, from_jury) = (clarification.addressee, clarification.from_jury);
+    let id = clarification_id(addressee, clarification.number);
+    let reply = reply_id(audience, settings, &clarification.reply);
+    let members = Members {
+        from: writer(settings, addressee, from_jury),
+        id: id.as_str(),
+        problem: problem_of(settings, clarification.problem),
+        reply: text_of(&reply),
+        start: &fixed.marks.start,
+        text: clarification.text.as_str(),
+        time: &clarification.time,
+        to: receiver(settings, addressee, from_jury),
+    };
+    clarification_object(alloc, members)
+}
+
+// The object with these members.
+fn clarification_object(alloc: Global, members: Members<'_>) -> Result<Value, AllocError>
+    ensures { IfOk result (λ v. view v ≡ object (clarification_members members.entry.start.now (option_map (λ t. t.now) members.entry.from) members.entry.id.now
+        (option_map (λ t. t.now) members.entry.problem) (option_map (λ t. t.now) members.entry.reply) members.entry.text.now members.entry.time.now (option_map (λ t. t.now) members.entry.to))) }
+{
+    object_of(
+        alloc,
+        &[
+            (
+                "contest_time",
+                Member::ContestTime(members.start, members.time),
+            ),
+            ("from_team_id", Member::TextOrNull(members.from)),
+            ("id", Member::Text(members.id)),
+            ("problem_id", Member::TextOrNull(members.problem)),
+            ("reply_to_id", Member::TextOrNull(members.reply)),
+            ("text", Member::Text(members.text)),
+            ("time", Member::Time(members.time)),
+            ("to_team_id", Member::TextOrNull(members.to)),
+        ],
+    )
+}
+
+fn writer(settings: &Settings, addressee: Addressee, from_jury: bool) -> Option<&str>
+    ensures { option_map (λ t. t.now) result ≡ writer settings.now addressee from_jury }
+{
+    if from_jury {
+        None
+    } else {
+        team_of(settings, addressee)
+    }
+}
+
+fn receiver(settings: &Settings, addressee: Addressee, from_jury: bool) -> Option<&str>
+    ensures { option_map (λ t. t.now) result ≡ receiver settings.now addressee from_jury }
+{
+    if from_jury {
+        team_of(settings, addressee)
+    } else {
+        None
+    }
+}
+
+fn team_of(settings: &Settings, addressee: Addressee) -> Option<&str>
+    ensures { option_map (λ t. t.now) result ≡ team_of settings.now addressee }
+{
+    match addressee {
+        Addressee::All => None,
+        Addressee::Team(team) => Some(settings.team_id(team)),
+    }
+}
+
+fn problem_of(settings: &Settings, problem: Option<usize>) -> Option<&str>
+    ensures { option_map (λ t. t.now) result ≡ option_map (problem_id_at settings.now.problems) problem }
+{
+    match problem {
+        Some(problem) => Some(settings.problem_id(problem)),
+        None => None,
+    }
+}
+
+// The id of the clarification that is answered, where that one is heard too.
+fn reply_id(
+    audience: Audience,
+    settings: &Settings,
+    reply: &Option<Reference>,
+) -> Option<ArrayString<160>>
+    ensures { option_map (λ id. id.bytes) result ≡ option_map reference_id (option_and_then (heard_reference audience settings.now) reply.now) }
+{
+    match reply {
+        Some(reply) if hears(audience, settings, reply.addressee) => {
+            Some(clarification_id(reply.addressee, reply.number))
+        }
+        _ => None,
+    }
+}
+
+fn text_of(id: &Option<ArrayString<160>>) -> Option<&str>
+    ensures { option_map (λ t. t.now) result ≡ option_map (λ id. id.bytes) id.now }
+{
+    match id {
+        Some(id) => Some(id.as_str()),
+        None => None,
+    }
+}

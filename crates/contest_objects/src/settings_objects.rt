@@ -1,0 +1,309 @@
+//! The rows of a contest's settings as they are served: everybody is served all of them alike.
+ghost use Rattle.std.specs.Prelude.{◌≡◌, false, IfOk, IfSome, map, option_map};
+ghost use Rattle.serde_json.specs.Data.{string};
+ghost use Rattle.serde_json.specs.View.{view};
+ghost use Rattle.serde_json.specs.Written.{has_float};
+ghost use Rattle.contest_types.specs.SettingsNames.{group_id_at};
+ghost use Rattle.contest_objects.specs.SettingsObjects.{problems_data, setting_found, settings_data, team_item};
+
+use crate::collection::{Collection, Whole, value_at, whole_by_id, whole_value};
+use crate::members::{Member, object_of, put_all};
+use contest_types::{Group, JudgementType, Language, Problem, Settings, Team, problem_order};
+use serde_json::{Map, Value, put};
+use std::alloc::{AllocError, Global};
+
+/// A collection of the settings (Contest API 2023-06, endpoints).
+#[derive(Clone, Copy)]
+pub enum SettingsEndpoint {
+    /// As they were imported.
+    Groups,
+    /// As they were imported.
+    JudgementTypes,
+    /// As they were imported.
+    Languages,
+    /// By ordinal, then id.
+    Problems,
+    /// Hidden ones too, as they were imported.
+    Teams,
+}
+
+/// The array of an endpoint's objects.
+///
+/// # Errors
+///
+/// Want of memory alone.
+pub fn settings_value(
+    alloc: Global,
+    settings: &Settings,
+    endpoint: SettingsEndpoint,
+) -> Result<Value, AllocError>
+    ensures value { IfOk result (λ v. view v ≡ settings_data endpoint settings.now) }
+    ensures no_floats { IfOk result (λ v. has_float (view v) ≡ false) }
+{
+    match endpoint {
+        SettingsEndpoint::Languages => whole_value(alloc, &Languages, settings.languages()),
+        SettingsEndpoint::JudgementTypes => whole_value(
+            alloc,
+            &JudgementTypes,
+            settings.judgement_types(),
+        ),
+        SettingsEndpoint::Groups => whole_value(alloc, &Groups, settings.groups()),
+        SettingsEndpoint::Problems => problems_value(alloc, settings),
+        SettingsEndpoint::Teams => whole_value(alloc, &Teams { settings }, settings.teams()),
+    }
+}
+
+/// The object of an endpoint with an id, if there is one.
+///
+/// # Errors
+///
+/// Want of memory alone.
+pub fn setting_by_id(
+    alloc: Global,
+    settings: &Settings,
+    endpoint: SettingsEndpoint,
+    id: &[u8],
+) -> Result<Option<Value>, AllocError>
+    ensures value { IfOk result (λ found. option_map view found ≡ setting_found endpoint settings.now id.now) }
+    ensures no_floats { IfOk result (λ found. IfSome found (λ v. has_float (view v) ≡ false)) }
+{
+    match endpoint {
+        SettingsEndpoint::Languages => whole_by_id(alloc, &Languages, settings.languages(), id),
+        SettingsEndpoint::JudgementTypes => whole_by_id(
+            alloc,
+            &JudgementTypes,
+            settings.judgement_types(),
+            id,
+        ),
+        SettingsEndpoint::Groups => whole_by_id(alloc, &Groups, settings.groups(), id),
+        SettingsEndpoint::Problems => whole_by_id(alloc, &Problems, settings.problems(), id),
+        SettingsEndpoint::Teams => whole_by_id(alloc, &Teams { settings }, settings.teams(), id),
+    }
+}
+
+fn problems_value(alloc: Global, settings: &Settings) -> Result<Value, AllocError>
+    ensures value { IfOk result (λ v. view v ≡ problems_data settings.now) }
+    ensures no_floats { IfOk result (λ v. has_float (view v) ≡ false) }
+{
+    let places = problem_order(alloc, settings)?;
+    value_at(alloc, &Problems, settings.problems(), &places)
+}
+
+/// Judgement types (Contest API 2023-06, judgement-types): `id`, `name`, `penalty` and `solved`.
+#[derive(Clone, Copy)]
+pub struct JudgementTypes;
+
+impl Collection for JudgementTypes {
+    ghost use Rattle.std.specs.Prelude.{Some};
+    ghost use Rattle.contest_objects.specs.SettingsObjects.{type_item};
+
+    type Row = JudgementType;
+
+    ghost item = { λ c row. Some (type_item row) };
+
+    fn has_id(&self, row: &JudgementType, id: &[u8]) -> bool {
+        row.id.as_bytes() == id
+    }
+
+    fn object(&self, alloc: Global, row: &JudgementType) -> Result<Option<Value>, AllocError> {
+        let value = object_of(
+            alloc,
+            &[
+                ("id", Member::Text(row.id.as_str())),
+                ("name", Member::Text(row.name.as_str())),
+                ("penalty", Member::Flag(row.penalty)),
+                ("solved", Member::Flag(row.solved)),
+            ],
+        )?;
+        Ok(Some(value))
+    }
+}
+
+impl Whole for JudgementTypes {
+    ghost use Rattle.std.specs.Prelude.{refl};
+    ghost use Rattle.contest_objects.specs.SettingsObjects.{type_item};
+
+    ghost whole = { λ c. type_item };
+
+    ghost all = { λ c row. refl };
+}
+
+/// Languages (Contest API 2023-06, languages): `entry_point_required`, `id` and `name`.
+#[derive(Clone, Copy)]
+pub struct Languages;
+
+impl Collection for Languages {
+    ghost use Rattle.std.specs.Prelude.{Some};
+    ghost use Rattle.contest_objects.specs.SettingsObjects.{language_item};
+
+    type Row = Language;
+
+    ghost item = { λ c row. Some (language_item row) };
+
+    fn has_id(&self, row: &Language, id: &[u8]) -> bool {
+        row.id.as_bytes() == id
+    }
+
+    fn object(&self, alloc: Global, row: &Language) -> Result<Option<Value>, AllocError> {
+        let value = object_of(
+            alloc,
+            &[
+                (
+                    "entry_point_required",
+                    Member::Flag(row.entry_point_required),
+                ),
+                ("id", Member::Text(row.id.as_str())),
+                ("name", Member::Text(row.name.as_str())),
+            ],
+        )?;
+        Ok(Some(value))
+    }
+}
+
+impl Whole for Languages {
+    ghost use Rattle.std.specs.Prelude.{refl};
+    ghost use Rattle.contest_objects.specs.SettingsObjects.{language_item};
+
+    ghost whole = { λ c. language_item };
+
+    ghost all = { λ c row. refl };
+}
+
+/// Problems (Contest API 2023-06, problems): `id`, `label`, `name` and `ordinal`.
+#[derive(Clone, Copy)]
+pub struct Problems;
+
+impl Collection for Problems {
+    ghost use Rattle.std.specs.Prelude.{Some};
+    ghost use Rattle.contest_objects.specs.SettingsObjects.{problem_item};
+
+    type Row = Problem;
+
+    ghost item = { λ c row. Some (problem_item row) };
+
+    fn has_id(&self, row: &Problem, id: &[u8]) -> bool {
+        row.id.as_bytes() == id
+    }
+
+    fn object(&self, alloc: Global, row: &Problem) -> Result<Option<Value>, AllocError> {
+        let value = object_of(
+            alloc,
+            &[
+                ("id", Member::Text(row.id.as_str())),
+                ("label", Member::Text(row.label.as_str())),
+                ("name", Member::Text(row.name.as_str())),
+                ("ordinal", Member::Number(u64::from(row.ordinal))),
+            ],
+        )?;
+        Ok(Some(value))
+    }
+}
+
+impl Whole for Problems {
+    ghost use Rattle.std.specs.Prelude.{refl};
+    ghost use Rattle.contest_objects.specs.SettingsObjects.{problem_item};
+
+    ghost whole = { λ c. problem_item };
+
+    ghost all = { λ c row. refl };
+}
+
+/// Groups (Contest API 2023-06, groups): `id` and `name`.
+#[derive(Clone, Copy)]
+pub struct Groups;
+
+impl Collection for Groups {
+    ghost use Rattle.std.specs.Prelude.{Some};
+    ghost use Rattle.contest_objects.specs.SettingsObjects.{group_item};
+
+    type Row = Group;
+
+    ghost item = { λ c row. Some (group_item row) };
+
+    fn has_id(&self, row: &Group, id: &[u8]) -> bool {
+        row.id.as_bytes() == id
+    }
+
+    fn object(&self, alloc: Global, row: &Group) -> Result<Option<Value>, AllocError> {
+        let value = object_of(
+            alloc,
+            &[
+                ("id", Member::Text(row.id.as_str())),
+                ("name", Member::Text(row.name.as_str())),
+            ],
+        )?;
+        Ok(Some(value))
+    }
+}
+
+impl Whole for Groups {
+    ghost use Rattle.std.specs.Prelude.{refl};
+    ghost use Rattle.contest_objects.specs.SettingsObjects.{group_item};
+
+    ghost whole = { λ c. group_item };
+
+    ghost all = { λ c row. refl };
+}
+
+/// Teams (Contest API 2023-06, teams), hidden ones too: `group_ids`, `hidden`, `id` and `name`.
+#[derive(Clone, Copy)]
+pub struct Teams<'a> {
+    pub settings: &'a Settings,
+}
+
+impl<'a> Collection for Teams<'a> {
+    ghost use Rattle.std.specs.Prelude.{Some};
+    ghost use Rattle.contest_objects.specs.SettingsObjects.{team_item};
+
+    type Row = Team;
+
+    ghost item = { λ c row. Some (team_item c.settings.now row) };
+
+    fn has_id(&self, row: &Team, id: &[u8]) -> bool {
+        row.id.as_bytes() == id
+    }
+
+    #[tactic(auto, using(crate::proofs::SettingsObjectLemmas::team_has_none))]
+    fn object(&self, alloc: Global, row: &Team) -> Result<Option<Value>, AllocError> {
+        let value = team_value(alloc, self.settings, row)?;
+        Ok(Some(value))
+    }
+}
+
+impl<'a> Whole for Teams<'a> {
+    ghost use Rattle.std.specs.Prelude.{refl};
+    ghost use Rattle.contest_objects.specs.SettingsObjects.{team_item};
+
+    ghost whole = { λ c. team_item c.settings.now };
+
+    ghost all = { λ c row. refl };
+}
+
+fn team_value(alloc: Global, settings: &Settings, row: &Team) -> Result<Value, AllocError>
+    ensures { IfOk result (λ v. view v ≡ (team_item settings.now row.now).object) }
+{
+    let groups = Value::Array(group_ids(alloc, settings, row.groups.as_slice())?);
+    let mut object = Map::new(alloc);
+    put_all(
+        &mut object,
+        alloc,
+        &[
+            ("hidden", Member::Flag(row.hidden)),
+            ("id", Member::Text(row.id.as_str())),
+            ("name", Member::Text(row.name.as_str())),
+        ],
+    )?;
+    put(&mut object, alloc, "group_ids", groups)?;
+    Ok(Value::Object(object))
+}
+
+// The ids of the groups at these places.
+fn group_ids(alloc: Global, settings: &Settings, groups: &[usize]) -> Result<Vec<Value>, AllocError>
+    ensures { IfOk result (λ v. map view v.items ≡ map (λ g. string (group_id_at settings.now g)) groups.now) }
+{
+    let mut ids = Vec::new(alloc);
+    for group in groups {
+        ids.push(Value::try_from_str(alloc, settings.group_id(*group))?)?;
+    }
+    Ok(ids)
+}

@@ -1,0 +1,56 @@
+-- A request that makes a wish is one that may take memory.
+use Rattle.std.proofs.Common.{◌≡◌, Bool, true, false, List, ℕ, Option, Some, None, Result, Ok, Err, refl}
+use Rattle.std.specs.Prelude.{is_some, if◌then◌else◌}
+use Rattle.contest_types.specs.State.{FixedPart}
+use Rattle.contest_types.specs.declared.refusal.Refusal.TheVariants.{RoleForbids}
+use Rattle.contest_operations.specs.Callers.{Caller, audience_of, caller_of, judge_of, team_of}
+use Rattle.contest_operations.specs.Commands.{post_takes_memory, posted_as, posted_by}
+use Rattle.contest_requests.specs.JuryVerdicts.{posted_verdict}
+use Rattle.contest_operations.specs.PostedClarifications.{posted_clarification}
+use Rattle.contest_operations.specs.PostedSubmissions.{posted_submission}
+use Rattle.contest_operations.specs.Step.{asked, may_take_memory, or_refused, takes_memory_by, wish_or_reply, wish_or_reply_by}
+use Rattle.contest_operations.specs.Wishes.{may_read, wish_to_do}
+use Rattle.contest_operations.specs.declared.command.Command.{Command}
+use Rattle.contest_operations.specs.declared.command.Command.TheVariants.{Submit, Clarify, Propose, Verify}
+use Rattle.contest_operations.specs.declared.command.Posted.{Posted}
+use Rattle.contest_operations.specs.declared.command.Posted.TheVariants.{Clarification}
+use Rattle.contest_requests.specs.declared.jury_verdict.JuryVerdict.{JuryVerdict}
+use Rattle.contest_operations.specs.declared.operation.Operation.{Operation}
+use Rattle.contest_operations.specs.declared.operation.Operation.TheVariants.{Read as ToRead, Do as ToDo}
+use Rattle.contest_operations.specs.declared.reply.Reply.{Reply}
+use Rattle.contest_requests.specs.declared.request.Credential.{Credential}
+use Rattle.contest_requests.specs.declared.request.Request.{Request}
+use Rattle.contest_operations.specs.declared.wish.Wish.{Wish}
+use Rattle.contest_operations.specs.declared.wish.Wish.TheVariants.{Read}
+
+submission_takes : (f : FixedPart) (request : Request) (wish : Wish) (team : Option ℕ) → or_refused (wish_to_do (posted_submission f team request)) ≡ Ok wish → is_some team ≡ true
+submission_takes f request wish None h = absurd (cc h)
+submission_takes f request wish (Some team) h = refl
+
+verdict_takes : (make : JuryVerdict → Posted) (request : Request) (wish : Wish) (judge : Option (List ℕ)) → or_refused (wish_to_do (posted_as make (posted_verdict judge request))) ≡ Ok wish → is_some judge ≡ true
+verdict_takes make request wish None h = absurd (cc h)
+verdict_takes make request wish (Some account) h = refl
+
+clarification_takes : (f : FixedPart) (request : Request) (wish : Wish) (who : Caller) → or_refused (wish_to_do (posted_as Clarification (posted_clarification f who request))) ≡ Ok wish → is_some who ≡ true
+clarification_takes f request wish None h = absurd (cc h)
+clarification_takes f request wish (Some account) h = refl
+
+-- one line is a command's
+post_takes : (f : FixedPart) (who : Caller) (command : Command) (request : Request) (wish : Wish) → or_refused (wish_to_do (posted_by f who command request)) ≡ Ok wish → post_takes_memory who command ≡ true
+post_takes f who Submit request wish h = submission_takes f request wish (team_of who) h
+post_takes f who Clarify request wish h = clarification_takes f request wish who h
+post_takes f who Propose request wish h = verdict_takes _ request wish (judge_of who) h
+post_takes f who Verify request wish h = verdict_takes _ request wish (judge_of who) h
+
+read_takes : (r wish : Wish) (b : Bool) → or_refused (if b then Ok r else Err RoleForbids) ≡ Ok wish → b ≡ true
+read_takes r wish true h = refl
+read_takes r wish false h = absurd (cc h)
+
+by_takes : (f : FixedPart) (o : Option Caller) (request : Request) (r : Result Operation Reply) (wish : Wish) → wish_or_reply_by f o request r ≡ Ok wish → takes_memory_by o r ≡ true
+by_takes f o request (Err reply) wish h = absurd (cc h)
+by_takes f None request (Ok operation) wish h = absurd (cc h)
+by_takes f (Some who) request (Ok (ToRead reading)) wish h = read_takes (Read reading (audience_of who) request.path) wish (may_read who reading) h
+by_takes f (Some who) request (Ok (ToDo command)) wish h = post_takes f who command request wish h
+
+pub wished_takes : (f : FixedPart) (credential : Credential) (request : Request) (wish : Wish) → wish_or_reply f credential request ≡ Ok wish → may_take_memory f credential request ≡ true
+wished_takes f credential request wish h = by_takes f (caller_of f credential) request (asked f.settings.head.id request.path request.method) wish h

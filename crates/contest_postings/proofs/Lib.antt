@@ -1,0 +1,5 @@
+pub mod OwnRows
+pub mod OwnLemmas
+pub mod FileLemmas
+pub mod PostLemmas
+pub mod NamedVerdictLemmas

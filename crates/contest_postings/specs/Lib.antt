@@ -1,0 +1,6 @@
+pub mod DoneThings
+pub mod PostProposal
+pub mod PostVerification
+pub mod PostSubmission
+pub mod OwnSubmissions
+pub mod PostClarification

@@ -1,0 +1,18 @@
+//! What is posted, once its body is read: what its rules decide over a contest's lists, and how that is
+//! answered.
+#![tactic(auto)]
+
+mod clarification;
+mod named;
+mod own_so_far;
+mod posting;
+mod proposal;
+mod submission;
+mod verification;
+
+pub use clarification::Clarifying;
+pub use own_so_far::keyed_row;
+pub use posting::{Done, Posting, carry_out};
+pub use proposal::Proposing;
+pub use submission::Submitting;
+pub use verification::Verifying;

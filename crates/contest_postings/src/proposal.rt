@@ -1,0 +1,56 @@
+//! A judge proposes a verdict.
+use crate::named::named_verdict;
+use crate::posting::{Done, Posting};
+use contest_lists::Lists;
+use contest_objects::proposal_value;
+use contest_requests::JuryVerdict;
+use contest_rules::{NewVerdict, RuleRefusal, decide_proposal};
+use contest_types::{Entry, Fixed, Moment, Rows};
+use std::alloc::{AllocError, Global};
+
+/// A verdict that a judge proposes.
+#[derive(Drop)]
+pub struct Proposing {
+    /// The verdict.
+    pub verdict: JuryVerdict,
+}
+
+impl<'a> Posting<'a> for Proposing {
+    ghost use Rattle.contest_rules.specs.Proposing.{entries_of, propose};
+    ghost use Rattle.contest_postings.specs.PostProposal.{proposal_object};
+
+    type Done = NewVerdict;
+
+    ghost fits = { λ c x. Unit {0} };
+
+    ghost decide = { λ c now x. propose x.fixed x.submissions x.proposals x.releases now c.verdict.account c.verdict.wanted };
+
+    ghost object = { proposal_object };
+
+    ghost entries = { entries_of };
+
+    fn decide(self, lists: &'a Lists, now: Moment) -> Result<NewVerdict, RuleRefusal> {
+        let JuryVerdict { account, wanted } = self.verdict;
+        let named = named_verdict(lists, &wanted);
+        decide_proposal(
+            lists.fixed(),
+            named,
+            lists.proposals(),
+            lists.releases(),
+            now,
+            account,
+        )
+    }
+
+    fn tell(alloc: Global, fixed: &Fixed, done: NewVerdict) -> Result<Done, AllocError> {
+        let released = done.release.is_some();
+        let value = proposal_value(alloc, &fixed.settings, &done.proposal, released)?;
+        let text = value.to_vec(alloc)?;
+        let mut entries = Rows::new(alloc);
+        entries.push(Entry::NewProposal(done.proposal))?;
+        if let Some(release) = done.release {
+            entries.push(Entry::NewRelease(release))?;
+        }
+        Ok(Done { text, entries })
+    }
+}

@@ -1,0 +1,4 @@
+pub mod SubmissionBodies
+pub mod ClarificationBodies
+pub mod JuryVerdicts
+pub mod RejudgingBodies

@@ -1,0 +1,14 @@
+//! What a request says: its method and path, its key, and the bodies of what is posted.
+#![tactic(auto)]
+
+mod clarification_body;
+mod jury_verdict;
+mod rejudging_body;
+mod request;
+mod submission_body;
+
+pub use clarification_body::read_clarification;
+pub use jury_verdict::{JuryVerdict, post_verdict};
+pub use rejudging_body::{post_rejudging, read_rejudging};
+pub use request::{Credential, KeyField, Method, Request};
+pub use submission_body::read_submission;

@@ -1,0 +1,96 @@
+//! The body of a posted rejudging.
+ghost use Rattle.std.specs.Prelude.{◌≡◌, ◌⊎◌, Some, Ok, Err, true, is_some, IfOk, IfErr, codes};
+ghost use Rattle.std.specs.Option.{option_map};
+ghost use Rattle.serde_json.specs.View.{view};
+ghost use Rattle.contest_files.specs.JsonMembers.{name_in};
+ghost use Rattle.contest_files.specs.Refused.{IsRefused};
+ghost use Rattle.contest_requests.specs.RejudgingBodies.{may_be_members, posted_rejudging, rejudging_in, rejudging_of, submissions_in};
+
+use crate::Request;
+use contest_files::{are_different, ids_in, name_in, value_of};
+use contest_rules::WantedRejudging;
+use contest_types::limits::REJUDGING_MEMBERS;
+use contest_types::{Id, Name, Refusal, Rows};
+use serde_json::Value;
+use std::alloc::Global;
+
+/// The rejudging that a caller posts, if it holds the account of a judge or an administrator.
+///
+/// # Errors
+///
+/// `RoleForbids`, then `Malformed` where the body is off its form; else want of memory.
+pub fn post_rejudging(
+    alloc: Global,
+    judge: Option<&Id>,
+    request: Request,
+) -> Result<WantedRejudging, Refusal>
+    ensures ok { IfOk result (λ w. posted_rejudging (option_map (λ id. id.now) judge.entry) request ≡ Ok w) }
+    ensures err { IfErr result (λ e. (e ≡ Refusal.Memory) ⊎ (posted_rejudging (option_map (λ id. id.now) judge.entry) request ≡ Err e)) }
+    ensures forbids { IfErr result (λ e. e ≡ Refusal.Memory → is_some judge.entry ≡ true) }
+{
+    if judge.is_none() {
+        return Err(Refusal::RoleForbids);
+    }
+    read_rejudging(alloc, request.body.as_slice())
+}
+
+/// What a body asks for: `reason`, a name, and `submission_ids`, the ids of the submissions.
+///
+/// # Errors
+///
+/// `Malformed` where the body is off its form: where it isn't an object, lacks one of the two, or names
+/// no submission, too many, or one twice. Else want of memory.
+pub fn read_rejudging(alloc: Global, body: &[u8]) -> Result<WantedRejudging, Refusal>
+    ensures ok { IfOk result (λ w. rejudging_in body.now ≡ Some w) }
+    ensures err { IfErr result (λ e. IsRefused e (rejudging_in body.now)) }
+{
+    let value = value_of(alloc, body)?;
+    rejudging_of(alloc, &value)
+}
+
+#[tactic(auto, unfolding(crate::specs::RejudgingBodies::rejudging_of))]
+fn rejudging_of(alloc: Global, value: &Value) -> Result<WantedRejudging, Refusal>
+    ensures ok { IfOk result (λ w. rejudging_of (view value.now) ≡ Some w) }
+    ensures err { IfErr result (λ e. IsRefused e (rejudging_of (view value.now))) }
+{
+    let reason = reason_in(alloc, value)?;
+    let submissions = submissions_in(alloc, value)?;
+    Ok(WantedRejudging {
+        reason,
+        submissions,
+    })
+}
+
+fn reason_in(alloc: Global, value: &Value) -> Result<Name, Refusal>
+    ensures ok { IfOk result (λ reason. name_in (codes "reason") (view value.now) ≡ Some reason) }
+    ensures err { IfErr result (λ e. IsRefused e (name_in (codes "reason") (view value.now))) }
+{
+    match name_in(alloc, value, "reason")? {
+        Some(reason) => Ok(reason),
+        None => Err(Refusal::Malformed),
+    }
+}
+
+// The ids of the submissions, if a rejudging can be over them.
+fn submissions_in(alloc: Global, value: &Value) -> Result<Rows<Id>, Refusal>
+    ensures ok { IfOk result (λ ids. submissions_in (view value.now) ≡ Some ids) }
+    ensures err { IfErr result (λ e. IsRefused e (submissions_in (view value.now))) }
+{
+    let Some(member) = value.get("submission_ids") else {
+        return Err(Refusal::Malformed);
+    };
+    let Some(ids) = ids_in(alloc, member)? else {
+        return Err(Refusal::Malformed);
+    };
+    if !may_be_members(ids.as_slice()) {
+        return Err(Refusal::Malformed);
+    }
+    Ok(ids)
+}
+
+// Whether there is one at least, no more than a rejudging may have members, and none twice.
+fn may_be_members(ids: &[Id]) -> bool
+    ensures { result ≡ may_be_members ids.now }
+{
+    !ids.is_empty() && ids.len() <= REJUDGING_MEMBERS && are_different(ids)
+}

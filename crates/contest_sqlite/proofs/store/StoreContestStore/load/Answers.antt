@@ -1,4 +1,0 @@
-use Rattle.contest_sqlite.proofs.store.StoreContestStore.load.Goals as goal
-
-pub returns-clause-leaves : goal.returns-clause-leaves
-returns-clause-leaves g c = rw (← c.self.view_is) c.load.ensures.leaves

@@ -1,0 +1,27 @@
+use Rattle.std.proofs.Common.{ap}
+use Rattle.contest_types.specs.declared.entry.Entry.TheVariants.{NewProposal}
+use Rattle.contest_types.specs.declared.fixed.Fixed.{Fixed}
+use Rattle.contest_store_tables.specs.Connected.{counts_of, shown_by}
+use Rattle.contest_store_changes.specs.Additions.{HasAdded}
+use Rattle.contest_store_tables.specs.declared.table_name.TableName.TheVariants.{Proposals}
+use Rattle.contest_store_changes.proofs.AppendLemmas.{adds_row, never_admitted, unfit}
+use Rattle.contest_store_changes.proofs.AppendedRows.{adds_proposal}
+use Rattle.contest_store_changes.proofs.BoundRows.{bound_as, proposal_unreal}
+use Rattle.contest_store_changes.proofs.FittingNumbers.{proposal_fits}
+use Rattle.contest_store_changes.proofs.list_rows.add_proposal.Goals as goal
+
+pub returns : goal.returns
+returns g c =
+    let lists = c.args.lists.now in
+    let row = c.args.proposal.now in
+    let s = c.fixed.result.now.settings in
+    adds_row c.insert-2.result (shown_by g.S.Store c.args.tables.now) (shown_by g.S.Store c.insert-2.new.self) _ _ lists (NewProposal row) (NewProposal row) Proposals _ _
+    (bound_as c.proposal_cells.result _ (proposal_unreal s _ row) c.proposal_cells.ensures)
+    (adds_proposal lists s (ap (λ (f : Fixed). f.settings) c.fixed.ensures) c.proposals-row.result.now row c.proposals-row.ensures) c.insert-2.ensures
+
+pub returns-then-not-both_fit : goal.returns-then-not-both_fit
+returns-then-not-both_fit g c =
+    let lists = c.args.lists.now in
+    let row = c.args.proposal.now in
+    never_admitted c.insert.result (shown_by g.S.Store c.args.tables.now) (shown_by g.S.Store c.insert.new.self) (counts_of c.args.tables.now) (counts_of c.insert.new.self) lists (NewProposal row) _ (HasAdded lists (NewProposal row))
+    (λ x sound held may. unfit c.if-not-both_fit.ensures (proposal_fits x row sound may)) c.insert.ensures

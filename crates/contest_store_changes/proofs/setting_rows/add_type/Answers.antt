@@ -1,0 +1,18 @@
+use Rattle.std.proofs.Common.{[], ap}
+use Rattle.contest_types.specs.declared.entry.Entry.TheVariants.{NewType}
+use Rattle.contest_types.specs.declared.fixed.Fixed.{Fixed}
+use Rattle.contest_store_tables.specs.Connected.{shown_by}
+use Rattle.contest_store_tables.specs.declared.table_name.TableName.TheVariants.{Items}
+use Rattle.contest_store_changes.proofs.AppendLemmas.{adds_row}
+use Rattle.contest_store_changes.proofs.AppendedRows.{adds_type}
+use Rattle.contest_store_changes.proofs.BoundRows.{bound_as, item_unreal}
+use Rattle.contest_store_changes.proofs.setting_rows.add_type.Goals as goal
+
+pub returns : goal.returns
+returns g c =
+    let lists = c.args.lists.now in
+    let row = c.args.judgement_type.now in
+    let s = c.fixed.result.now.settings in
+    adds_row c.insert.result (shown_by g.S.Store c.args.tables.now) (shown_by g.S.Store c.insert.new.self) _ _ lists (NewType row) (NewType row) Items _ _
+    (bound_as c.type_cells.result _ (item_unreal 0 _ row.id row.name [] 0 row.solved row.penalty []) c.type_cells.ensures)
+    (adds_type lists s (ap (λ (f : Fixed). f.settings) c.fixed.ensures) c.judgement_types-row.result.now row c.judgement_types-row.ensures.list) c.insert.ensures

@@ -1,0 +1,70 @@
+-- A contest and the rows of its tables by the names of these, and the contest that such rows are.
+use Rattle.std.specs.Prelude.{ℕ, List, [], map, zip, Option, Some, None, if◌then◌else◌}
+use Rattle.std.specs.Option.{option_map, option_and_then}
+use Rattle.sqlite_value.specs.declared.value.Value.{Value}
+use Rattle.sqlite_value.specs.declared.value.Value.TheVariants.{Blob}
+use Rattle.sqlite_value.specs.Order.{Row, column}
+use Rattle.contest_types.specs.State.{ContestState}
+use Rattle.contest_types.specs.Valid.{is_valid}
+use Rattle.contest_types.specs.declared.submission.Submission.{Submission}
+use Rattle.contest_store_rows.specs.Tables.{Tables, rows_of}
+use Rattle.contest_store_fixed_rows.specs.Spelling.{lists_in}
+use Rattle.contest_store_tables.specs.Statements.{loaded_row}
+use Rattle.contest_store_tables.specs.Tables.{TableRows}
+use Rattle.contest_store_tables.specs.declared.table_name.TableName.TheVariants.{Desk, Contest, Items, Accounts, Submissions, Proposals, Releases, Rejudgings, Members, Clarifications}
+
+abbrev pub by_name : Tables → TableRows
+by_name t Desk = t.desk
+by_name t Contest = t.contest
+by_name t Items = t.items
+by_name t Accounts = t.accounts
+by_name t Submissions = t.submissions
+by_name t Proposals = t.proposals
+by_name t Releases = t.releases
+by_name t Rejudgings = t.rejudgings
+by_name t Members = t.members
+by_name t Clarifications = t.clarifications
+
+abbrev pub table_rows : ContestState → TableRows
+table_rows x = by_name (rows_of x)
+
+-- what a load gives of the rows: of a submission's file only its type and its size
+abbrev pub loaded_tables : TableRows → Tables
+loaded_tables rows = record {
+  desk = rows Desk;
+  contest = rows Contest;
+  items = rows Items;
+  accounts = rows Accounts;
+  submissions = map (loaded_row Submissions) (rows Submissions);
+  proposals = rows Proposals;
+  releases = rows Releases;
+  rejudgings = rows Rejudgings;
+  members = rows Members;
+  clarifications = rows Clarifications;
+}
+
+abbrev pub bytes_of : Value → List ℕ
+bytes_of (Blob bytes) = bytes
+bytes_of _ = []
+
+-- the file in a row of the submissions
+abbrev pub file_in : Row → List ℕ
+file_in r = bytes_of (column r 7)
+
+abbrev pub with_file : Submission → Row → Submission
+with_file s r = record s { file = file_in r }
+
+-- the contest with the files that stand in the rows of its submissions
+abbrev pub with_files : List Row → ContestState → ContestState
+with_files rows x = record x { submissions = map (λ p. with_file p.0 p.1) (zip x.submissions rows) }
+
+-- the contest that the rows are, files and all; none where they are those of no contest
+abbrev pub contest_in : TableRows → Option ContestState
+contest_in rows = option_map (with_files (rows Submissions)) (lists_in (loaded_tables rows))
+
+abbrev pub if_valid : ContestState → Option ContestState
+if_valid x = if is_valid x then Some x else None
+
+-- and that is valid
+abbrev pub valid_contest_in : TableRows → Option ContestState
+valid_contest_in rows = option_and_then if_valid (contest_in rows)

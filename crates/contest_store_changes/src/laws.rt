@@ -1,0 +1,48 @@
+//! Laws of what a change of a contest does to its tables: functions that do nothing.
+ghost use Rattle.contest_store_changes.specs.Laws.{AdditionsStaySound, SoundContestsReadBack, ValidContestsAreSound, SubmissionIsAdded, ProposalIsAdded, ReleaseIsAdded, ClarificationIsAdded, RejudgingIsAdded, MemberIsAdded, AccountIsAdded, TypeIsAdded, LanguageIsAdded, GroupIsAdded, ProblemIsAdded, TeamIsAdded, MarksAreChanged, RejudgingIsChanged, MemberIsChanged};
+
+/// What may be added to a sound contest leaves a sound one.
+pub fn additions_stay_sound()
+    ensures { AdditionsStaySound }
+{}
+
+/// A sound contest is the valid one that its rows are.
+pub fn sound_contests_are_read()
+    ensures { SoundContestsReadBack }
+{}
+
+/// A valid contest that rows are is sound, and these are its rows.
+pub fn valid_contests_are_sound()
+    ensures { ValidContestsAreSound }
+{}
+
+/// A new element of a list is one row.
+pub fn list_additions_are_rows()
+    ensures submission { SubmissionIsAdded }
+    ensures proposal { ProposalIsAdded }
+    ensures release { ReleaseIsAdded }
+    ensures clarification { ClarificationIsAdded }
+    ensures rejudging { RejudgingIsAdded }
+    ensures member { MemberIsAdded }
+{}
+
+/// A new account is one row.
+pub fn new_accounts_are_rows()
+    ensures { AccountIsAdded }
+{}
+
+/// A new setting is one row.
+pub fn new_settings_are_rows()
+    ensures judgement_type { TypeIsAdded }
+    ensures language { LanguageIsAdded }
+    ensures group { GroupIsAdded }
+    ensures problem { ProblemIsAdded }
+    ensures team { TeamIsAdded }
+{}
+
+/// A change of what stands is one changed row.
+pub fn changes_are_rows()
+    ensures marks { MarksAreChanged }
+    ensures rejudging { RejudgingIsChanged }
+    ensures member { MemberIsChanged }
+{}

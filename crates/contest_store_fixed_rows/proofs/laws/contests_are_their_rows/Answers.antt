@@ -1,0 +1,8 @@
+use Rattle.contest_store_fixed_rows.proofs.SpellingLaws.{contests_read_back, contests_write_back}
+use Rattle.contest_store_fixed_rows.proofs.laws.contests_are_their_rows.Goals as goal
+
+pub returns-clause-read : goal.returns-clause-read
+returns-clause-read c = contests_read_back
+
+pub returns-clause-written : goal.returns-clause-written
+returns-clause-written c = contests_write_back

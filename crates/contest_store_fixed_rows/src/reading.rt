@@ -1,0 +1,121 @@
+//! The lists of a contest from the rows of its tables.
+ghost use Rattle.std.specs.Prelude.{◌≡◌, Some, None, true, false, IfOk};
+ghost use Rattle.contest_store_fixed_rows.specs.Spelling.{lists_in, tables_of, with_clarifications_in, with_lists_in, with_proposals_in, with_rejudgings_in, with_releases_in, with_submissions_in};
+
+use crate::LoadedRows;
+use crate::fixed_part::read_fixed;
+use contest_lists::Lists;
+use contest_store_rows::{read_list, read_rejudgings};
+use std::alloc::{AllocError, Global};
+use std::rc::Rc;
+
+/// The lists that the rows of all tables are; none where they are those of no contest. Whether the
+/// contest is a valid one is another question.
+///
+/// # Errors
+///
+/// Want of memory alone.
+pub fn read_lists(alloc: Global, rows: &LoadedRows) -> Result<Option<Lists>, AllocError>
+    ensures { IfOk result (λ found. found ≡ lists_in (tables_of rows.now)) }
+{
+    let Some(fixed) = read_fixed(
+        alloc,
+        &rows.desk,
+        &rows.contest,
+        &rows.items,
+        &rows.accounts,
+    )?
+    else {
+        return Ok(None);
+    };
+    let mut lists = Lists::new(alloc, Rc::new(alloc, fixed)?);
+    if fill(alloc, &mut lists, rows)? {
+        Ok(Some(lists))
+    } else {
+        Ok(None)
+    }
+}
+
+// Reads list after list; where one is none, the lists are of no use any more.
+fn fill(alloc: Global, lists: &mut Lists, rows: &LoadedRows) -> Result<bool, AllocError>
+    ensures filled { IfOk result (λ filled. filled ≡ true → with_lists_in (tables_of rows.now) lists.old ≡ Some lists.new) }
+    ensures other { IfOk result (λ filled. filled ≡ false → with_lists_in (tables_of rows.now) lists.old ≡ None) }
+{
+    Ok(
+        put_submissions(alloc, lists, rows)?
+            && put_proposals(alloc, lists, rows)?
+            && put_releases(alloc, lists, rows)?
+            && put_clarifications(alloc, lists, rows)?
+            && put_rejudgings(alloc, lists, rows)?,
+    )
+}
+
+fn put_submissions(alloc: Global, lists: &mut Lists, rows: &LoadedRows) -> Result<bool, AllocError>
+    ensures put { IfOk result (λ put. put ≡ true → with_submissions_in (tables_of rows.now) lists.old ≡ Some lists.new) }
+    ensures other { IfOk result (λ put. put ≡ false → with_submissions_in (tables_of rows.now) lists.old ≡ None) }
+{
+    match read_list(alloc, &lists.fixed().settings, &rows.submissions)? {
+        Some(submissions) => {
+            lists.put_submissions(alloc, submissions)?;
+            Ok(true)
+        }
+        None => Ok(false),
+    }
+}
+
+fn put_proposals(alloc: Global, lists: &mut Lists, rows: &LoadedRows) -> Result<bool, AllocError>
+    ensures put { IfOk result (λ put. put ≡ true → with_proposals_in (tables_of rows.now) lists.old ≡ Some lists.new) }
+    ensures other { IfOk result (λ put. put ≡ false → with_proposals_in (tables_of rows.now) lists.old ≡ None) }
+{
+    match read_list(alloc, &lists.fixed().settings, &rows.proposals)? {
+        Some(proposals) => {
+            lists.put_proposals(proposals);
+            Ok(true)
+        }
+        None => Ok(false),
+    }
+}
+
+fn put_releases(alloc: Global, lists: &mut Lists, rows: &LoadedRows) -> Result<bool, AllocError>
+    ensures put { IfOk result (λ put. put ≡ true → with_releases_in (tables_of rows.now) lists.old ≡ Some lists.new) }
+    ensures other { IfOk result (λ put. put ≡ false → with_releases_in (tables_of rows.now) lists.old ≡ None) }
+{
+    match read_list(alloc, &lists.fixed().settings, &rows.releases)? {
+        Some(releases) => {
+            lists.put_releases(releases);
+            Ok(true)
+        }
+        None => Ok(false),
+    }
+}
+
+fn put_clarifications(
+    alloc: Global,
+    lists: &mut Lists,
+    rows: &LoadedRows,
+) -> Result<bool, AllocError>
+    ensures put { IfOk result (λ put. put ≡ true → with_clarifications_in (tables_of rows.now) lists.old ≡ Some lists.new) }
+    ensures other { IfOk result (λ put. put ≡ false → with_clarifications_in (tables_of rows.now) lists.old ≡ None) }
+{
+    match read_list(alloc, &lists.fixed().settings, &rows.clarifications)? {
+        Some(clarifications) => {
+            lists.put_clarifications(clarifications);
+            Ok(true)
+        }
+        None => Ok(false),
+    }
+}
+
+fn put_rejudgings(alloc: Global, lists: &mut Lists, rows: &LoadedRows) -> Result<bool, AllocError>
+    ensures put { IfOk result (λ put. put ≡ true → with_rejudgings_in (tables_of rows.now) lists.old ≡ Some lists.new) }
+    ensures other { IfOk result (λ put. put ≡ false → with_rejudgings_in (tables_of rows.now) lists.old ≡ None) }
+{
+    let settings = &lists.fixed().settings;
+    match read_rejudgings(alloc, settings, &rows.rejudgings, &rows.members)? {
+        Some(rejudgings) => {
+            lists.put_rejudgings(rejudgings);
+            Ok(true)
+        }
+        None => Ok(false),
+    }
+}

@@ -1,0 +1,43 @@
+-- What is found where a store is opened.
+use Rattle.std.specs.Prelude.{◌≡◌, Some, false, true}
+use Rattle.sqlite.specs.State.{State}
+use Rattle.contest_types.specs.State.{ContestState}
+use Rattle.contest_types.specs.Valid.{is_valid}
+use Rattle.contest_store.specs.Keeping.{Kept, LeavesNoMore, Shows}
+use Rattle.contest_lists.specs.Lists.{loaded}
+use Rattle.contest_store_tables.specs.Connected.{IsOfDesk}
+use Rattle.contest_store_tables.specs.Schema.{desk_schema}
+use Rattle.contest_store_sqlite.specs.Contests.{contest_in_trees, HoldsContests, may_leave_of}
+use Rattle.contest_store_sqlite.specs.Value.{StoreValue}
+
+-- the lists are those of the valid contest that the tables of a desk showed, and they show it still
+pub record IsRead (old new : State) (lists : ContestState) : Type 0 where
+  pub contest : ContestState
+  pub desk : IsOfDesk old
+  pub found : contest_in_trees old.now.trees ≡ Some contest
+  pub held : lists ≡ loaded contest
+  pub holds : HoldsContests new contest contest
+
+-- the tables of a desk stand, and no others, and so they did at the last commit
+pub record HasDesk (s : State) : Type 0 where
+  pub now : IsOfDesk s
+  pub committed : s.committed.schema ≡ desk_schema
+
+-- a store shows the valid contest that the tables of the connection showed, which were those of a desk, and a crash leaves
+-- no more than it could before
+pub record Opened (s : State) (kept : Kept) : Type 0 where
+  pub contest : ContestState
+  pub desk : IsOfDesk s
+  pub found : contest_in_trees s.now.trees ≡ Some contest
+  pub shows : Shows kept contest contest
+  pub crash : LeavesNoMore (may_leave_of s) kept.may_leave
+
+-- a store shows a valid contest, as it was committed
+pub record ShowsValid (kept : Kept) : Type 0 where
+  pub contest : ContestState
+  pub shows : Shows kept contest contest
+  pub valid : is_valid contest ≡ true
+
+-- no call failed yet, no commit was answered, the lists are in memory, and no change was made
+abbrev pub IsNew : {S : Type 0} → StoreValue S → Type 0
+IsNew v = (v.faults ≡ 0) × (v.refusals ≡ 0) × (v.commits ≡ 0) × (v.is_loaded ≡ true) × (v.is_changed ≡ false)

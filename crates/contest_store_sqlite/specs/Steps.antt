@@ -1,0 +1,29 @@
+-- What the calls on the tables start from.
+use Rattle.std.specs.Prelude.{◌≡◌, IsTrue, true}
+use Rattle.sqlite.specs.State.{State}
+use Rattle.sqlite.specs.Tree.{Trees}
+use Rattle.contest_lists.specs.Lists.{loaded}
+use Rattle.contest_types.specs.Addable.{is_addable}
+use Rattle.contest_types.specs.State.{ContestState}
+use Rattle.contest_types.specs.declared.entry.Entry.{Entry}
+use Rattle.contest_store_tables.specs.Steps.{Content, Holding, Holds, IsLive, MakesNone, Showing}
+use Rattle.contest_store_tables.specs.Tables.{TableRows}
+use Rattle.contest_store_changes.specs.ContestTables.{table_rows}
+use Rattle.contest_store_changes.specs.Sound.{IsSound}
+
+-- the tables of a desk stand
+abbrev pub HoldsDesk : Holding
+HoldsDesk s now kept = Holds s now kept × ((rows : TableRows) × (now ≡ Showing rows))
+
+-- where they stand in an open connection nothing is made
+abbrev pub MakesNoneOfDesk : State → Trees → Type 0
+MakesNoneOfDesk old db = (IsLive old → IsTrue old.is_open) × MakesNone old HoldsDesk db
+
+-- they show a sound contest that has these lists, and to which the change may be made
+pub record MayAdd (lists : ContestState) (e : Entry) (s : State) (now kept : Content) : Type 0 where
+  pub contest : ContestState
+  pub shown : now ≡ Showing (table_rows contest)
+  pub sound : IsSound contest
+  pub held : loaded contest ≡ lists
+  pub may : is_addable contest e ≡ true
+  pub holds : Holds s now kept

@@ -1,0 +1,14 @@
+//! A contest in SQLite tables, with its lists held in memory.
+#![tactic(auto)]
+
+mod additions;
+mod creation;
+mod files;
+mod keeper;
+mod open_error;
+mod opening;
+mod reads;
+mod store;
+
+pub use open_error::OpenError;
+pub use store::Store;

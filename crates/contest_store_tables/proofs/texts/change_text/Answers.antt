@@ -1,0 +1,11 @@
+use Rattle.contest_store_tables.proofs.TextMeanings.{marks_changed, rejudging_state_changed, member_state_changed}
+use Rattle.contest_store_tables.proofs.texts.change_text.Goals as goal
+
+pub returns-in-Marks : goal.returns-in-Marks
+returns-in-Marks c = rw c.in-Marks.is marks_changed
+
+pub returns-in-RejudgingState : goal.returns-in-RejudgingState
+returns-in-RejudgingState c = rw c.in-RejudgingState.is rejudging_state_changed
+
+pub returns-in-MemberState : goal.returns-in-MemberState
+returns-in-MemberState c = rw c.in-MemberState.is member_state_changed

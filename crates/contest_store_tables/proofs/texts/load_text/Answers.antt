@@ -1,0 +1,32 @@
+use Rattle.contest_store_tables.proofs.TextMeanings.{desk_loaded, contest_loaded, items_loaded, accounts_loaded, submissions_loaded, proposals_loaded, releases_loaded, rejudgings_loaded, members_loaded, clarifications_loaded}
+use Rattle.contest_store_tables.proofs.texts.load_text.Goals as goal
+
+pub returns-in-Desk : goal.returns-in-Desk
+returns-in-Desk c = rw c.in-Desk.is desk_loaded
+
+pub returns-in-Contest : goal.returns-in-Contest
+returns-in-Contest c = rw c.in-Contest.is contest_loaded
+
+pub returns-in-Items : goal.returns-in-Items
+returns-in-Items c = rw c.in-Items.is items_loaded
+
+pub returns-in-Accounts : goal.returns-in-Accounts
+returns-in-Accounts c = rw c.in-Accounts.is accounts_loaded
+
+pub returns-in-Submissions : goal.returns-in-Submissions
+returns-in-Submissions c = rw c.in-Submissions.is submissions_loaded
+
+pub returns-in-Proposals : goal.returns-in-Proposals
+returns-in-Proposals c = rw c.in-Proposals.is proposals_loaded
+
+pub returns-in-Releases : goal.returns-in-Releases
+returns-in-Releases c = rw c.in-Releases.is releases_loaded
+
+pub returns-in-Rejudgings : goal.returns-in-Rejudgings
+returns-in-Rejudgings c = rw c.in-Rejudgings.is rejudgings_loaded
+
+pub returns-in-Members : goal.returns-in-Members
+returns-in-Members c = rw c.in-Members.is members_loaded
+
+pub returns-in-Clarifications : goal.returns-in-Clarifications
+returns-in-Clarifications c = rw c.in-Clarifications.is clarifications_loaded

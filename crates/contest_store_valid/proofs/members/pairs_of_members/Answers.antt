@@ -1,0 +1,7 @@
+use Rattle.contest_store_valid.proofs.MemberLemmas.{members_more}
+use Rattle.contest_store_valid.proofs.members.pairs_of_members.Goals as goal
+
+pub loop-rejudging-preserved : goal.loop-rejudging-preserved
+loop-rejudging-preserved c =
+    members_more c.args.rejudgings.now c.loop-rejudging.rejudging-index c.rejudging-item.result c.loop-rejudging.pairs.items c.push_pairs.new.pairs.items
+    c.loop-rejudging-test.true c.rejudging-item.is c.loop-rejudging.invariant (rw c.as_slice.ensures at c.in_ok-push_pairs.ensures)

@@ -1,7 +1,0 @@
-use Rattle.std.proofs.Common.{◌≡◌, map, take}
-use Rattle.contest_types.specs.ValidRejudgings.{open_members}
-use Rattle.contest_valid.specs.Members.{pair_of_member}
-use Rattle.contest_valid.proofs.members.pairs_of_open_members.Given as goal
-
-abbrev pub invariant-loop-rejudging : goal.invariant-loop-rejudging
-invariant-loop-rejudging l = l.pairs.items ≡ map pair_of_member (open_members (take l.rejudging-index l.rejudgings))

@@ -1,4 +1,0 @@
-pub mod LastRows
-pub mod Judgements
-pub mod Proposals
-pub mod Laws

@@ -1,0 +1,94 @@
+//! The clarifications that an audience hears: all of them, and one by its id.
+ghost use Rattle.std.specs.Prelude.{◌≡◌, ℕ, IfOk, IfSome, false, option_map};
+ghost use Rattle.serde_json.specs.View.{view};
+ghost use Rattle.serde_json.specs.Written.{has_float};
+ghost use Rattle.contest_types.specs.State.{ContestState};
+ghost use Rattle.contest_view.specs.Clarifications.{clarification_found, clarifications_data};
+ghost use Rattle.contest_view.specs.SeenLists.{Shows};
+
+use crate::seen::Seen;
+use contest_objects::{
+    Collection, Ordered, clarification_id, clarification_value, get, has_clarification_id, list,
+};
+use contest_types::{Clarification, sees_clarification};
+use serde_json::Value;
+use std::alloc::{AllocError, Global};
+use std::cmp::Ordering;
+
+/// Clarifications as an audience is served them.
+#[derive(Clone, Copy)]
+struct Clarifications<'a> {
+    seen: &'a Seen<'a>,
+}
+
+impl<'a> Collection for Clarifications<'a> {
+    ghost use Rattle.contest_view.specs.Clarifications.{heard_row};
+
+    type Row = Clarification;
+
+    ghost item = { λ c. heard_row c.seen.now.lists.now.fixed c.seen.now.audience };
+
+    fn has_id(&self, row: &Clarification, id: &[u8]) -> bool {
+        let settings = &self.seen.lists.fixed().settings;
+        sees_clarification(self.seen.audience, settings, row)
+            && has_clarification_id(row.addressee, row.number, id)
+    }
+
+    fn object(&self, alloc: Global, row: &Clarification) -> Result<Option<Value>, AllocError> {
+        let fixed = self.seen.lists.fixed();
+        if !sees_clarification(self.seen.audience, &fixed.settings, row) {
+            return Ok(None);
+        }
+        let value = clarification_value(alloc, fixed, self.seen.audience, row)?;
+        Ok(Some(value))
+    }
+}
+
+impl<'a> Ordered for Clarifications<'a> {
+    ghost use Rattle.contest_view.specs.Clarifications.{heard_cmp, heard_total};
+
+    ghost cmp = { λ c. heard_cmp };
+
+    fn compare(&self, first: &Clarification, second: &Clarification) -> Ordering {
+        let one = clarification_id(first.addressee, first.number);
+        let other = clarification_id(second.addressee, second.number);
+        let times = first.time.milliseconds().cmp(&second.time.milliseconds());
+        times.then(one.cmp(&other))
+    }
+
+    ghost total = { λ c. heard_total };
+}
+
+/// The array of the clarifications that an audience hears, by time and id (Contest API 2023-06,
+/// clarifications).
+///
+/// # Errors
+///
+/// Want of memory alone.
+pub fn clarifications_value(alloc: Global, seen: &Seen<'_>) -> Result<Value, AllocError>
+    ensures seen { (x : ContestState) → Shows seen.entry.now x → IfOk result (λ v. view v ≡ clarifications_data seen.entry.now.audience x) }
+    ensures no_floats { IfOk result (λ v. has_float (view v) ≡ false) }
+{
+    let rows = seen.lists.clarifications();
+    let value = list(alloc, &Clarifications { seen }, rows)?;
+    Ok(value)
+}
+
+/// The clarification with an id, if the audience hears it: one that it doesn't hear is as one that isn't
+/// there.
+///
+/// # Errors
+///
+/// Want of memory alone.
+pub fn clarification_by_id(
+    alloc: Global,
+    seen: &Seen<'_>,
+    id: &[u8],
+) -> Result<Option<Value>, AllocError>
+    ensures seen { (x : ContestState) → Shows seen.entry.now x → IfOk result (λ found. option_map view found ≡ clarification_found seen.entry.now.audience x id.now) }
+    ensures no_floats { IfOk result (λ found. IfSome found (λ v. has_float (view v) ≡ false)) }
+{
+    let rows = seen.lists.clarifications();
+    let found = get(alloc, &Clarifications { seen }, rows, id)?;
+    Ok(found)
+}

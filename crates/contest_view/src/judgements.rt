@@ -1,0 +1,147 @@
+//! The judgements that an audience sees: all of them, and one by its id.
+ghost use Rattle.std.specs.Prelude.{◌≡◌, ℕ, IfOk, IfSome, false, option_map};
+ghost use Rattle.serde_json.specs.View.{view};
+ghost use Rattle.serde_json.specs.Written.{has_float};
+ghost use Rattle.contest_types.specs.Masks.{verdict_under};
+ghost use Rattle.contest_types.specs.Sight.{judgement_of};
+ghost use Rattle.contest_types.specs.State.{ContestState, of_release};
+ghost use Rattle.contest_view.specs.SeenLists.{Shows};
+ghost use Rattle.contest_view.specs.Judgements.{judgement_found, judgements_data, seen_of};
+ghost use Rattle.contest_view.specs.LastRows.{last_in, last_row};
+
+use crate::last_rows::{LastPlaces, last_on, last_places};
+use crate::{Seen, compare_submissions};
+use contest_objects::{Collection, Ordered, get, has_judgement_id, judgement_value, list};
+use contest_types::{Fixed, Mask, Moment, Release, Submission, is_frozen, mask_for, sees_team};
+use serde_json::Value;
+use std::alloc::{AllocError, Global};
+use std::cmp::Ordering;
+
+/// Judgements as an audience is served them: of each submission the one that it sees.
+#[derive(Drop)]
+struct Judgements<'a> {
+    seen: &'a Seen<'a>,
+    last: LastPlaces,
+}
+
+impl<'a> Judgements<'a> {
+    fn new(alloc: Global, seen: &'a Seen<'a>) -> Result<Judgements<'a>, AllocError>
+        ensures seen { IfOk result (λ j. j.seen.now ≡ seen.entry.now) }
+        ensures last { IfOk result (λ j. (team number : ℕ) → last_in j.seen.now.lists.now.releases j.last team number ≡ last_row of_release seen.entry.now.lists.now.releases team number) }
+    {
+        let last = last_places(alloc, seen.lists.releases())?;
+        Ok(Judgements { seen, last })
+    }
+
+    // The release that is seen on a submission.
+    fn release(&self, submission: &Submission) -> Option<&Release>
+        ensures { option_map (λ r. judgement_of r.now) result ≡ seen_of self.entry.now.seen.now.audience self.entry.now.seen.now.now self.entry.now.seen.now.lists.now.fixed
+            (last_in self.entry.now.seen.now.lists.now.releases self.entry.now.last) submission.now }
+    {
+        let (lists, audience) = (self.seen.lists, self.seen.audience);
+        let fixed = lists.fixed();
+        let (team, number) = (submission.team, submission.number);
+        if !sees_team(audience, &fixed.settings, team) {
+            return None;
+        }
+        let mask = mask_for(audience, &fixed.marks, self.seen.now, team);
+        let release = last_on(lists.releases(), &self.last, team, number);
+        under_mask(mask, fixed, submission.time, release)
+    }
+}
+
+impl<'a> Collection for Judgements<'a> {
+    ghost use Rattle.contest_view.specs.Judgements.{judgement_row};
+    ghost use Rattle.contest_view.specs.LastRows.{last_in};
+
+    type Row = Submission;
+
+    ghost item = { λ c. judgement_row c.seen.now.audience c.seen.now.now c.seen.now.lists.now.fixed (last_in c.seen.now.lists.now.releases c.last) };
+
+    fn has_id(&self, row: &Submission, id: &[u8]) -> bool {
+        match self.release(row) {
+            Some(release) => has_judgement_id(row.team, row.number, release.round, id),
+            None => false,
+        }
+    }
+
+    fn object(&self, alloc: Global, row: &Submission) -> Result<Option<Value>, AllocError> {
+        match self.release(row) {
+            Some(release) => {
+                let fixed = self.seen.lists.fixed();
+                let value = judgement_value(alloc, fixed, row.team, row.number, release)?;
+                Ok(Some(value))
+            }
+            None => Ok(None),
+        }
+    }
+}
+
+impl<'a> Ordered for Judgements<'a> {
+    ghost use Rattle.contest_view.specs.Rows.{row_cmp, row_total};
+
+    ghost cmp = { λ c. row_cmp c.seen.now.lists.now.fixed.settings };
+
+    fn compare(&self, first: &Submission, second: &Submission) -> Ordering {
+        compare_submissions(&self.seen.lists.fixed().settings, first, second)
+    }
+
+    ghost total = { λ c. row_total c.seen.now.lists.now.fixed.settings };
+}
+
+/// The array of the judgements that an audience sees, one for each submission, in the order of the
+/// submissions (Contest API 2023-06, judgements).
+///
+/// # Errors
+///
+/// Want of memory alone.
+pub fn judgements_value(alloc: Global, seen: &Seen<'_>) -> Result<Value, AllocError>
+    ensures seen { (x : ContestState) → Shows seen.entry.now x → IfOk result (λ v. view v ≡ judgements_data seen.entry.now.audience seen.entry.now.now x) }
+    ensures no_floats { IfOk result (λ v. has_float (view v) ≡ false) }
+{
+    let rows = seen.lists.submissions();
+    let judgements = Judgements::new(alloc, seen)?;
+    let value = list(alloc, &judgements, rows)?;
+    Ok(value)
+}
+
+/// The judgement with an id, if the audience sees one that has it: one that it doesn't see, or that isn't
+/// the last of its submission, is as one that isn't there. The id is compared as a text.
+///
+/// # Errors
+///
+/// Want of memory alone.
+pub fn judgement_by_id(
+    alloc: Global,
+    seen: &Seen<'_>,
+    id: &[u8],
+) -> Result<Option<Value>, AllocError>
+    ensures seen { (x : ContestState) → Shows seen.entry.now x → IfOk result (λ found. option_map view found ≡ judgement_found seen.entry.now.audience seen.entry.now.now x id.now) }
+    ensures no_floats { IfOk result (λ found. IfSome found (λ v. has_float (view v) ≡ false)) }
+{
+    let rows = seen.lists.submissions();
+    let judgements = Judgements::new(alloc, seen)?;
+    let found = get(alloc, &judgements, rows, id)?;
+    Ok(found)
+}
+
+// A release on a submission of this time, unless the mask holds it back.
+fn under_mask<'v>(
+    mask: Mask,
+    fixed: &Fixed,
+    time: Moment,
+    release: Option<&'v Release>,
+) -> Option<&'v Release>
+    ensures { option_map (λ r. judgement_of r.now) result ≡ verdict_under mask fixed.now.settings fixed.now.marks time (option_map (λ r. judgement_of r.now) release.entry) }
+{
+    match mask {
+        Mask::Full => release,
+        Mask::Held => {
+            if is_frozen(&fixed.settings, &fixed.marks, time) {
+                None
+            } else {
+                release
+            }
+        }
+    }
+}

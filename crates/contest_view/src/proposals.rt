@@ -1,0 +1,121 @@
+//! What judges propose, as the jury sees it.
+ghost use Rattle.std.specs.Prelude.{◌≡◌, ℕ, IfOk, false, option_map};
+ghost use Rattle.serde_json.specs.View.{view};
+ghost use Rattle.serde_json.specs.Written.{has_float};
+ghost use Rattle.contest_types.specs.Masks.{is_jury};
+ghost use Rattle.contest_types.specs.State.{ContestState, of_proposal, of_release};
+ghost use Rattle.contest_view.specs.SeenLists.{Shows};
+ghost use Rattle.contest_view.specs.LastRows.{last_in, last_row};
+ghost use Rattle.contest_view.specs.Proposals.{open_of, proposals_data};
+
+use crate::last_rows::{LastPlaces, last_on, last_places};
+use crate::{Seen, compare_submissions};
+use contest_lists::Lists;
+use contest_objects::{Collection, Ordered, has_submission_id, list, proposal_value};
+use contest_types::{Audience, Proposal, Submission};
+use serde_json::Value;
+use std::alloc::{AllocError, Global};
+use std::cmp::Ordering;
+
+/// What stands proposed, of each submission without a release the last proposal.
+#[derive(Drop)]
+struct Proposals<'a> {
+    lists: &'a Lists,
+    last: LastPlaces,
+    released: LastPlaces,
+}
+
+impl<'a> Proposals<'a> {
+    fn new(alloc: Global, lists: &'a Lists) -> Result<Proposals<'a>, AllocError>
+        ensures lists { IfOk result (λ p. p.lists.now ≡ lists.now) }
+        ensures last { IfOk result (λ p. (team number : ℕ) → last_in p.lists.now.proposals p.last team number ≡ last_row of_proposal lists.now.proposals team number) }
+        ensures released { IfOk result (λ p. (team number : ℕ) → last_in p.lists.now.releases p.released team number ≡ last_row of_release lists.now.releases team number) }
+    {
+        let last = last_places(alloc, lists.proposals())?;
+        let released = last_places(alloc, lists.releases())?;
+        Ok(Proposals {
+            lists,
+            last,
+            released,
+        })
+    }
+
+    fn open(&self, submission: &Submission) -> Option<&Proposal>
+        ensures { option_map (λ p. p.now) result ≡ open_of (last_in self.entry.now.lists.now.proposals self.entry.now.last)
+            (last_in self.entry.now.lists.now.releases self.entry.now.released) submission.now }
+    {
+        let (team, number) = (submission.team, submission.number);
+        if last_on(self.lists.releases(), &self.released, team, number).is_some() {
+            return None;
+        }
+        last_on(self.lists.proposals(), &self.last, team, number)
+    }
+}
+
+impl<'a> Collection for Proposals<'a> {
+    ghost use Rattle.contest_view.specs.LastRows.{last_in};
+    ghost use Rattle.contest_view.specs.Proposals.{proposal_row};
+
+    type Row = Submission;
+
+    ghost item = { λ c. proposal_row c.lists.now.fixed.settings (last_in c.lists.now.proposals c.last) (last_in c.lists.now.releases c.released) };
+
+    fn has_id(&self, row: &Submission, id: &[u8]) -> bool {
+        match self.open(row) {
+            Some(proposal) => has_submission_id(proposal.team, proposal.number, id),
+            None => false,
+        }
+    }
+
+    fn object(&self, alloc: Global, row: &Submission) -> Result<Option<Value>, AllocError> {
+        match self.open(row) {
+            Some(proposal) => {
+                let settings = &self.lists.fixed().settings;
+                let value = proposal_value(alloc, settings, proposal, false)?;
+                Ok(Some(value))
+            }
+            None => Ok(None),
+        }
+    }
+}
+
+impl<'a> Ordered for Proposals<'a> {
+    ghost use Rattle.contest_view.specs.Rows.{row_cmp, row_total};
+
+    ghost cmp = { λ c. row_cmp c.lists.now.fixed.settings };
+
+    fn compare(&self, first: &Submission, second: &Submission) -> Ordering {
+        compare_submissions(&self.lists.fixed().settings, first, second)
+    }
+
+    ghost total = { λ c. row_total c.lists.now.fixed.settings };
+}
+
+/// The array of the proposals that the jury has still to verify: the last one for each submission without
+/// a release, in the order of the submissions (own). Who isn't of the jury sees none.
+///
+/// # Errors
+///
+/// Want of memory alone.
+pub fn proposals_value(alloc: Global, seen: &Seen<'_>) -> Result<Value, AllocError>
+    ensures seen { (x : ContestState) → Shows seen.entry.now x → IfOk result (λ v. view v ≡ proposals_data seen.entry.now.audience seen.entry.now.now x) }
+    ensures no_floats { IfOk result (λ v. has_float (view v) ≡ false) }
+{
+    if !is_jury(seen.audience) {
+        return Ok(Value::Array(Vec::new(alloc)));
+    }
+    let lists = seen.lists;
+    let rows = lists.submissions();
+    let proposals = Proposals::new(alloc, lists)?;
+    let value = list(alloc, &proposals, rows)?;
+    Ok(value)
+}
+
+fn is_jury(audience: Audience) -> bool
+    ensures { result ≡ is_jury audience }
+{
+    match audience {
+        Audience::Jury => true,
+        Audience::Public | Audience::Team(_) => false,
+    }
+}

@@ -1,4 +1,0 @@
-mod WordLemmas
-mod RefusalNames
-pub mod ArgumentLemmas
-pub mod StreamLemmas

@@ -1,0 +1,473 @@
+"""A second opinion on what the desk answers: the plainest model of a contest that takes requests.
+
+docs/FORMATS.md says what is asked and answered. It is written to be read beside that page and to share nothing with the
+program: whole lists, filtered and counted for each answer, and nothing kept up to date along the way. What imports add to a
+contest is told by import_opinion.py.
+"""
+
+import base64
+import binascii
+import copy
+import datetime
+import hashlib
+import json
+
+from .import_opinion import COLLECTIONS, Refused, compact, has_come, is_id, is_name, member
+from .replay_opinion import Fault, reltime_text
+
+FILE_LIMIT = 262_144
+TEAM_LIMIT = 500
+PROPOSAL_LIMIT = 1_000
+TEXT_LIMIT = 4_096
+REQUEST_LIMIT = 200
+JURY_LIMIT = 100_000
+STATUSES = {
+    "Malformed": 400, "UnknownToken": 401, "RoleForbids": 403, "NotFound": 404, "Method": 405, "BodyTooLarge": 413,
+    "NotOpen": 409, "UnknownReference": 400, "EntryPointMissing": 400, "TeamLimit": 409, "KeyReused": 409, "AlreadyReleased": 409,
+    "NothingToVerify": 409, "SameJudge": 403, "TypeDiffers": 409,
+}  # fmt: skip
+
+
+def new_contest(head, start, thaw, finalized):
+    """A contest with nothing in it: its head has id, name, duration, freeze, penalty and whether verdicts are verified; each
+    mark is set or None."""
+    lists = ("types", "languages", "problems", "groups", "teams", "accounts", "submissions", "proposals", "releases", "clarifications")
+    return {**head, "start": start, "thaw": thaw, "finalized": finalized, **{name: [] for name in lists}}
+
+
+def contest_object(contest):
+    return {
+        "duration": reltime_text(contest["duration"]),
+        "id": contest["id"],
+        "name": contest["name"],
+        "penalty_time": contest["penalty"],
+        "scoreboard_freeze_duration": reltime_text(contest["freeze"]),
+        "scoreboard_thaw_time": moment(contest["thaw"]),
+        "scoreboard_type": "pass-fail",
+        "start_time": moment(contest["start"]),
+    }
+
+
+def state_object(contest, now):
+    """The moments that have come: a thaw once there is something frozen, final results once the contest has ended."""
+    start, state = contest["start"], dict.fromkeys(["started", "frozen", "ended", "thawed", "finalized", "end_of_updates"])
+    if start is None:
+        return state
+    end = start + contest["duration"]
+    for name, one in (("started", start), ("frozen", end - contest["freeze"]), ("ended", end)):
+        state[name] = one if has_come(one, now) else None
+    if state["frozen"] is not None and has_come(contest["thaw"], now):
+        state["thawed"] = contest["thaw"]
+    if state["ended"] is not None and has_come(contest["finalized"], now):
+        state["finalized"] = contest["finalized"]
+    if state["thawed"] is not None and state["finalized"] is not None:
+        state["end_of_updates"] = max(state["thawed"], state["finalized"])
+    return {name: moment(one) for name, one in state.items()}
+
+
+def is_jury(caller):
+    return caller is not None and caller["role"] != "team"
+
+
+def owns(caller, team):
+    return caller is not None and caller["role"] == "team" and caller["team"] == team
+
+
+def place_of(contest, team):
+    """A team's place, from 1."""
+    return [row["id"] for row in contest["teams"]].index(team) + 1
+
+
+def submission_id(contest, submission):
+    return f"s{place_of(contest, submission['team'])}-{submission['number']}"
+
+
+def submission_object(contest, submission, caller):
+    """A submission as the caller is served it."""
+    shown = {
+        "contest_time": reltime_text(submission["time"] - contest["start"]),
+        "id": submission_id(contest, submission),
+        "language_id": submission["language"],
+        "problem_id": submission["problem"],
+        "team_id": submission["team"],
+        "time": moment(submission["time"]),
+    }
+    if is_jury(caller) or owns(caller, submission["team"]):
+        href = f"contests/{contest['id']}/submissions/{shown['id']}/files"
+        shown["files"] = [{"href": href, "mime": "application/zip"}]
+        if submission["entry"] is not None:
+            shown["entry_point"] = submission["entry"]
+    return shown
+
+
+def moment(milliseconds):
+    if milliseconds is None:
+        return None
+    day = datetime.datetime(1970, 1, 1) + datetime.timedelta(milliseconds=milliseconds)
+    return day.strftime("%Y-%m-%dT%H:%M:%S.") + f"{milliseconds % 1000:03}+00:00"
+
+
+def seen_submissions(contest, caller):
+    """The submissions that a caller sees, by time, team id and number."""
+
+    def is_seen(submission):
+        hidden = next(team["hidden"] for team in contest["teams"] if team["id"] == submission["team"])
+        return not hidden or is_jury(caller) or owns(caller, submission["team"])
+
+    seen = [submission for submission in contest["submissions"] if is_seen(submission)]
+    return sorted(seen, key=lambda one: (one["time"], one["team"].encode(), one["number"]))
+
+
+def seen_release(contest, now, submission, caller):
+    """The last release on a submission, unless it is held back from the caller; None if there is none to see."""
+    which = submission_id(contest, submission)
+    released = [one for one in contest["releases"] if one["submission"] == which]
+    freeze = contest["start"] + contest["duration"] - contest["freeze"]
+    is_held = submission["time"] >= freeze and not has_come(contest["thaw"], now)
+    if not released or (is_held and not is_jury(caller) and not owns(caller, submission["team"])):
+        return None
+    return released[-1]
+
+
+def judgement_object(contest, release):
+    at = {"time": moment(release["time"]), "contest_time": reltime_text(release["time"] - contest["start"])}
+    times = {f"{side}_{name}": value for side in ("start", "end") for name, value in at.items()}
+    which = release["submission"]
+    return {"id": f"{which}.{release['round']}", "judgement_type_id": release["type"], "submission_id": which, **times}
+
+
+def judgements(contest, now, caller):
+    seen = [seen_release(contest, now, one, caller) for one in seen_submissions(contest, caller)]
+    return [judgement_object(contest, release) for release in seen if release is not None]
+
+
+def proposal_object(proposal, is_released):
+    names = {"account_id": proposal["account"], "judgement_type_id": proposal["type"], "submission_id": proposal["submission"]}
+    return {**names, "released": is_released, "time": moment(proposal["time"])}
+
+
+def open_proposals(contest, caller):
+    """The last proposal of each submission that has no release, in the order of the submissions."""
+    found = []
+    for submission in seen_submissions(contest, caller):
+        which = submission_id(contest, submission)
+        made = [one for one in contest["proposals"] if one["submission"] == which]
+        if made and all(one["submission"] != which for one in contest["releases"]):
+            found.append(proposal_object(made[-1], False))
+    return found
+
+
+def clarification_id(contest, clarification):
+    """One that belongs to no team is to all."""
+    team = clarification["team"]
+    series = "g" if team is None else f"c{place_of(contest, team)}"
+    return f"{series}-{clarification['number']}"
+
+
+def heard_clarifications(contest, caller):
+    """The clarifications that a caller hears, by time and the bytes of their ids."""
+    heard = [one for one in contest["clarifications"] if one["team"] is None or is_jury(caller) or owns(caller, one["team"])]
+    return sorted(heard, key=lambda one: (one["time"], clarification_id(contest, one).encode()))
+
+
+def clarification_object(contest, clarification, caller):
+    """A clarification as a caller who hears it is served it: what it answers is told to who hears that too."""
+    heard = [clarification_id(contest, one) for one in heard_clarifications(contest, caller)]
+    team, is_by_jury = clarification["team"], clarification["is_by_jury"]
+    return {
+        "contest_time": reltime_text(clarification["time"] - contest["start"]),
+        "from_team_id": None if is_by_jury else team,
+        "id": clarification_id(contest, clarification),
+        "problem_id": clarification["problem"],
+        "reply_to_id": clarification["reply"] if clarification["reply"] in heard else None,
+        "text": clarification["text"],
+        "time": moment(clarification["time"]),
+        "to_team_id": team if is_by_jury else None,
+    }
+
+
+def cell(contest, now, team, problem, caller):
+    """What a team's attempts at a problem come to, under what the caller sees of it."""
+    types, start = {row["id"]: row for row in contest["types"]}, contest["start"]
+    counted = {"num_judged": 0, "num_pending": 0, "problem_id": problem["id"], "solved": False}
+    penalties = 0
+    attempts = [one for one in contest["submissions"] if (one["team"], one["problem"]) == (team["id"], problem["id"])]
+    for attempt in sorted(attempts, key=lambda one: (one["time"], one["number"])):
+        release = seen_release(contest, now, attempt, caller)
+        if release is None:
+            counted["num_pending"] += 1
+            continue
+        counted["num_judged"] += 1
+        if types[release["type"]]["solved"]:
+            return {**counted, "solved": True, "time": (attempt["time"] - start) // 60_000}, penalties
+        penalties += types[release["type"]]["penalty"]
+    return counted, penalties
+
+
+def scoreboard(contest, now, caller):
+    """The teams that aren't hidden: more solved first, then less time, then an earlier last minute; ranks count who is better."""
+    rows = []
+    problems = sorted(contest["problems"], key=lambda row: (row["ordinal"], row["id"].encode()))
+    for team in contest["teams"]:
+        if team["hidden"]:
+            continue
+        cells = [cell(contest, now, team, problem, caller) for problem in problems]
+        solved = [(one["time"], penalties) for one, penalties in cells if one["solved"]]
+        total = sum(minute + contest["penalty"] * penalties for minute, penalties in solved)
+        last = max((minute for minute, _ in solved), default=None)
+        score = {"num_solved": len(solved), "time": last, "total_time": total}
+        key = (-len(solved), total, 0 if last is None else last)
+        rows.append((key, team, {"problems": [one for one, _ in cells], "score": score, "team_id": team["id"]}))
+    shown = []
+    for key, _, row in sorted(rows, key=lambda one: (one[0], one[1]["name"].encode(), one[1]["id"].encode())):
+        shown.append({**row, "rank": 1 + sum(other < key for other, _, _ in rows)})
+    time = None if contest["start"] is None else signed(now - contest["start"])
+    return {"contest_time": time, "rows": shown, "state": state_object(contest, now), "time": moment(now)}
+
+
+def signed(milliseconds):
+    return reltime_text(milliseconds) if milliseconds >= 0 else "-" + reltime_text(-milliseconds)
+
+
+def collection(contest, now, name, caller):
+    if name == "submissions":
+        return [submission_object(contest, one, caller) for one in seen_submissions(contest, caller)]
+    if name == "judgements":
+        return judgements(contest, now, caller)
+    if name == "clarifications":
+        return [clarification_object(contest, one, caller) for one in heard_clarifications(contest, caller)]
+    rows = contest[COLLECTIONS[name]]
+    return sorted(rows, key=lambda row: (row["ordinal"], row["id"].encode())) if name == "problems" else rows
+
+
+def posted(body, team):
+    """What a team posts: problem, language, entry point and file."""
+    try:
+        row = json.loads(body)
+        problem, language = member(row, "problem_id", is_id), member(row, "language_id", is_id)
+        entry = member(row, "entry_point", lambda text: text == "" or is_name(text), "")
+        files = member(row, "files", lambda files: isinstance(files, list) and len(files) == 1)
+        data = member(files[0], "data", lambda text: isinstance(text, str))
+        file = base64.b64decode(data.encode(), validate=True)
+        if base64.b64encode(file).decode() != data or member(row, "team_id", is_id, team) != team:
+            raise Fault("Malformed")
+    except (Fault, json.JSONDecodeError, UnicodeEncodeError, binascii.Error):
+        raise Refused("Malformed")
+    if len(file) > FILE_LIMIT:
+        raise Refused("BodyTooLarge")
+    return problem, language, entry or None, file
+
+
+def submit(contest, now, caller, key, body):
+    """The submission that a post stands for, new or old."""
+    if caller is None or caller["role"] != "team":
+        raise Refused("RoleForbids")
+    if key is not None and not is_id(key):
+        raise Refused("Malformed")
+    problem, language, entry, file = posted(body, caller["team"])
+    languages = {row["id"]: row["entry_point_required"] for row in contest["languages"]}
+    if all(row["id"] != problem for row in contest["problems"]) or language not in languages:
+        raise Refused("UnknownReference")
+    if languages[language] and entry is None:
+        raise Refused("EntryPointMissing")
+    own = [one for one in contest["submissions"] if one["team"] == caller["team"]]
+    new = {"team": caller["team"], "number": len(own) + 1, "time": max([now] + [one["time"] for one in own]),
+           "problem": problem, "language": language, "entry": entry, "file": file, "key": key}  # fmt: skip
+    for one in own:
+        if key is not None and one["key"] == key:
+            if any(one[part] != new[part] for part in ("problem", "language", "entry", "file")):
+                raise Refused("KeyReused")
+            return one
+    start = contest["start"]
+    if start is None or not start <= now < start + contest["duration"] or contest["finalized"] is not None:
+        raise Refused("NotOpen")
+    if len(own) >= TEAM_LIMIT:
+        raise Refused("TeamLimit")
+    contest["submissions"].append(new)
+    return new
+
+
+def is_text(value):
+    return isinstance(value, str) and 1 <= len(value.encode()) <= TEXT_LIMIT
+
+
+def said(body, caller):
+    """What a clarification's post says: whose it is, which is a team's or for all, and its problem, its reply and its text."""
+    try:
+        row = json.loads(body)
+        text = member(row, "text", is_text)
+        names = ("problem_id", "reply_to_id", "from_team_id", "to_team_id")
+        problem, reply, sender, receiver = [member(row, name, is_id, "") or None for name in names]
+    except (Fault, json.JSONDecodeError, UnicodeEncodeError):
+        raise Refused("Malformed")
+    if is_jury(caller) and sender is None:
+        return {"team": receiver, "problem": problem, "reply": reply, "text": text}
+    if not is_jury(caller) and sender in (None, caller["team"]) and receiver is None:
+        return {"team": caller["team"], "problem": problem, "reply": reply, "text": text}
+    raise Refused("Malformed")
+
+
+def may_write(contest, now, caller):
+    """Whether the clock lets a caller write: a team while the contest runs, the jury from the start on."""
+    start = contest["start"]
+    if start is None or now < start or contest["finalized"] is not None:
+        return False
+    return is_jury(caller) or now < start + contest["duration"]
+
+
+def clarify(contest, now, caller, key, body):
+    """The clarification that a post stands for, new or old."""
+    if caller is None:
+        raise Refused("RoleForbids")
+    if key is not None and not is_id(key):
+        raise Refused("Malformed")
+    wanted, stands = said(body, caller), contest["clarifications"]
+    heard = [clarification_id(contest, one) for one in heard_clarifications(contest, caller)]
+    for named, there in (("problem", contest["problems"]), ("team", contest["teams"])):
+        if wanted[named] is not None and all(row["id"] != wanted[named] for row in there):
+            raise Refused("UnknownReference")
+    if wanted["reply"] is not None and wanted["reply"] not in heard:
+        raise Refused("UnknownReference")
+    by_side = [one for one in stands if one["is_by_jury"] == is_jury(caller)]
+    sharing = [one for one in by_side if (one["account"] == caller["id"] if is_jury(caller) else one["team"] == caller["team"])]
+    for one in sharing:
+        if key is not None and one["key"] == key:
+            if any(one[part] != wanted[part] for part in wanted):
+                raise Refused("KeyReused")
+            return one
+    if not may_write(contest, now, caller):
+        raise Refused("NotOpen")
+    if sum(one["team"] == wanted["team"] for one in by_side) >= (JURY_LIMIT if is_jury(caller) else REQUEST_LIMIT):
+        raise Refused("TeamLimit")
+    number = 1 + sum(one["team"] == wanted["team"] for one in stands)
+    new = {**wanted, "number": number, "is_by_jury": is_jury(caller), "account": caller["id"], "time": now, "key": key}
+    stands.append(new)
+    return new
+
+
+def judged(contest, caller, body):
+    """The submission and the judgement type that a judge's post names; what is released already is refused."""
+    if not is_jury(caller):
+        raise Refused("RoleForbids")
+    try:
+        row = json.loads(body)
+        which, verdict = member(row, "submission_id", is_id), member(row, "judgement_type_id", is_id)
+    except (Fault, json.JSONDecodeError):
+        raise Refused("Malformed")
+    if all(submission_id(contest, one) != which for one in contest["submissions"]):
+        raise Refused("UnknownReference")
+    if all(row["id"] != verdict for row in contest["types"]):
+        raise Refused("UnknownReference")
+    if any(one["submission"] == which for one in contest["releases"]):
+        raise Refused("AlreadyReleased")
+    return which, verdict
+
+
+def first_release(now, which, verdict):
+    return {"submission": which, "round": 1, "type": verdict, "time": now}
+
+
+def propose(contest, now, caller, body):
+    """The proposal that a judge's post is; if nobody verifies it, its verdict is released."""
+    which, verdict = judged(contest, caller, body)
+    if sum(one["submission"] == which for one in contest["proposals"]) >= PROPOSAL_LIMIT:
+        raise Refused("TeamLimit")
+    proposal = {"account": caller["id"], "submission": which, "type": verdict, "time": now}
+    contest["proposals"].append(proposal)
+    if not contest["verification"]:
+        contest["releases"].append(first_release(now, which, verdict))
+    return proposal_object(proposal, not contest["verification"])
+
+
+def verify(contest, now, caller, body):
+    """The judgement that comes of another judge's naming the type of the last proposal."""
+    which, verdict = judged(contest, caller, body)
+    made = [one for one in contest["proposals"] if one["submission"] == which]
+    if not made:
+        raise Refused("NothingToVerify")
+    if made[-1]["account"] == caller["id"]:
+        raise Refused("SameJudge")
+    if made[-1]["type"] != verdict:
+        raise Refused("TypeDiffers")
+    contest["releases"].append(first_release(now, which, verdict))
+    return judgement_object(contest, contest["releases"][-1])
+
+
+def offered(contest, path):
+    """What a path offers: the methods, the collection and the id in it."""
+    pieces = path.split("/")
+    if path in ("/jury/proposals", "/jury/verifications"):
+        return ["GET", "HEAD", "POST"] if pieces[2] == "proposals" else ["POST"], pieces[2], None
+    if pieces in (["", "contests", contest["id"], "state"], ["", "contests", contest["id"], "scoreboard"]):
+        return ["GET", "HEAD"], pieces[3], None
+    if path == "/contests" or pieces == ["", "contests", contest["id"]]:
+        return ["GET", "HEAD"], {2: "contests", 3: "contest"}[len(pieces)], None
+    if len(pieces) == 6 and all(pieces[1:]) and pieces[:4] + pieces[5:] == ["", "contests", contest["id"], "submissions", "files"]:
+        return ["GET", "HEAD"], "files", pieces[4]
+    names = ["submissions", "judgements", "clarifications", *COLLECTIONS]
+    if len(pieces) not in (4, 5) or pieces[:3] != ["", "contests", contest["id"]] or pieces[3] not in names or not all(pieces[1:]):
+        raise Refused("NotFound")
+    methods = ["GET", "HEAD"] + (["POST"] if pieces[3:] in (["submissions"], ["clarifications"]) else [])
+    return methods, pieces[3], pieces[4] if len(pieces) == 5 else None
+
+
+def file_of(contest, which, caller):
+    """The file of a submission, for whoever is shown that there is one."""
+    for one in seen_submissions(contest, caller):
+        shown = submission_object(contest, one, caller)
+        if shown["id"] == which and "files" in shown:
+            return one["file"]
+    raise Refused("NotFound")
+
+
+def caller_of(contest, who):
+    """The account that asks; None for the public."""
+    if who == "public":
+        return None
+    digest = hashlib.sha256(who.encode()).hexdigest()
+    for account in contest["accounts"]:
+        if account["digest"] == digest:
+            return account
+    raise Refused("UnknownToken")
+
+
+def value_of(contest, now, who, key, method, path, body):
+    methods, name, which = offered(contest, path)
+    if method not in methods:
+        raise Refused("Method", " Allow: " + ", ".join(methods))
+    caller = caller_of(contest, who)
+    if method == "POST" and name in ("proposals", "verifications"):
+        return {"proposals": propose, "verifications": verify}[name](contest, now, caller, body)
+    if method == "POST" and name == "clarifications":
+        return clarification_object(contest, clarify(contest, now, caller, key, body), caller)
+    if method == "POST":
+        return submission_object(contest, submit(contest, now, caller, key, body), caller)
+    if name == "files":
+        return file_of(contest, which, caller)
+    if name in ("contests", "contest", "state"):
+        return {"contests": [contest_object(contest)], "contest": contest_object(contest), "state": state_object(contest, now)}[name]
+    if name == "scoreboard":
+        return scoreboard(contest, now, caller)
+    if name == "proposals":
+        if not is_jury(caller):
+            raise Refused("RoleForbids")
+        return open_proposals(contest, caller)
+    rows = collection(contest, now, name, caller)
+    if which is None:
+        return rows
+    for row in rows:
+        if row["id"] == which:
+            return row
+    raise Refused("NotFound")
+
+
+def handled(contest, now, who, key, method, path, body):
+    """What is answered to a request, and the contest after it."""
+    after = copy.deepcopy(contest)
+    try:
+        value = value_of(after, now, who, key, method, path, body)
+        return "200 " + (f"application/zip {value.decode()}" if isinstance(value, bytes) else compact(value)), after
+    except Refused as refused:
+        name, field = refused.args[0], refused.args[1] if len(refused.args) > 1 else ""
+        field = " WWW-Authenticate: Bearer" if name == "UnknownToken" else field
+        return f"{STATUSES[name]}{field} " + compact({"code": STATUSES[name], "message": name}), contest

@@ -1,0 +1,160 @@
+"""A second opinion on what the desk answers to imports, and on the values in what it is sent.
+
+docs/FORMATS.md says what may stand in a file; fields of CSV files are read as replay_opinion.py reads those of a replay file.
+"""
+
+import copy
+import hashlib
+import json
+import re
+
+from . import replay_opinion
+from .replay_opinion import Fault
+
+LIMITS = {"types": 40, "languages": 40, "problems": 40, "groups": 50, "teams": 500, "accounts": 2000}
+NUMBERS = {"Malformed": 1, "BodyTooLarge": 6, "SettingsClosed": 23}
+COLLECTIONS = {"judgement-types": "types", "languages": "languages", "problems": "problems", "groups": "groups", "teams": "teams"}
+HEADERS = {"teams-csv": b"id,name,group_ids,hidden", "accounts-csv": b"id,role,team_id,token"}
+
+
+class Refused(Exception):
+    """A request or a file is refused, by this name."""
+
+
+# --- Values ----------------------------------------------------------------------------------------
+
+
+def is_id(value):
+    return isinstance(value, str) and re.fullmatch(r"[A-Za-z0-9_.][A-Za-z0-9_.-]{0,35}", value) is not None
+
+
+def is_name(value):
+    return isinstance(value, str) and bool(re.fullmatch(r"[^\x00-\x1f\x7f-\x9f]+", value)) and len(value.encode()) <= 200
+
+
+def is_truth(value):
+    return isinstance(value, bool)
+
+
+def is_ordinal(value):
+    return isinstance(value, int) and not isinstance(value, bool) and 0 <= value <= 65_535
+
+
+def member(row, name, is_right, usual=None):
+    """A member of an object; one that is absent or null is as usual, and at fault if nothing is usual."""
+    value = row.get(name) if isinstance(row, dict) else None
+    if value is None and usual is not None:
+        return usual
+    if not is_right(value):
+        raise Fault("Malformed")
+    return value
+
+
+def has_come(one, now):
+    return one is not None and one <= now
+
+
+def compact(value):
+    return json.dumps(value, separators=(",", ":"), sort_keys=True, ensure_ascii=False)
+
+
+# --- Files -----------------------------------------------------------------------------------------
+
+
+def groups_of(ids, contest):
+    """The groups of a team, each once, and all of them there."""
+    if len(set(ids)) != len(ids):
+        raise Fault("Malformed")
+    if any(all(group["id"] != one for group in contest["groups"]) for one in ids):
+        raise Fault("UnknownReference")
+    return ids
+
+
+def row_of(kind, row, contest):
+    """The list that an object of a file goes to, and the row."""
+    row_id, label = member(row, "id", is_id), {}
+    if kind == "problems":
+        label = {"label": member(row, "label", is_name)}
+    made = {"id": row_id, **label, "name": member(row, "name", is_name)}
+    if kind == "judgement-types":
+        made["solved"] = member(row, "solved", is_truth)
+        made["penalty"] = member(row, "penalty", is_truth, False)
+    elif kind == "languages":
+        made["entry_point_required"] = member(row, "entry_point_required", is_truth, False)
+    elif kind == "problems":
+        made["ordinal"] = member(row, "ordinal", is_ordinal)
+    elif kind == "teams":
+        ids = member(row, "group_ids", lambda ids: isinstance(ids, list) and all(map(is_id, ids)), [])
+        made["hidden"] = member(row, "hidden", is_truth, False)
+        made["group_ids"] = groups_of(ids, contest)
+    return COLLECTIONS[kind], made
+
+
+def csv_row(kind, fields, contest):
+    """The same of a record of a CSV file."""
+    if len(fields) != 4:
+        raise Fault("Malformed")
+    if kind == "teams-csv":
+        row_id, name = replay_opinion.identifier(fields[0]), replay_opinion.name(fields[1])
+        ids = [replay_opinion.identifier(word) for word in fields[2].split(b" ")] if fields[2] else []
+        hidden = replay_opinion.truth_or_empty(fields[3])
+        return "teams", {"id": row_id, "name": name, "group_ids": groups_of(ids, contest), "hidden": hidden}
+    row_id, role = replay_opinion.identifier(fields[0]), fields[1].decode("utf-8", "replace")
+    team = replay_opinion.identifier(fields[2]) if role == "team" else None
+    is_token = re.fullmatch(rb"[A-Za-z0-9._~+/-]+=*", fields[3]) and 8 <= len(fields[3]) <= 128
+    if row_id == "import" or role not in ("team", "judge", "admin") or (team is None and fields[2]) or not is_token:
+        raise Fault("Malformed")
+    if team is not None and all(one["id"] != team for one in contest["teams"]):
+        raise Fault("UnknownReference")
+    return "accounts", {"id": row_id, "role": role, "team": team, "digest": hashlib.sha256(fields[3]).hexdigest()}
+
+
+def is_new(rows, which, row):
+    """Whether a row is added to those that stand."""
+    for other in rows:
+        if other["id"] == row["id"]:
+            if other != row:
+                raise Fault("KeyReused")
+            return False
+    if any(other[held] == row[held] for held in ("label", "digest") if held in row for other in rows):
+        raise Fault("KeyReused")
+    if len(rows) >= LIMITS[which]:
+        raise Fault("TableFull")
+    return True
+
+
+def records_in(kind, data):
+    """What a file lists, each with the function that makes a row of it."""
+    if kind in HEADERS:
+        records = replay_opinion.records_of(data)
+        if not records or b",".join(records[0]) != HEADERS[kind] or len(records[0]) != 4:
+            raise Refused("Malformed")
+        return records[1:], csv_row
+    try:
+        rows = json.loads(data.decode("utf-8"))
+    except (UnicodeDecodeError, json.JSONDecodeError):
+        raise Refused("Malformed")
+    if not isinstance(rows, list):
+        raise Refused("Malformed")
+    return rows, row_of
+
+
+def imported(contest, now, kind, data):
+    """What is answered to an import, and the contest after it."""
+    after, added = copy.deepcopy(contest), 0
+    try:
+        records, made = records_in(kind, data)
+        for number, record in enumerate(records, 1):
+            try:
+                which, row = made(kind, record, after)
+                if is_new(after[which], which, row):
+                    after[which].append(row)
+                    added += 1
+            except Fault as fault:
+                return f"refused: E22 ImportRow {number} {fault}", contest
+        is_closed = has_come(contest["start"], now) or contest["submissions"]
+        if kind != "accounts-csv" and added and is_closed:
+            raise Refused("SettingsClosed")
+    except Refused as refused:
+        return f"refused: E{NUMBERS[str(refused)]} {refused}", contest
+    return f"added {added}", after

@@ -1,0 +1,101 @@
+"""What a script is asked for, the program that it runs, and what that answers."""
+
+import argparse
+import os
+import pathlib
+import subprocess
+import tempfile
+
+from .tally import Tally
+
+LIB = pathlib.Path(__file__).resolve().parent
+TESTS, ROOT = LIB.parent, LIB.parent.parent
+PIPES = {"stdout": subprocess.PIPE, "stderr": subprocess.PIPE, "timeout": 120}
+
+
+def refused(line):
+    """The answer of a command of the desk that is refused so."""
+    return 1, "", f"refused: {line}\n"
+
+
+DONE, FAULT, FILE = (0, "", ""), refused("E24 StoreFault"), refused("File")
+
+
+def options_of(about, usual):
+    """What a script's words say of its options, of which each is as usual if no word names it: a number, numbers, a folder, a
+    flag, or a program, which the gate builds under its name. A program must be there."""
+    parser = argparse.ArgumentParser(description=about, formatter_class=argparse.RawDescriptionHelpFormatter)
+    programs = [name for name, value in usual.items() if isinstance(value, str)]
+    for name, value in usual.items():
+        how = {"type": type(value), "default": value, "metavar": "N" if isinstance(value, int) else "PATH"}
+        if isinstance(value, bool):
+            how = {"action": "store_true"}
+        elif isinstance(value, list):
+            how = {"type": int, "nargs": "+", "default": value, "metavar": "N"}
+        elif isinstance(value, str):
+            how = {"type": pathlib.Path, "default": ROOT / "crates" / value / "out" / value, "metavar": "PATH"}
+        parser.add_argument("--" + name.replace("_", "-"), **how)
+    options = parser.parse_args()
+    for name in programs:
+        if not vars(options)[name].is_file():
+            parser.error(f"there is no program {vars(options)[name]}: build it, or name one by --{name}")
+    return options
+
+
+def main(about, kind, parts, **usual):
+    """A script: runs its parts over a tally of this kind, which is made of its options and a folder, and ends with what was
+    counted."""
+    options = options_of(about, usual)
+    with tempfile.TemporaryDirectory() as folder:
+        tally = kind(options, pathlib.Path(folder))
+        tally.run_parts(parts)
+    return tally.end()
+
+
+def ran(words, **how):
+    """What a program answers: its status, and the bytes on standard output and standard error."""
+    done = subprocess.run(words, **{**PIPES, **how})
+    return done.returncode, done.stdout or b"", done.stderr
+
+
+def compiled(name, folder):
+    """A library of NAME.c, to be loaded into a program before its own."""
+    library = f"{folder}/{name}.so"
+    subprocess.run(["cc", "-O1", "-shared", "-fPIC", "-o", library, LIB / f"{name}.c", "-ldl"], check=True)
+    return library
+
+
+def ran_refused(words, library, call, later, **how):
+    """What a program answers with this call for memory refused, and if told all later ones too; and how many were. The library
+    is that of refuse_call.c."""
+    reader, writer = os.pipe()
+    env = {**os.environ, "LD_PRELOAD": library, "REFUSE_CALL": str(call), "REFUSE_TELL": str(writer)}
+    if later:
+        env["REFUSE_LATER"] = "1"
+    answer = ran(words, env=env, pass_fds=[writer], **how)
+    os.close(writer)
+    with os.fdopen(reader, "rb") as told:
+        return answer, len(told.read())
+
+
+class Program(Tally):
+    """The program that the options name, and a folder in which cases have folders of their own."""
+
+    def __init__(self, options, folder):
+        super().__init__()
+        self.options, self.path, self.folder, self.made = options, str(options.program.resolve()), folder, 0
+
+    def new_folder(self):
+        with self.lock:
+            self.made += 1
+            folder = self.folder / f"case{self.made}"
+        folder.mkdir()
+        return folder
+
+    def run(self, folder, *words, before=(), **how):
+        """What it answers in a folder, as texts."""
+        status, out, err = ran([*before, self.path, *map(str, words)], cwd=folder, **how)
+        return status, out.decode(), err.decode()
+
+    def answers(self, what, wanted, *words, **how):
+        self.same(what, self.run(*words, **how), wanted)

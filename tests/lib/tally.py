@@ -1,0 +1,31 @@
+"""How many of a script's cases held, and how many didn't."""
+
+import threading
+
+
+class Tally:
+    def __init__(self):
+        self.passed = self.failed = 0
+        self.lock = threading.Lock()
+
+    def note(self, is_right, what):
+        """Counts a case, and tells of one that doesn't hold."""
+        with self.lock:
+            self.passed, self.failed = self.passed + is_right, self.failed + (not is_right)
+        if not is_right:
+            print(f"FAILED: {what}", flush=True)
+
+    def same(self, what, given, wanted):
+        self.note(given == wanted, f"{what}: {given!r}, wanted {wanted!r}")
+
+    def run_parts(self, parts):
+        """Runs the parts of a script, each named try_ and what it tries, and tells of each how much held."""
+        for part in parts:
+            before = self.passed
+            part(self)
+            print(f"{part.__name__.removeprefix('try_').replace('_', ' ')}: {self.passed - before} held", flush=True)
+
+    def end(self):
+        """Prints the last line, and gives the exit status."""
+        print(f"{self.passed} passed, {self.failed} failed")
+        return 1 if self.failed else 0

@@ -1,0 +1,179 @@
+#!/usr/bin/env -S python3 -B
+"""Has the desk answer requests and imports made from a seed, and holds each answer beside a second opinion.
+
+    walks_random.py [--program PATH] [--walks N] [--steps N] [--seed N]
+
+The program is walks, which reads walks with the answers that they must get (crates/walks/stdin begins with how
+they are written). The answers are those of lib/desk_opinion.py. Each walk begins at a desk at which nothing is set up.
+
+Ends with the line `N passed, M failed`; the exit status is 0 if M is 0.
+"""
+
+import base64
+import collections
+import re
+import sys
+
+from lib import desk_opinion, import_opinion, program
+from lib.clarifier import Clarifier
+from lib.demo import AT_REHEARSAL, REHEARSAL, START
+from lib.desk_opinion import moment
+from lib.import_opinion import HEADERS, compact
+from lib.program import Program, ran
+
+SETTINGS = ["judgement-types", "languages", "groups", "problems", "teams"]
+NAMES = ["Alpha", "Beta", "Gamma, the third", 'The "Deltas"', "Łódź", "東京", ""]
+IDS = {"judgement-types": ["AC", "WA", "CE"], "languages": ["cpp", "java"], "groups": ["north", "south"],
+       "problems": ["a", "b", "c"], "teams": ["t1", "t2", "t3", "t9"]}  # fmt: skip
+ACCOUNTS = ["a1", "b1", "a2", "a3", "a9", "j1", "j2", "adm"]
+KEYS = [None, None, "k1", "k2", "k3", "?"]
+FILES = [b"abc", b"", b"abd", bytes(7)]
+
+
+class Asker(Clarifier):
+    """What is asked next, by a seed."""
+
+    def settings_row(self, kind):
+        row = {"id": self.often(self.one(IDS[kind]), ["x", "-x", "", None, 7], 0.95)}
+        row["name"] = self.often(f"Name {row['id']}", NAMES, 0.9)
+        if kind == "judgement-types":
+            row["solved"] = self.often(row["id"] == "AC", [True, "true", None], 0.97)
+            row["penalty"] = self.often(row["id"] == "WA", [True, None], 0.9)
+        elif kind == "languages":
+            row["entry_point_required"] = self.often(row["id"] == "java", [None, 1, True], 0.95)
+        elif kind == "problems":
+            row["label"] = self.often(str(row["id"]).upper(), ["A", "B", "", None], 0.9)
+            row["ordinal"] = self.often(len(str(row["id"])), [0, 65535, 65536, 1.5, None, "1"], 0.9)
+        elif kind == "teams":
+            row["hidden"] = self.often(row["id"] == "t9", [True, False, None, "false"], 0.95)
+            row["group_ids"] = self.often([], [["north"], ["north", "south"], ["south", "south"], ["east"], None, ["-"]], 0.7)
+        return {name: value for name, value in row.items() if self.random.random() < 0.98}
+
+    def quoted(self, field):
+        """A field of a CSV file, with quotation marks if it needs them, and sometimes if it doesn't."""
+        return '"' + field.replace('"', '""') + '"' if re.search('[",]', field) or self.random.random() < 0.05 else field
+
+    def teams_record(self):
+        row = self.settings_row("teams")
+        groups = row.get("group_ids") or []
+        fields = [str(row.get("id", "")), row.get("name", ""), self.often(" ", ["  ", ","], 0.98).join(groups)]
+        return fields + [self.often({True: "true", False: ""}.get(row.get("hidden"), "false"), ["TRUE", "no", "false"], 0.97)]
+
+    def accounts_record(self):
+        account = self.often(self.one(ACCOUNTS), ["j2", "-", "import"], 0.97)
+        role = {"a": "team", "b": "team", "j": "judge", "i": "judge"}.get(account[:1], "judge") if account != "adm" else "admin"
+        team = "t" + account[1:] if role == "team" else ""
+        token = self.often(f"token-{account}", ["token-j1", "short", "token j1", "token-x==", "=token-x"], 0.95)
+        return [account, self.often(role, ["Team", "judge", ""], 0.97), self.often(team, ["t1", "t7", ""], 0.96), token]
+
+    def file(self, kind):
+        """A file of some kind, mostly one that is taken."""
+        if kind in SETTINGS:
+            text = compact([self.settings_row(kind) for _ in range(self.random.randint(0, 3))])
+            return self.often(text, ["{}", "", text[:-1], "[7]"], 0.96) + "\n"
+        made = self.teams_record if kind == "teams-csv" else self.accounts_record
+        rows = [made() for _ in range(self.random.randint(0, 4))]
+        lines = [",".join(map(self.quoted, row[: self.often(4, [3], 0.98)])) for row in rows]
+        header = self.often(HEADERS[kind].decode(), ["id,name", ""], 0.97)
+        return "\n".join([header, *lines]) + "\n"
+
+    def post(self):
+        problem, language = self.often(self.one("abc"), ["x", "-x", None], 0.9), self.often("cpp", ["java", "java", "c", None], 0.7)
+        body = {"problem_id": problem, "language_id": language}
+        body["files"] = [{"data": self.often(base64.b64encode(self.one(FILES)).decode(), ["YWJ", "YWJj=", 3, "é"], 0.95)}]
+        body["entry_point"] = self.often(None, ["", "Main", "x" * 201], 0.4 if language == "java" else 0.95)
+        body["team_id"] = self.often(None, ["t1", "t2", 1], 0.9)
+        body = {name: value for name, value in body.items() if value is not None or self.random.random() < 0.5}
+        return self.often(compact(body), ["", "{", "[]", '{"files":[]}'], 0.97)
+
+    def proposal(self):
+        which = f"s{self.random.randint(1, 3)}-{self.random.randint(1, 4)}"
+        body = {"submission_id": self.often(which, ["s1", "s1-01", 3], 0.95), "judgement_type_id": self.often("AC", ["WA", "CE", "TLE", None], 0.5)}
+        return self.often(compact(body), ["", "7"], 0.97)
+
+    def request(self):
+        """A method, a path and a body."""
+        if self.random.random() < 0.5:
+            return "POST", self.often(f"{AT_REHEARSAL}/submissions", ["/contests/cup/submissions"], 0.98), self.post()
+        if self.random.random() < 0.4:
+            path = self.often("/jury/proposals", ["/jury/verifications"], 0.6)
+            return self.often("POST", ["GET", "HEAD", "PATCH"], 0.9), path, self.proposal()
+        if self.random.random() < 0.4:
+            path = self.often(f"{AT_REHEARSAL}/scoreboard", [f"{AT_REHEARSAL}/judgements"], 0.5)
+            ids = [f"/s{team}-{number}.{n}" for team in (1, 2, 3) for number in (1, 2) for n in (1, 1, 2)]
+            path += self.often("", ids, 0.6) if path.endswith("judgements") else self.often("", ["/", "/x"], 0.95)
+            return self.often("GET", ["HEAD", "POST"], 0.95), path, ""
+        if self.random.random() < 0.4:
+            which = f"s{self.often(1, [2, 3, 4])}-{self.often('1', ['2', '3', '01'], 0.6)}"
+            path = self.often(f"{AT_REHEARSAL}/submissions/{which}/files", ["/contests", AT_REHEARSAL, f"{AT_REHEARSAL}/state"], 0.5)
+            path = self.often(path, ["/contests/cup", "/contests/", f"{AT_REHEARSAL}/states", f"{AT_REHEARSAL}/submissions//files"], 0.95)
+            return self.often("GET", ["HEAD", "POST", "PATCH", "PUT"], 0.9), path, ""
+        name = self.often("submissions", SETTINGS, 0.7)
+        ids = IDS.get(name, ["s1-1", "s1-2", "s2-1", "s3-1", "s1-01"])
+        path = f"{AT_REHEARSAL}/{name}" + self.often("", [f"/{self.one(ids)}", "/x", "/"], 0.6)
+        return self.often("GET", ["HEAD", "POST", "PATCH", "PUT"], 0.85), path, ""
+
+
+def next_request(chance, contest):
+    """Who asks, a key, a method, a path and a body."""
+    if chance.random.random() < 0.4:
+        return chance.about_clarifications(contest, ACCOUNTS)
+    who = chance.often(f"token-{chance.one(ACCOUNTS)}", ["public", "bad token", "token-none"], 0.85)
+    method, path, body = chance.request()
+    return who, chance.one(KEYS) if method == "POST" and path.endswith("submissions") else None, method, path, body
+
+
+def item(chance, contest, now):
+    """An item of a walk at a moment: its lines, its answer, and the contest after it."""
+    head = f"at {moment(now).replace('+00:00', 'Z')}"
+    if chance.random.random() < (0.8 if now < START else 0.1):
+        kind = chance.one(SETTINGS + ["teams-csv", "accounts-csv", "accounts-csv"])
+        file = chance.file(kind)
+        answer, after = import_opinion.imported(contest, now, kind, file.encode())
+        return f"{head} import\n{kind} {file[:-1].replace(chr(10), ' | ')}\n", answer, after
+    who, key, method, path, body = next_request(chance, contest)
+    answer, after = desk_opinion.handled(contest, now, who, key, method, path, body)
+    return f"{head} {who}{f' key {key}' if key else ''}\n{method} {path} {body}\n", answer, after
+
+
+def walk(number, seed, steps):
+    """A walk with the answers that it must get, and how often each kind of answer came."""
+    chance, kinds = Asker(seed), collections.Counter()
+    text, now = f"\n== Walk {number}\n", START - 4_000_000
+    start, head = chance.often(START, [None], 0.9), {**REHEARSAL, "verification": chance.one([False, True])}
+    marks = [chance.often(None, [START + chance.random.randint(-2_000_000, 26_000_000)], part) for part in (0.5, 0.8)]
+    contest = desk_opinion.new_contest(head, start, *marks)
+    for words, mark in zip(("thawed from", "final from"), marks):
+        text += f"{words}: {moment(mark).replace('+00:00', 'Z')}\n" if mark is not None else ""
+    text += "verdicts are verified\n" if head["verification"] else ""
+    text += ("" if start else "no start is set\n") + "nothing is set up\n"
+    for step in range(steps):
+        lines, answers = "", ""
+        for _ in range(chance.random.randint(1, 3)):
+            now = max(START - 4_000_000, now + chance.random.randint(-100_000, 30_000_000 // steps))
+            asked, answer, contest = item(chance, contest, now)
+            lines, answers = lines + asked, answers + answer + "\n"
+            kinds[re.sub(r"E22 ImportRow \d+|added [1-9]\d*|\{.*|\[.*", lambda found: found[0].rstrip("0123456789")[:12], answer)[:40]] += 1
+        text += f"\n-- {step + 1}\n{lines}{answers}"
+    return text, kinds
+
+
+def try_walks(test):
+    walks, steps, seed = (getattr(test.options, name) for name in ("walks", "steps", "seed"))
+    text, kinds = "Walks made from a seed.\n", collections.Counter()
+    for number in range(walks):
+        made, counted = walk(number, f"{seed}/{number}", steps)
+        text, kinds = text + made, kinds + counted
+    status, out, err = ran([test.path], input=text.encode(), timeout=600)
+    print(err.decode(), end="")
+    met = re.findall(r"(?m)^Walk \d+: (\d+) of (\d+), .*, faults of the store: 0$", out.decode())
+    test.passed = sum(int(one) for one, _ in met)
+    test.failed = walks * steps - test.passed
+    if test.failed or status:
+        print(out.decode()[:6000])
+        test.failed = max(test.failed, 1)
+    print(f"{sum(kinds.values())} answers of {len(kinds)} kinds", flush=True)
+
+
+if __name__ == "__main__":
+    sys.exit(program.main(__doc__, Program, [try_walks], program="walks", walks=20, steps=200, seed=18))
