@@ -1,9 +1,10 @@
-//! The ids of submissions, read without memory.
+//! The ids of submissions and rejudgings, read without memory.
 ghost use Rattle.std.specs.Prelude.{◌≡◌, ◌<◌, ◌+◌, ◌^◌, ◌++◌, ℕ, Some, IfSome, codes};
 ghost use Rattle.std.specs.Fmt.{decimal};
 ghost use Rattle.contest_types.specs.VisibleIds.{submission_id};
 
 use crate::visible_ids::has_submission_id;
+use itoa::Buffer;
 
 /// The place of a team, from 0, and the number, from 1, that the id of a submission names: what
 /// `submission_id` makes is read, and nothing else. It takes no memory.
@@ -28,6 +29,20 @@ fn dashed_numbers(text: &str) -> Option<(usize, usize)>
 {
     let (first, second) = text.split_once('-')?;
     Some((number_in(first)?, number_in(second)?))
+}
+
+/// The number that the id of a rejudging is, in decimal digits without leading zeros. It takes no memory.
+pub fn rejudging_number(id: &[u8]) -> Option<usize>
+    ensures named { IfSome result (λ number. decimal number ≡ id.now) }
+    ensures whole { (number : ℕ) → number < 2 ^ 64 → decimal number ≡ id.now → result ≡ Some number }
+{
+    let number = number_in(std::str::from_utf8(id).ok()?)?;
+    let mut digits = Buffer::new();
+    if digits.format(number).as_bytes() == id {
+        Some(number)
+    } else {
+        None
+    }
 }
 
 fn number_in(text: &str) -> Option<usize>

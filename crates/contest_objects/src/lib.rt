@@ -18,7 +18,7 @@ mod visible_ids;
 pub use clarification_object::clarification_value;
 pub use collection::{Collection, Ordered, get, list};
 pub use contest_objects::{ContestEndpoint, whole_value};
-pub use id_numbers::submission_numbers;
+pub use id_numbers::{rejudging_number, submission_numbers};
 pub use judgement_object::judgement_value;
 pub use members::{Member, contest_time_value, moment_value, object_of, put_all};
 pub use proposal_object::proposal_value;

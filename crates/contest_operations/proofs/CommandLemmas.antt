@@ -16,15 +16,18 @@ use Rattle.contest_operations.specs.Callers.{Caller, judge_of, team_of}
 use Rattle.contest_operations.specs.Commands.{IsSoundPost, are_in_one_scope, ask_for_the_same, key_of, post_done, post_outcome, posted_as, posted_by, reaches_key}
 use Rattle.contest_operations.specs.Growing.{Grows}
 use Rattle.contest_operations.specs.Outcomes.{refusing, replying}
+use Rattle.contest_operations.specs.Paths.{jury_piece}
 use Rattle.contest_postings.specs.PostProposal.{proposal_object}
 use Rattle.contest_operations.specs.PostedSubmissions.{submission_outcome}
 use Rattle.contest_postings.specs.PostVerification.{release_entries, release_object}
+use Rattle.contest_postings.specs.PostRejudgings.{change_entries, change_object, changed, opened, opened_entries, opened_object}
+use Rattle.contest_postings.specs.declared.rejudging.RejudgingStep.TheVariants.{Judge, Apply, Cancel}
 use Rattle.contest_operations.specs.Laws.{PostsAlike}
 use Rattle.contest_operations.specs.Replies.{IsOrdinary}
 use Rattle.contest_operations.specs.declared.command.Command.{Command}
-use Rattle.contest_operations.specs.declared.command.Command.TheVariants.{Submit, Clarify, Propose, Verify}
+use Rattle.contest_operations.specs.declared.command.Command.TheVariants.{Submit, Clarify, Propose, Verify, OpenRejudging, JudgeRejudging, ApplyRejudging, CancelRejudging}
 use Rattle.contest_operations.specs.declared.command.Posted.{Posted}
-use Rattle.contest_operations.specs.declared.command.Posted.TheVariants.{Submission, Clarification, Proposal, Verification}
+use Rattle.contest_operations.specs.declared.command.Posted.TheVariants.{Submission, Clarification, Proposal, Verification, Opening, Rejudging}
 use Rattle.contest_requests.specs.declared.request.Method.TheVariants.{Get, Head}
 use Rattle.contest_requests.specs.declared.request.Request.{Request}
 use Rattle.contest_operations.specs.PostedClarifications.{clarification_outcome}
@@ -33,21 +36,30 @@ use Rattle.contest_operations.proofs.RepeatedClarifications.{clarification_repea
 use Rattle.contest_operations.proofs.SaidAlike.{said_posts_alike}
 use Rattle.contest_operations.proofs.DoneLemmas.{done_addable, told_ordinary, told_quiet}
 use Rattle.contest_operations.proofs.PostedFacts.{IfKnownPost, IsQuiet, IsThere, OrdinaryRefusal}
+use Rattle.contest_operations.proofs.RejudgingFacts.{changed_addable, opened_addable, opening_known, opening_refusal_ordinary}
 use Rattle.contest_operations.proofs.RepeatedSubmissions.{submission_repeats}
-use Rattle.contest_operations.proofs.VerdictFacts.{proposal_known, verdict_refusal_ordinary, verdict_unmoved, verification_known}
+use Rattle.contest_operations.proofs.VerdictFacts.{judge_known, judge_refusal_ordinary, verdict_known, verdict_refusal_ordinary}
 use Rattle.contest_operations.proofs.SubmitLaws.{submission_known, submission_refusal_ordinary, submission_addable, submissions_alike, submission_unmoved}
 
 pub post_known : (f : FixedPart) (who : Caller) (command : Command) (request : Request) → IsThere f who → IfKnownPost f who (posted_by f who command request)
 post_known f who Submit request there = submission_known f who (team_of who) request refl there.team
 post_known f who Clarify request there = clarification_known f who request there
-post_known f who Propose request there = proposal_known f who (judge_of who) request refl there.judge
-post_known f who Verify request there = verification_known f who (judge_of who) request refl there.judge
+post_known f who Propose request there = verdict_known f who Proposal (λ v h. h) (λ v. refl) (judge_of who) request.body refl there.judge
+post_known f who Verify request there = verdict_known f who Verification (λ v h. h) (λ v. refl) (judge_of who) request.body refl there.judge
+post_known f who OpenRejudging request there = opening_known f who (judge_of who) request.body refl
+post_known f who JudgeRejudging request there = verdict_known f who (λ v. Rejudging request.path (Judge v)) (λ v h. h) (λ v. refl) (judge_of who) request.body refl there.judge
+post_known f who ApplyRejudging request there = judge_known f who (Rejudging request.path Apply) tt refl (judge_of who) refl
+post_known f who CancelRejudging request there = judge_known f who (Rejudging request.path Cancel) tt refl (judge_of who) refl
 
 pub post_refusal_ordinary : (f : FixedPart) (who : Caller) (command : Command) (request : Request) → OrdinaryRefusal (posted_by f who command request)
 post_refusal_ordinary f who Submit request = submission_refusal_ordinary f (team_of who) request
 post_refusal_ordinary f who Clarify request = clarification_refusal_ordinary f who request
-post_refusal_ordinary f who Propose request = verdict_refusal_ordinary Proposal (judge_of who) request
-post_refusal_ordinary f who Verify request = verdict_refusal_ordinary Verification (judge_of who) request
+post_refusal_ordinary f who Propose request = verdict_refusal_ordinary Proposal (judge_of who) request.body
+post_refusal_ordinary f who Verify request = verdict_refusal_ordinary Verification (judge_of who) request.body
+post_refusal_ordinary f who OpenRejudging request = opening_refusal_ordinary (judge_of who) request.body
+post_refusal_ordinary f who JudgeRejudging request = verdict_refusal_ordinary (λ v. Rejudging request.path (Judge v)) (judge_of who) request.body
+post_refusal_ordinary f who ApplyRejudging request = judge_refusal_ordinary (Rejudging request.path Apply) (judge_of who)
+post_refusal_ordinary f who CancelRejudging request = judge_refusal_ordinary (Rejudging request.path Cancel) (judge_of who)
 
 pub post_ordinary : (now : ℕ) (posted : Posted) (x : ContestState) → IsOrdinary (post_outcome now posted x).reply
 post_ordinary now posted x = told_ordinary (post_done now posted x)
@@ -60,6 +72,8 @@ post_addable now (Submission team w) x valid sound = submission_addable now team
 post_addable now (Clarification c) x valid sound = clarification_addable now c x sound
 post_addable now (Proposal v) x valid sound = done_addable x (proposal_object x.fixed) entries_of (propose x.fixed x.submissions x.proposals x.releases now v.account v.wanted) (λ d is. proposed_is_addable x now v.account v.wanted d sound is)
 post_addable now (Verification v) x valid sound = done_addable x (release_object x.fixed) release_entries (verify x.fixed x.submissions x.proposals x.releases now v.account v.wanted) (λ r is. both_true _ _ (verified_is_addable x now v.account v.wanted r is) refl)
+post_addable now (Opening w) x valid sound = done_addable x (opened_object x.fixed) opened_entries (opened w x) (λ o is. opened_addable x w o valid sound is)
+post_addable now (Rejudging path step) x valid sound = done_addable x (change_object x.fixed) change_entries (changed now (jury_piece path) step x) (λ c is. changed_addable now (jury_piece path) step x c valid sound is)
 
 -- a post under a key that is answered as done is repeated by whoever asks for the same, and by no other
 pub post_repeats : (x y : ContestState) (now later : ℕ) (first : Posted) → IsSoundPost x.fixed first → is_some (key_of first) ≡ true
@@ -78,6 +92,8 @@ post_repeats x y now later (Submission team v) sound some done grows =
       | (Clarification d) ↦ λ same scope reaches. absurd (cc scope)
       | (Proposal u) ↦ λ same scope reaches. absurd (cc scope)
       | (Verification u) ↦ λ same scope reaches. absurd (cc scope)
+      | (Opening u) ↦ λ same scope reaches. absurd (cc scope)
+      | (Rejudging path step) ↦ λ same scope reaches. absurd (cc scope)
     ] in
     (r.0, on)
 post_repeats x y now later (Clarification c) sound some done grows =
@@ -89,19 +105,29 @@ post_repeats x y now later (Clarification c) sound some done grows =
       | (Clarification d) ↦ λ same scope reaches. r.1 d same scope reaches
       | (Proposal u) ↦ λ same scope reaches. absurd (cc scope)
       | (Verification u) ↦ λ same scope reaches. absurd (cc scope)
+      | (Opening u) ↦ λ same scope reaches. absurd (cc scope)
+      | (Rejudging path step) ↦ λ same scope reaches. absurd (cc scope)
     ] in
     (r.0, on)
 post_repeats x y now later (Proposal v) sound some done grows = absurd (cc some)
 post_repeats x y now later (Verification v) sound some done grows = absurd (cc some)
+post_repeats x y now later (Opening w) sound some done grows = absurd (cc some)
+post_repeats x y now later (Rejudging path step) sound some done grows = absurd (cc some)
 
 pub posts_alike : PostsAlike
 posts_alike now (Submission team w) x y other valid_x valid_y sound h = submissions_alike now team w x y valid_x valid_y sound h
 posts_alike now (Clarification c) x y other valid_x valid_y sound h = said_posts_alike now c x y other valid_x valid_y h
 posts_alike now (Proposal v) x y other valid_x valid_y sound h = absurd (other refl)
 posts_alike now (Verification v) x y other valid_x valid_y sound h = absurd (other refl)
+posts_alike now (Opening w) x y other valid_x valid_y sound h = absurd (other refl)
+posts_alike now (Rejudging path step) x y other valid_x valid_y sound h = absurd (other refl)
 
 pub post_unmoved : (f : FixedPart) (who : Caller) (command : Command) (request : Request) → posted_by f who command (record request { method = Head }) ≡ posted_by f who command (record request { method = Get })
 post_unmoved f who Submit request = submission_unmoved f (team_of who) request
 post_unmoved f who Clarify request = ap (posted_as Clarification) (clarification_unmoved f who request)
-post_unmoved f who Propose request = ap (posted_as Proposal) (verdict_unmoved (judge_of who) request)
-post_unmoved f who Verify request = ap (posted_as Verification) (verdict_unmoved (judge_of who) request)
+post_unmoved f who Propose request = refl
+post_unmoved f who Verify request = refl
+post_unmoved f who OpenRejudging request = refl
+post_unmoved f who JudgeRejudging request = refl
+post_unmoved f who ApplyRejudging request = refl
+post_unmoved f who CancelRejudging request = refl

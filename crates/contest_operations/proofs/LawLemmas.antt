@@ -12,17 +12,19 @@ use Rattle.contest_objects.specs.SettingsObjects.{settings_data, setting_found}
 use Rattle.contest_view.proofs.BoardLaws.{scoreboard_alike}
 use Rattle.contest_view.proofs.JudgementLaws.{judgements_alike, proposals_alike}
 use Rattle.contest_view.proofs.FileReadLemmas.{files_alike}
+use Rattle.contest_view.proofs.RejudgingLaws.{only_the_jury}
 use Rattle.contest_view.proofs.ReadLaws.{alike_read, clarifications_alike}
 use Rattle.contest_operations.specs.Callers.{Caller, caller_of, audience_of}
 use Rattle.contest_operations.specs.Laws.{StayAlike, ReadsAlike, StepAlike, StepsKeepValid}
 use Rattle.contest_operations.specs.Outcomes.{replying}
-use Rattle.contest_operations.specs.Paths.{object_piece}
+use Rattle.contest_operations.specs.Paths.{jury_piece, object_piece}
 use Rattle.contest_operations.specs.Commands.{post_outcome}
 use Rattle.contest_operations.specs.Readings.{file_told, read, told}
 use Rattle.contest_operations.specs.Step.{wish_or_reply, outcome_of, outcome}
 use Rattle.contest_operations.specs.Wishes.{wish_outcome, IsSound}
 use Rattle.contest_operations.specs.declared.operation.Endpoint.TheVariants.{Settings, Submissions, Judgements, Clarifications}
-use Rattle.contest_operations.specs.declared.operation.Reading.TheVariants.{Whole, List as AllOf, Object, File, Scoreboard, Proposals}
+use Rattle.contest_operations.specs.declared.operation.JuryReading.TheVariants.{Proposals, Rejudgings, Rejudging}
+use Rattle.contest_operations.specs.declared.operation.Reading.TheVariants.{Whole, List as AllOf, Object, File, Scoreboard, Jury as ForJury}
 use Rattle.contest_operations.specs.declared.reply.Reply.{Reply}
 use Rattle.contest_requests.specs.declared.request.Credential.{Credential}
 use Rattle.contest_requests.specs.declared.request.Request.{Request}
@@ -43,7 +45,9 @@ reads_alike a now x y (Object Judgements) path held h = ap told ((judgements_ali
 reads_alike a now x y (Object Clarifications) path held h = ap told ((clarifications_alike a x y h).1 (object_piece path))
 reads_alike a now x y File path held h = ap file_told (files_alike a now x y (object_piece path) held h)
 reads_alike a now x y Scoreboard path held h = ap (λ d. told (Some d)) (scoreboard_alike a now x y held h)
-reads_alike a now x y Proposals path held h = ap (λ d. told (Some d)) (proposals_alike a now x y held h)
+reads_alike a now x y (ForJury Proposals) path held h = ap (λ d. told (Some d)) (proposals_alike a now x y held h)
+reads_alike a now x y (ForJury Rejudgings) path held h = ap (λ d. told (Some d)) ((only_the_jury a x held.no_jury).0 ∙ sym (only_the_jury a y held.no_jury).0)
+reads_alike a now x y (ForJury Rejudging) path held h = ap told ((only_the_jury a x held.no_jury).1 (jury_piece path) ∙ sym ((only_the_jury a y held.no_jury).1 (jury_piece path)))
 
 come_alike : (a : Audience) (now : ℕ) (wish : Wish) (x y : ContestState) → is_valid x ≡ true → is_valid y ≡ true → IsSound x.fixed wish → speaker wish ≡ a → MayBeHeld a now x → Alike a x y
     → StayAlike a x y (wish_outcome now wish x) (wish_outcome now wish y)

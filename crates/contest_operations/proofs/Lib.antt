@@ -8,6 +8,7 @@ pub mod GrowLemmas
 pub mod CallerLemmas
 pub mod PostedFacts
 pub mod VerdictFacts
+pub mod RejudgingFacts
 pub mod DoneLemmas
 pub mod SubmitLaws
 pub mod Fronts

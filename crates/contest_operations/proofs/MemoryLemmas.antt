@@ -4,16 +4,17 @@ use Rattle.std.specs.Prelude.{is_some, if◌then◌else◌}
 use Rattle.contest_types.specs.State.{FixedPart}
 use Rattle.contest_types.specs.declared.refusal.Refusal.TheVariants.{RoleForbids}
 use Rattle.contest_operations.specs.Callers.{Caller, audience_of, caller_of, judge_of, team_of}
-use Rattle.contest_operations.specs.Commands.{post_takes_memory, posted_as, posted_by}
+use Rattle.contest_operations.specs.Commands.{if_judge, post_takes_memory, posted_as, posted_by}
 use Rattle.contest_requests.specs.JuryVerdicts.{posted_verdict}
+use Rattle.contest_requests.specs.RejudgingBodies.{posted_rejudging}
 use Rattle.contest_operations.specs.PostedClarifications.{posted_clarification}
 use Rattle.contest_operations.specs.PostedSubmissions.{posted_submission}
 use Rattle.contest_operations.specs.Step.{asked, may_take_memory, or_refused, takes_memory_by, wish_or_reply, wish_or_reply_by}
 use Rattle.contest_operations.specs.Wishes.{may_read, wish_to_do}
 use Rattle.contest_operations.specs.declared.command.Command.{Command}
-use Rattle.contest_operations.specs.declared.command.Command.TheVariants.{Submit, Clarify, Propose, Verify}
+use Rattle.contest_operations.specs.declared.command.Command.TheVariants.{Submit, Clarify, Propose, Verify, OpenRejudging, JudgeRejudging, ApplyRejudging, CancelRejudging}
 use Rattle.contest_operations.specs.declared.command.Posted.{Posted}
-use Rattle.contest_operations.specs.declared.command.Posted.TheVariants.{Clarification}
+use Rattle.contest_operations.specs.declared.command.Posted.TheVariants.{Clarification, Opening}
 use Rattle.contest_requests.specs.declared.jury_verdict.JuryVerdict.{JuryVerdict}
 use Rattle.contest_operations.specs.declared.operation.Operation.{Operation}
 use Rattle.contest_operations.specs.declared.operation.Operation.TheVariants.{Read as ToRead, Do as ToDo}
@@ -27,9 +28,17 @@ submission_takes : (f : FixedPart) (request : Request) (wish : Wish) (team : Opt
 submission_takes f request wish None h = absurd (cc h)
 submission_takes f request wish (Some team) h = refl
 
-verdict_takes : (make : JuryVerdict → Posted) (request : Request) (wish : Wish) (judge : Option (List ℕ)) → or_refused (wish_to_do (posted_as make (posted_verdict judge request))) ≡ Ok wish → is_some judge ≡ true
-verdict_takes make request wish None h = absurd (cc h)
-verdict_takes make request wish (Some account) h = refl
+verdict_takes : (make : JuryVerdict → Posted) (body : List ℕ) (wish : Wish) (judge : Option (List ℕ)) → or_refused (wish_to_do (posted_as make (posted_verdict judge body))) ≡ Ok wish → is_some judge ≡ true
+verdict_takes make body wish None h = absurd (cc h)
+verdict_takes make body wish (Some account) h = refl
+
+opening_takes : (body : List ℕ) (wish : Wish) (judge : Option (List ℕ)) → or_refused (wish_to_do (posted_as Opening (posted_rejudging judge body))) ≡ Ok wish → is_some judge ≡ true
+opening_takes body wish None h = absurd (cc h)
+opening_takes body wish (Some account) h = refl
+
+judge_takes : (posted : Posted) (wish : Wish) (judge : Option (List ℕ)) → or_refused (wish_to_do (if_judge judge posted)) ≡ Ok wish → is_some judge ≡ true
+judge_takes posted wish None h = absurd (cc h)
+judge_takes posted wish (Some account) h = refl
 
 clarification_takes : (f : FixedPart) (request : Request) (wish : Wish) (who : Caller) → or_refused (wish_to_do (posted_as Clarification (posted_clarification f who request))) ≡ Ok wish → is_some who ≡ true
 clarification_takes f request wish None h = absurd (cc h)
@@ -39,8 +48,12 @@ clarification_takes f request wish (Some account) h = refl
 post_takes : (f : FixedPart) (who : Caller) (command : Command) (request : Request) (wish : Wish) → or_refused (wish_to_do (posted_by f who command request)) ≡ Ok wish → post_takes_memory who command ≡ true
 post_takes f who Submit request wish h = submission_takes f request wish (team_of who) h
 post_takes f who Clarify request wish h = clarification_takes f request wish who h
-post_takes f who Propose request wish h = verdict_takes _ request wish (judge_of who) h
-post_takes f who Verify request wish h = verdict_takes _ request wish (judge_of who) h
+post_takes f who Propose request wish h = verdict_takes _ request.body wish (judge_of who) h
+post_takes f who Verify request wish h = verdict_takes _ request.body wish (judge_of who) h
+post_takes f who OpenRejudging request wish h = opening_takes request.body wish (judge_of who) h
+post_takes f who JudgeRejudging request wish h = verdict_takes _ request.body wish (judge_of who) h
+post_takes f who ApplyRejudging request wish h = judge_takes _ wish (judge_of who) h
+post_takes f who CancelRejudging request wish h = judge_takes _ wish (judge_of who) h
 
 read_takes : (r wish : Wish) (b : Bool) → or_refused (if b then Ok r else Err RoleForbids) ≡ Ok wish → b ≡ true
 read_takes r wish true h = refl

@@ -1,11 +1,12 @@
 -- The commands: who may give each, what its body says, and what becomes of it (own). One line of each
 -- definition is a command's.
-use Rattle.std.specs.Prelude.{ℕ, Bool, false, ◌==◌, List, Option, None, Result, Ok, Err, is_some}
+use Rattle.std.specs.Prelude.{ℕ, Bool, false, ◌==◌, List, Option, Some, None, Result, Ok, Err, is_some}
 use Rattle.contest_types.specs.Masks.{audience_at}
 use Rattle.contest_types.specs.State.{FixedPart, ContestState}
 use Rattle.contest_types.specs.declared.audience.Audience.{Audience}
 use Rattle.contest_types.specs.declared.audience.Audience.TheVariants.{Jury}
 use Rattle.contest_types.specs.declared.refusal.Refusal.{Refusal}
+use Rattle.contest_types.specs.declared.refusal.Refusal.TheVariants.{RoleForbids}
 use Rattle.contest_types.specs.ValidClarifications.{same_scope}
 use Rattle.contest_rules.specs.Clarifying.{audience_of, named_clarification, scope_for, want_the_same}
 use Rattle.contest_rules.specs.Laws.{IsWriter}
@@ -14,17 +15,21 @@ use Rattle.contest_rules.specs.declared.rule_refusal.RuleRefusal.{RuleRefusal}
 use Rattle.contest_operations.specs.Callers.{Caller, judge_of, team_of}
 use Rattle.contest_postings.specs.DoneThings.{Done}
 use Rattle.contest_operations.specs.Outcomes.{Outcome, told}
+use Rattle.contest_operations.specs.Paths.{jury_piece}
 use Rattle.contest_requests.specs.JuryVerdicts.{IsSoundVerdict, posted_verdict}
+use Rattle.contest_requests.specs.RejudgingBodies.{IsSoundRejudging, posted_rejudging}
 use Rattle.contest_operations.specs.PostedClarifications.{posted_clarification}
 use Rattle.contest_postings.specs.PostClarification.{clarification_done}
 use Rattle.contest_postings.specs.PostProposal.{proposal_done}
+use Rattle.contest_postings.specs.PostRejudgings.{IsSoundStep, opening_done, rejudging_done}
+use Rattle.contest_postings.specs.declared.rejudging.RejudgingStep.TheVariants.{Judge, Apply, Cancel}
 use Rattle.contest_operations.specs.PostedSubmissions.{IsSoundSubmission, posted_submission}
 use Rattle.contest_postings.specs.PostSubmission.{submission_done}
 use Rattle.contest_postings.specs.PostVerification.{verification_done}
 use Rattle.contest_operations.specs.declared.command.Command.{Command}
-use Rattle.contest_operations.specs.declared.command.Command.TheVariants.{Submit, Clarify, Propose, Verify}
+use Rattle.contest_operations.specs.declared.command.Command.TheVariants.{Submit, Clarify, Propose, Verify, OpenRejudging, JudgeRejudging, ApplyRejudging, CancelRejudging}
 use Rattle.contest_operations.specs.declared.command.Posted.{Posted}
-use Rattle.contest_operations.specs.declared.command.Posted.TheVariants.{Submission, Clarification, Proposal, Verification}
+use Rattle.contest_operations.specs.declared.command.Posted.TheVariants.{Submission, Clarification, Proposal, Verification, Opening, Rejudging}
 use Rattle.contest_requests.specs.declared.request.Request.{Request}
 use Rattle.contest_postings.specs.OwnSubmissions.{keyed_row}
 
@@ -32,12 +37,21 @@ abbrev pub posted_as : {A : Type 0} → (A → Posted) → Result A Refusal → 
 posted_as make (Err refusal) = Err refusal
 posted_as make (Ok a) = Ok (make a)
 
+-- what only the jury posts
+abbrev pub if_judge : (judge : Option (List ℕ)) → Posted → Result Posted Refusal
+if_judge None posted = Err RoleForbids
+if_judge (Some account) posted = Ok posted
+
 -- what a caller posts by a command: its role first, then its body
 abbrev pub posted_by : FixedPart → Caller → Command → Request → Result Posted Refusal
 posted_by f who Submit request = posted_submission f (team_of who) request
 posted_by f who Clarify request = posted_as Clarification (posted_clarification f who request)
-posted_by f who Propose request = posted_as Proposal (posted_verdict (judge_of who) request)
-posted_by f who Verify request = posted_as Verification (posted_verdict (judge_of who) request)
+posted_by f who Propose request = posted_as Proposal (posted_verdict (judge_of who) request.body)
+posted_by f who Verify request = posted_as Verification (posted_verdict (judge_of who) request.body)
+posted_by f who OpenRejudging request = posted_as Opening (posted_rejudging (judge_of who) request.body)
+posted_by f who JudgeRejudging request = posted_as (λ v. Rejudging request.path (Judge v)) (posted_verdict (judge_of who) request.body)
+posted_by f who ApplyRejudging request = if_judge (judge_of who) (Rejudging request.path Apply)
+posted_by f who CancelRejudging request = if_judge (judge_of who) (Rejudging request.path Cancel)
 
 -- what is known of it once it is read
 abbrev pub IsSoundPost : FixedPart → Posted → Type 0
@@ -45,6 +59,8 @@ IsSoundPost f (Submission team wanted) = IsSoundSubmission f team wanted
 IsSoundPost f (Clarification c) = IsWriter f c.sender c.account
 IsSoundPost f (Proposal v) = IsSoundVerdict f v
 IsSoundPost f (Verification v) = IsSoundVerdict f v
+IsSoundPost f (Opening w) = IsSoundRejudging w
+IsSoundPost f (Rejudging path step) = IsSoundStep f step
 
 -- who posts it
 abbrev pub poster : Posted → Audience
@@ -52,6 +68,8 @@ poster (Submission team wanted) = audience_at team
 poster (Clarification c) = audience_of c.sender
 poster (Proposal v) = Jury
 poster (Verification v) = Jury
+poster (Opening w) = Jury
+poster (Rejudging path step) = Jury
 
 -- what is done at a moment, or why not
 abbrev pub post_done : (now : ℕ) → Posted → ContestState → Result Done RuleRefusal
@@ -59,6 +77,8 @@ post_done now (Submission team wanted) x = submission_done now team wanted x
 post_done now (Clarification c) x = clarification_done now c.sender c.account c.wanted x
 post_done now (Proposal v) x = proposal_done now v x
 post_done now (Verification v) x = verification_done now v x
+post_done now (Opening w) x = opening_done w x
+post_done now (Rejudging path step) x = rejudging_done now (jury_piece path) step x
 
 -- what becomes of it
 abbrev pub post_outcome : (now : ℕ) → Posted → ContestState → Outcome
@@ -70,6 +90,10 @@ post_takes_memory who Submit = is_some (team_of who)
 post_takes_memory who Clarify = is_some who
 post_takes_memory who Propose = is_some (judge_of who)
 post_takes_memory who Verify = is_some (judge_of who)
+post_takes_memory who OpenRejudging = is_some (judge_of who)
+post_takes_memory who JudgeRejudging = is_some (judge_of who)
+post_takes_memory who ApplyRejudging = is_some (judge_of who)
+post_takes_memory who CancelRejudging = is_some (judge_of who)
 
 -- whose file is looked at, by its team and its number: files are large, and no more than one is
 abbrev pub post_file : Posted → ContestState → Option (ℕ × ℕ)
@@ -77,6 +101,8 @@ post_file (Submission team wanted) x = keyed_row team wanted.key x.submissions
 post_file (Clarification c) x = None
 post_file (Proposal v) x = None
 post_file (Verification v) x = None
+post_file (Opening w) x = None
+post_file (Rejudging path step) x = None
 
 -- the idempotency key that it comes with, if there is one
 abbrev pub key_of : Posted → Option (List ℕ)
@@ -84,6 +110,8 @@ key_of (Submission team wanted) = wanted.key
 key_of (Clarification c) = c.wanted.key
 key_of (Proposal v) = None
 key_of (Verification v) = None
+key_of (Opening w) = None
+key_of (Rejudging path step) = None
 
 -- two are of one sender, and ask for rows of one kind
 abbrev pub are_in_one_scope : Posted → Posted → Bool
@@ -103,3 +131,5 @@ reaches_key x (Submission team wanted) = is_complete x.fixed wanted
 reaches_key x (Clarification c) = is_some (named_clarification x.fixed c.sender x.clarifications c.wanted)
 reaches_key x (Proposal v) = false
 reaches_key x (Verification v) = false
+reaches_key x (Opening w) = false
+reaches_key x (Rejudging path step) = false

@@ -25,6 +25,10 @@ is_of_contest path = starts_with nat_eq path (codes "/contests/")
 abbrev pub contest_piece : List ℕ → List ℕ
 contest_piece path = before_slash (after_slash (after_slash path))
 
+-- `/jury/<collection>/<this>..`
+abbrev pub jury_piece : List ℕ → List ℕ
+jury_piece path = before_slash (after_slash (after_slash (after_slash path)))
+
 -- `/contests/<c>/<collection>/<this>..`
 abbrev pub object_piece : List ℕ → List ℕ
 object_piece path = before_slash (after_slash (after_slash (after_slash (after_slash path))))

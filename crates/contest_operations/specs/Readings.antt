@@ -8,16 +8,19 @@ use Rattle.contest_view.specs.Scoreboards.{scoreboard_data}
 use Rattle.contest_view.specs.Clarifications.{clarifications_data, clarification_found}
 use Rattle.contest_view.specs.Judgements.{judgements_data, judgement_found}
 use Rattle.contest_view.specs.Proposals.{proposals_data}
+use Rattle.contest_view.specs.Rejudgings.{rejudgings_data, rejudging_found}
 use Rattle.contest_objects.specs.ContestObjects.{whole_data}
 use Rattle.contest_view.specs.FileReads.{file_found, file_place}
 use Rattle.contest_view.specs.Reads.{submissions_data, submission_found}
 use Rattle.contest_objects.specs.SettingsObjects.{settings_data, setting_found}
-use Rattle.contest_operations.specs.Paths.{object_piece}
+use Rattle.contest_operations.specs.Paths.{jury_piece, object_piece}
 use Rattle.contest_operations.specs.Replies.{refused, answer, file_answer}
 use Rattle.contest_operations.specs.declared.operation.Endpoint.{Endpoint}
 use Rattle.contest_operations.specs.declared.operation.Endpoint.TheVariants.{Settings, Submissions, Judgements, Clarifications}
+use Rattle.contest_operations.specs.declared.operation.JuryReading.{JuryReading}
+use Rattle.contest_operations.specs.declared.operation.JuryReading.TheVariants.{Proposals, Rejudgings, Rejudging}
 use Rattle.contest_operations.specs.declared.operation.Reading.{Reading}
-use Rattle.contest_operations.specs.declared.operation.Reading.TheVariants.{Whole, List as AllOf, Object, File, Scoreboard, Proposals}
+use Rattle.contest_operations.specs.declared.operation.Reading.TheVariants.{Whole, List as AllOf, Object, File, Scoreboard, Jury as ForJury}
 use Rattle.contest_operations.specs.declared.reply.Reply.{Reply}
 
 -- the array of an endpoint's objects that an audience sees
@@ -33,6 +36,12 @@ object_found a now x (Settings endpoint) id = setting_found endpoint x.fixed.set
 object_found a now x Submissions id = submission_found a now x id
 object_found a now x Judgements id = judgement_found a now x id
 object_found a now x Clarifications id = clarification_found a x id
+
+-- what only the jury reads, if it is there; who isn't of it finds nothing
+abbrev pub jury_found : Audience → ℕ → ContestState → JuryReading → (id : List ℕ) → Option Data
+jury_found a now x Proposals id = Some (proposals_data a now x)
+jury_found a now x Rejudgings id = Some (rejudgings_data a x)
+jury_found a now x Rejudging id = rejudging_found a x id
 
 -- what isn't seen is answered as what isn't there
 abbrev pub told : Option Data → Reply
@@ -51,7 +60,7 @@ read a now x (AllOf endpoint) path = told (Some (all_data a now x endpoint))
 read a now x (Object endpoint) path = told (object_found a now x endpoint (object_piece path))
 read a now x File path = file_told (file_found a now x (object_piece path))
 read a now x Scoreboard path = told (Some (scoreboard_data a now x))
-read a now x Proposals path = told (Some (proposals_data a now x))
+read a now x (ForJury reading) path = told (jury_found a now x reading (jury_piece path))
 
 -- whose file is looked at, by its team and its number: one that the audience may read, or none
 abbrev pub read_file : Audience → Reading → (path : List ℕ) → ContestState → Option (ℕ × ℕ)
@@ -60,4 +69,4 @@ read_file a (AllOf endpoint) path x = None
 read_file a (Object endpoint) path x = None
 read_file a File path x = file_place a x.fixed x.submissions (object_piece path)
 read_file a Scoreboard path x = None
-read_file a Proposals path x = None
+read_file a (ForJury reading) path x = None

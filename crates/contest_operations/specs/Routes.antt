@@ -13,9 +13,10 @@ use Rattle.contest_objects.specs.declared.contest_objects.ContestEndpoint.TheVar
 use Rattle.contest_objects.specs.declared.settings_objects.SettingsEndpoint.TheVariants.{Groups, JudgementTypes, Languages, Problems, Teams}
 use Rattle.contest_operations.specs.Offers.{nothing, reads}
 use Rattle.contest_operations.specs.declared.offer.Offer.{Offer}
-use Rattle.contest_operations.specs.declared.command.Command.TheVariants.{Submit, Clarify, Propose, Verify}
+use Rattle.contest_operations.specs.declared.command.Command.TheVariants.{Submit, Clarify, Propose, Verify, OpenRejudging, JudgeRejudging, ApplyRejudging, CancelRejudging}
 use Rattle.contest_operations.specs.declared.operation.Endpoint.TheVariants.{Settings, Submissions, Judgements, Clarifications}
-use Rattle.contest_operations.specs.declared.operation.Reading.TheVariants.{Whole, List as AllOf, Object, File, Scoreboard, Proposals}
+use Rattle.contest_operations.specs.declared.operation.JuryReading.TheVariants.{Proposals, Rejudgings, Rejudging}
+use Rattle.contest_operations.specs.declared.operation.Reading.TheVariants.{Whole, List as AllOf, Object, File, Scoreboard, Jury as ForJury}
 
 -- each route's text, and what is offered there
 abbrev pub route_rows : List (List ℕ × Offer)
@@ -43,14 +44,14 @@ route_rows =
     ∷ (codes "/contests/{contest}/submissions/{id}/files", reads File)
     ∷ (codes "/contests/{contest}/clarifications", record (reads (AllOf Clarifications)) { post = Some Clarify })
     ∷ (codes "/contests/{contest}/clarifications/{id}", reads (Object Clarifications))
-    ∷ (codes "/jury/proposals", record (reads Proposals) { post = Some Propose })
+    ∷ (codes "/jury/proposals", record (reads (ForJury Proposals)) { post = Some Propose })
     ∷ (codes "/jury/verifications", record nothing { post = Some Verify })
     ∷ (codes "/jury/finalize", nothing)
-    ∷ (codes "/jury/rejudgings", nothing)
-    ∷ (codes "/jury/rejudgings/{n}", nothing)
-    ∷ (codes "/jury/rejudgings/{n}/verdicts", nothing)
-    ∷ (codes "/jury/rejudgings/{n}/apply", nothing)
-    ∷ (codes "/jury/rejudgings/{n}/cancel", nothing)
+    ∷ (codes "/jury/rejudgings", record (reads (ForJury Rejudgings)) { post = Some OpenRejudging })
+    ∷ (codes "/jury/rejudgings/{n}", reads (ForJury Rejudging))
+    ∷ (codes "/jury/rejudgings/{n}/verdicts", record nothing { post = Some JudgeRejudging })
+    ∷ (codes "/jury/rejudgings/{n}/apply", record nothing { post = Some ApplyRejudging })
+    ∷ (codes "/jury/rejudgings/{n}/cancel", record nothing { post = Some CancelRejudging })
     ∷ []
 
 abbrev pub Routes : Type 0

@@ -14,7 +14,7 @@ use Rattle.contest_operations.specs.declared.command.Posted.{Posted}
 use Rattle.contest_operations.specs.declared.operation.Operation.{Operation}
 use Rattle.contest_operations.specs.declared.operation.Operation.TheVariants.{Read as ToRead, Do as ToDo}
 use Rattle.contest_operations.specs.declared.operation.Reading.{Reading}
-use Rattle.contest_operations.specs.declared.operation.Reading.TheVariants.{Whole, List as AllOf, Object, File, Scoreboard, Proposals}
+use Rattle.contest_operations.specs.declared.operation.Reading.TheVariants.{Whole, List as AllOf, Object, File, Scoreboard, Jury as ForJury}
 use Rattle.contest_requests.specs.declared.request.Request.{Request}
 use Rattle.contest_operations.specs.declared.wish.Wish.{Wish}
 use Rattle.contest_operations.specs.declared.wish.Wish.TheVariants.{Read, Do}
@@ -23,14 +23,14 @@ abbrev pub wish_to_do : Result Posted Refusal → Result Wish Refusal
 wish_to_do (Err refusal) = Err refusal
 wish_to_do (Ok posted) = Ok (Do posted)
 
--- what judges propose is for the jury alone
+-- some of it is for the jury alone
 abbrev pub may_read : Caller → Reading → Bool
 may_read who (Whole endpoint) = true
 may_read who (AllOf endpoint) = true
 may_read who (Object endpoint) = true
 may_read who File = true
 may_read who Scoreboard = true
-may_read who Proposals = is_some (judge_of who)
+may_read who (ForJury reading) = is_some (judge_of who)
 
 -- what a caller wishes by an operation
 abbrev pub wish_of : FixedPart → Caller → Operation → Request → Result Wish Refusal

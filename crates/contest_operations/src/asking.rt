@@ -82,7 +82,7 @@ fn may_read(caller: &Caller<'_>, reading: Reading) -> bool
     ensures { result ≡ may_read caller.now reading }
 {
     match reading {
-        Reading::Proposals => judge_of(caller).is_some(),
+        Reading::Jury(_) => judge_of(caller).is_some(),
         Reading::Whole(_)
         | Reading::List(_)
         | Reading::Object(_)

@@ -4,17 +4,22 @@ ghost use Rattle.contest_types.specs.State.{ContestState};
 ghost use Rattle.contest_types.specs.Valid.{is_valid};
 ghost use Rattle.contest_lists.specs.Lists.{loaded};
 ghost use Rattle.contest_postings.specs.OwnSubmissions.{file_at};
-ghost use Rattle.contest_operations.specs.Commands.{IsSoundPost, post_done, post_file, post_outcome, post_takes_memory, posted_by};
+ghost use Rattle.contest_operations.specs.Commands.{IsSoundPost, if_judge, post_done, post_file, post_outcome, post_takes_memory, posted_by};
+ghost use Rattle.contest_operations.specs.Callers.{judge_of};
 ghost use Rattle.contest_operations.specs.Replies.{IsOrdinary};
 
 use crate::caller::{Caller, judge_of, team_of};
 use crate::clarify::post_clarification;
 use crate::outcome::Outcome;
+use crate::path::jury_piece;
 use crate::submit::post_submission;
 use contest_lists::Lists;
-use contest_postings::{Clarifying, Done, Proposing, Submitting, Verifying, carry_out, keyed_row};
-use contest_requests::{JuryVerdict, Request, post_verdict};
-use contest_rules::{RuleRefusal, WantedSubmission};
+use contest_postings::{
+    Clarifying, Done, Opening, Proposing, Rejudge, RejudgingStep, Submitting, Verifying, carry_out,
+    keyed_row,
+};
+use contest_requests::{JuryVerdict, Request, post_rejudging, post_verdict};
+use contest_rules::{RuleRefusal, WantedRejudging, WantedSubmission};
 use contest_types::{Fixed, Moment, Refusal, Rows};
 use std::alloc::{AllocError, Global};
 
@@ -29,6 +34,14 @@ pub enum Command {
     Propose,
     /// A judge verifies the verdict that another proposed.
     Verify,
+    /// The jury opens a rejudging (DOMjudge manual, "Rejudging").
+    OpenRejudging,
+    /// A judge gives a verdict to a member of a rejudging.
+    JudgeRejudging,
+    /// The jury applies a rejudging.
+    ApplyRejudging,
+    /// The jury cancels one.
+    CancelRejudging,
 }
 
 /// What a caller whose role allows it posts, once its body is read.
@@ -42,6 +55,10 @@ pub enum Posted {
     Proposal(JuryVerdict),
     /// A judge verifies one.
     Verification(JuryVerdict),
+    /// The jury opens a rejudging.
+    Opening(WantedRejudging),
+    /// What the jury does with the rejudging that a path names.
+    Rejudging(Rows<u8>, RejudgingStep),
 }
 
 /// What a caller posts by a command: its role is looked at first, then its body.
@@ -67,13 +84,33 @@ pub fn post(
             Ok(Posted::Clarification(clarifying))
         }
         Command::Propose => {
-            let verdict = post_verdict(alloc, judge_of(caller), request)?;
+            let verdict = post_verdict(alloc, judge_of(caller), request.body.as_slice())?;
             Ok(Posted::Proposal(verdict))
         }
         Command::Verify => {
-            let verdict = post_verdict(alloc, judge_of(caller), request)?;
+            let verdict = post_verdict(alloc, judge_of(caller), request.body.as_slice())?;
             Ok(Posted::Verification(verdict))
         }
+        Command::OpenRejudging => {
+            let wanted = post_rejudging(alloc, judge_of(caller), request.body.as_slice())?;
+            Ok(Posted::Opening(wanted))
+        }
+        Command::JudgeRejudging => {
+            let verdict = post_verdict(alloc, judge_of(caller), request.body.as_slice())?;
+            Ok(Posted::Rejudging(request.path, RejudgingStep::Judge(verdict)))
+        }
+        Command::ApplyRejudging => rejudge(caller, request.path, RejudgingStep::Apply),
+        Command::CancelRejudging => rejudge(caller, request.path, RejudgingStep::Cancel),
+    }
+}
+
+// What only the jury posts; its body isn't read.
+fn rejudge(caller: &Caller<'_>, path: Rows<u8>, step: RejudgingStep) -> Result<Posted, Refusal>
+    ensures { result ≡ if_judge (judge_of caller.now) (Posted.Rejudging path step) }
+{
+    match judge_of(caller) {
+        Some(_) => Ok(Posted::Rejudging(path, step)),
+        None => Err(Refusal::RoleForbids),
     }
 }
 
@@ -84,7 +121,11 @@ pub fn post_file(posted: &Posted, lists: &Lists) -> Option<(usize, usize)>
 {
     match posted {
         Posted::Submission(team, wanted) => keyed_row(lists, *team, &wanted.key),
-        Posted::Clarification(_) | Posted::Proposal(_) | Posted::Verification(_) => None,
+        Posted::Clarification(_)
+        | Posted::Proposal(_)
+        | Posted::Verification(_)
+        | Posted::Opening(_)
+        | Posted::Rejudging(_, _) => None,
     }
 }
 
@@ -123,5 +164,10 @@ fn done_by(
         Posted::Clarification(clarifying) => carry_out(alloc, lists, now, clarifying),
         Posted::Proposal(verdict) => carry_out(alloc, lists, now, Proposing { verdict }),
         Posted::Verification(verdict) => carry_out(alloc, lists, now, Verifying { verdict }),
+        Posted::Opening(wanted) => carry_out(alloc, lists, now, Opening { wanted }),
+        Posted::Rejudging(path, step) => {
+            let id = jury_piece(path.as_slice());
+            carry_out(alloc, lists, now, Rejudge { id, step })
+        }
     }
 }

@@ -23,7 +23,7 @@ pub use answering::{answer, file_needed};
 pub use asking::ask;
 pub use command::{Command, Posted};
 pub use offer::{AllowedMethods, Offer};
-pub use operation::{Endpoint, Operation, Reading};
+pub use operation::{Endpoint, JuryReading, Operation, Reading};
 pub use outcome::Outcome;
 pub use reply::{ContentType, ExtraField, Reply, ReplyBody};
 pub use route_table::routes;

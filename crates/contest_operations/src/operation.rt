@@ -28,8 +28,19 @@ pub enum Reading {
     File,
     /// The scoreboard that the caller sees.
     Scoreboard,
-    /// What stands proposed, for the jury.
+    /// What only the jury reads.
+    Jury(JuryReading),
+}
+
+/// What only the jury reads (own).
+#[derive(Clone, Copy)]
+pub enum JuryReading {
+    /// What stands proposed.
     Proposals,
+    /// The rejudgings, by number.
+    Rejudgings,
+    /// One of them, by its number.
+    Rejudging,
 }
 
 /// What a request asks for.

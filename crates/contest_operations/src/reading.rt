@@ -8,18 +8,19 @@ ghost use Rattle.contest_types.specs.State.{ContestState};
 ghost use Rattle.contest_types.specs.Valid.{is_valid};
 ghost use Rattle.contest_view.specs.SeenLists.{Shows};
 ghost use Rattle.contest_postings.specs.OwnSubmissions.{file_at};
-ghost use Rattle.contest_operations.specs.Readings.{all_data, file_told, object_found, read, read_file, told};
+ghost use Rattle.contest_operations.specs.Readings.{all_data, file_told, jury_found, object_found, read, read_file, told};
 ghost use Rattle.contest_operations.specs.Replies.{IsOrdinary};
 
 use crate::Reply;
-use crate::operation::{Endpoint, Reading};
-use crate::path::object_piece;
+use crate::operation::{Endpoint, JuryReading, Reading};
+use crate::path::{jury_piece, object_piece};
 use contest_lists::Lists;
 use contest_objects::{setting_by_id, settings_value, whole_value};
 use contest_types::{Audience, Refusal, Rows};
 use contest_view::{
     Seen, clarification_by_id, clarifications_value, file_place, judgement_by_id, judgements_value,
-    named_submission, proposals_value, scoreboard_value, submission_by_id, submissions_value,
+    named_submission, proposals_value, rejudging_by_id, rejudgings_value, scoreboard_value,
+    submission_by_id, submissions_value,
 };
 use serde_json::Value;
 use std::alloc::{AllocError, Global};
@@ -43,7 +44,7 @@ pub fn read_file(
         | Reading::List(_)
         | Reading::Object(_)
         | Reading::Scoreboard
-        | Reading::Proposals => None,
+        | Reading::Jury(_) => None,
     }
 }
 
@@ -80,9 +81,9 @@ pub fn read(
             let value = scoreboard_value(alloc, seen)?;
             tell(alloc, Some(value))
         }
-        Reading::Proposals => {
-            let value = proposals_value(alloc, seen)?;
-            tell(alloc, Some(value))
+        Reading::Jury(reading) => {
+            let found = jury_value(alloc, seen, reading, jury_piece(path))?;
+            tell(alloc, found)
         }
     }
 }
@@ -119,6 +120,23 @@ fn object(
         Endpoint::Submissions => submission_by_id(alloc, seen, id),
         Endpoint::Judgements => judgement_by_id(alloc, seen, id),
         Endpoint::Clarifications => clarification_by_id(alloc, seen, id),
+    }
+}
+
+// What only the jury reads, if it is there.
+fn jury_value(
+    alloc: Global,
+    seen: &Seen<'_>,
+    reading: JuryReading,
+    id: &[u8],
+) -> Result<Option<Value>, AllocError>
+    ensures seen { (x : ContestState) → Shows seen.entry.now x → IfOk result (λ found. option_map view found ≡ jury_found seen.entry.now.audience seen.entry.now.now x reading id.now) }
+    ensures no_floats { IfOk result (λ found. IfSome found (λ v. has_float (view v) ≡ false)) }
+{
+    match reading {
+        JuryReading::Proposals => Ok(Some(proposals_value(alloc, seen)?)),
+        JuryReading::Rejudgings => Ok(Some(rejudgings_value(alloc, seen)?)),
+        JuryReading::Rejudging => rejudging_by_id(alloc, seen, id),
     }
 }
 

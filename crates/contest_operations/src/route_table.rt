@@ -5,7 +5,7 @@ ghost use Rattle.contest_operations.specs.Routes.{offer_in, route_rows, routes, 
 
 use crate::command::Command;
 use crate::offer::Offer;
-use crate::operation::{Endpoint, Reading};
+use crate::operation::{Endpoint, JuryReading, Reading};
 use contest_objects::{ContestEndpoint, SettingsEndpoint};
 use matchit::{InsertError, Router};
 use std::alloc::{AllocError, Global};
@@ -173,7 +173,7 @@ static ROUTES: [(&str, Offer); 31] = [
     (
         "/jury/proposals",
         Offer {
-            get: Some(Reading::Proposals),
+            get: Some(Reading::Jury(JuryReading::Proposals)),
             post: Some(Command::Propose),
             ..NOTHING
         },
@@ -186,11 +186,42 @@ static ROUTES: [(&str, Offer); 31] = [
         },
     ),
     ("/jury/finalize", NOTHING),
-    ("/jury/rejudgings", NOTHING),
-    ("/jury/rejudgings/{n}", NOTHING),
-    ("/jury/rejudgings/{n}/verdicts", NOTHING),
-    ("/jury/rejudgings/{n}/apply", NOTHING),
-    ("/jury/rejudgings/{n}/cancel", NOTHING),
+    (
+        "/jury/rejudgings",
+        Offer {
+            get: Some(Reading::Jury(JuryReading::Rejudgings)),
+            post: Some(Command::OpenRejudging),
+            ..NOTHING
+        },
+    ),
+    (
+        "/jury/rejudgings/{n}",
+        Offer {
+            get: Some(Reading::Jury(JuryReading::Rejudging)),
+            ..NOTHING
+        },
+    ),
+    (
+        "/jury/rejudgings/{n}/verdicts",
+        Offer {
+            post: Some(Command::JudgeRejudging),
+            ..NOTHING
+        },
+    ),
+    (
+        "/jury/rejudgings/{n}/apply",
+        Offer {
+            post: Some(Command::ApplyRejudging),
+            ..NOTHING
+        },
+    ),
+    (
+        "/jury/rejudgings/{n}/cancel",
+        Offer {
+            post: Some(Command::CancelRejudging),
+            ..NOTHING
+        },
+    ),
 ];
 
 fn rows() -> &'static [(&'static str, Offer); 31]

@@ -17,3 +17,8 @@ done_of object entries d = record { text = compact_text (object d); entries = en
 abbrev pub done_as : {D : Type 0} → (object : D → Data) → (entries : D → List Entry) → Result D RuleRefusal → Result Done RuleRefusal
 done_as object entries (Err refusal) = Err refusal
 done_as object entries (Ok d) = Ok (done_of object entries d)
+
+-- what is made of what the rules give
+abbrev pub ruled_with : {A B : Type 0} → (A → B) → Result A RuleRefusal → Result B RuleRefusal
+ruled_with make (Err refusal) = Err refusal
+ruled_with make (Ok a) = Ok (make a)

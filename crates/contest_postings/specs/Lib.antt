@@ -4,3 +4,4 @@ pub mod PostVerification
 pub mod PostSubmission
 pub mod OwnSubmissions
 pub mod PostClarification
+pub mod PostRejudgings

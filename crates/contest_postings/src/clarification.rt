@@ -50,9 +50,10 @@ impl<'a> Posting<'a> for Clarifying {
 
     fn decide(
         self,
+        _alloc: Global,
         lists: &'a Lists,
         now: Moment,
-    ) -> Result<Decision<Clarification, SaidBefore<'a>>, RuleRefusal> {
+    ) -> Result<Result<Decision<Clarification, SaidBefore<'a>>, RuleRefusal>, AllocError> {
         let Clarifying {
             sender,
             account,
@@ -61,7 +62,7 @@ impl<'a> Posting<'a> for Clarifying {
         let fixed = lists.fixed();
         let heard = heard_reply(lists, sender, &wanted.reply);
         let named = clarification_on(fixed, sender, heard, &wanted);
-        decide_clarification(
+        Ok(decide_clarification(
             fixed,
             named,
             lists.clarifications(),
@@ -69,7 +70,7 @@ impl<'a> Posting<'a> for Clarifying {
             sender,
             account,
             wanted,
-        )
+        ))
     }
 
     fn tell(

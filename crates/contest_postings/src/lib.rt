@@ -4,15 +4,19 @@
 
 mod clarification;
 mod named;
+mod opening;
 mod own_so_far;
 mod posting;
 mod proposal;
+mod rejudging;
 mod submission;
 mod verification;
 
 pub use clarification::Clarifying;
+pub use opening::{OpenedRejudging, Opening};
 pub use own_so_far::keyed_row;
 pub use posting::{Done, Posting, carry_out};
 pub use proposal::Proposing;
+pub use rejudging::{Rejudge, RejudgingChange, RejudgingStep};
 pub use submission::Submitting;
 pub use verification::Verifying;

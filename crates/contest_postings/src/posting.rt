@@ -48,14 +48,18 @@ pub trait Posting<'a>: Drop {
     /// What it adds.
     ghost entries: { Self.Done → List TheEntry };
 
-    /// What is done, or why it is refused: the same of the lists of whichever valid contest. It takes
-    /// no memory.
+    /// What is done, or why the rules refuse it: the same of the lists of whichever valid contest.
     ///
     /// # Errors
     ///
-    /// As the rules say.
-    fn decide(self, lists: &'a Lists, now: Moment) -> Result<Self::Done, RuleRefusal>
-        ensures { (x : ContestState) → is_valid x ≡ true → lists.now ≡ loaded x → fits self x → result ≡ decide self now x };
+    /// Want of memory alone.
+    fn decide(
+        self,
+        alloc: Global,
+        lists: &'a Lists,
+        now: Moment,
+    ) -> Result<Result<Self::Done, RuleRefusal>, AllocError>
+        ensures { (x : ContestState) → is_valid x ≡ true → lists.now ≡ loaded x → fits self x → IfOk result (λ done. done ≡ decide self now x) };
 
     /// What is done is answered, and added.
     ///
@@ -80,7 +84,7 @@ pub fn carry_out<'a, P: Posting<'a>>(
     ensures { (x : ContestState) → is_valid x ≡ true → lists.now ≡ loaded x → P.fits posting x
         → IfOk result (λ done. done ≡ done_as (P.object x.fixed) P.entries (P.decide posting now x)) }
 {
-    match posting.decide(lists, now) {
+    match posting.decide(alloc, lists, now)? {
         Ok(done) => Ok(Ok(P::tell(alloc, lists.fixed(), done)?)),
         Err(refusal) => Ok(Err(refusal)),
     }

@@ -29,17 +29,22 @@ impl<'a> Posting<'a> for Proposing {
 
     ghost entries = { entries_of };
 
-    fn decide(self, lists: &'a Lists, now: Moment) -> Result<NewVerdict, RuleRefusal> {
+    fn decide(
+        self,
+        _alloc: Global,
+        lists: &'a Lists,
+        now: Moment,
+    ) -> Result<Result<NewVerdict, RuleRefusal>, AllocError> {
         let JuryVerdict { account, wanted } = self.verdict;
         let named = named_verdict(lists, &wanted);
-        decide_proposal(
+        Ok(decide_proposal(
             lists.fixed(),
             named,
             lists.proposals(),
             lists.releases(),
             now,
             account,
-        )
+        ))
     }
 
     fn tell(alloc: Global, fixed: &Fixed, done: NewVerdict) -> Result<Done, AllocError> {

@@ -45,12 +45,13 @@ impl<'a> Posting<'a> for Submitting<'a> {
 
     fn decide(
         self,
+        _alloc: Global,
         lists: &'a Lists,
         now: Moment,
-    ) -> Result<Decision<Submission, Standing<'a>>, RuleRefusal> {
+    ) -> Result<Result<Decision<Submission, Standing<'a>>, RuleRefusal>, AllocError> {
         let Submitting { team, wanted, file } = self;
         let own = own_so_far(lists, team, &wanted.key, file);
-        decide_submission(lists.fixed(), own, now, team, wanted)
+        Ok(decide_submission(lists.fixed(), own, now, team, wanted))
     }
 
     fn tell(

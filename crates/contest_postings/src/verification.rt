@@ -29,10 +29,15 @@ impl<'a> Posting<'a> for Verifying {
 
     ghost entries = { release_entries };
 
-    fn decide(self, lists: &'a Lists, now: Moment) -> Result<Release, RuleRefusal> {
+    fn decide(
+        self,
+        _alloc: Global,
+        lists: &'a Lists,
+        now: Moment,
+    ) -> Result<Result<Release, RuleRefusal>, AllocError> {
         let JuryVerdict { account, wanted } = self.verdict;
         let named = named_verdict(lists, &wanted);
-        decide_verify(named, lists.proposals(), lists.releases(), now, &account)
+        Ok(decide_verify(named, lists.proposals(), lists.releases(), now, &account))
     }
 
     fn tell(alloc: Global, fixed: &Fixed, done: Release) -> Result<Done, AllocError> {

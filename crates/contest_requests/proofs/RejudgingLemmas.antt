@@ -14,7 +14,6 @@ use Rattle.contest_rules.specs.declared.opening.WantedRejudging.{WantedRejudging
 use Rattle.contest_files.specs.IdArrays.{ids_in}
 use Rattle.contest_files.specs.JsonMembers.{data_of, name_in}
 use Rattle.contest_requests.specs.RejudgingBodies.{may_be_members, posted_rejudging, rejudging_in, rejudging_of, submissions_in}
-use Rattle.contest_requests.specs.declared.request.Request.{Request}
 
 -- what passes a test is what was tested
 kept : (b : Bool) (xs ys : List (List ℕ)) → (if b then Some xs else None) ≡ Some ys → (b ≡ true) × (xs ≡ ys)
@@ -58,6 +57,6 @@ passed None w is = absurd (cc is)
 passed (Some v) w is = cc is
 
 -- what a caller posts fits too
-pub posted_rejudging_fits : (judge : Option (List ℕ)) (request : Request) (w : WantedRejudging) → posted_rejudging judge request ≡ Ok w → (are_different w.submissions ≡ true) × (length w.submissions ≤ REJUDGING_MEMBERS)
-posted_rejudging_fits None request w is = absurd (cc is)
-posted_rejudging_fits (Some account) request w is = rejudging_fits request.body w (passed (rejudging_in request.body) w is)
+pub posted_rejudging_fits : (judge : Option (List ℕ)) (body : List ℕ) (w : WantedRejudging) → posted_rejudging judge body ≡ Ok w → (are_different w.submissions ≡ true) × (length w.submissions ≤ REJUDGING_MEMBERS)
+posted_rejudging_fits None body w is = absurd (cc is)
+posted_rejudging_fits (Some account) body w is = rejudging_fits body w (passed (rejudging_in body) w is)

@@ -10,7 +10,6 @@ use Rattle.contest_types.specs.declared.refusal.Refusal.TheVariants.{Malformed, 
 use Rattle.contest_rules.specs.declared.verdicts.WantedVerdict.{WantedVerdict}
 use Rattle.contest_files.specs.JsonMembers.{data_of, id_in}
 use Rattle.contest_requests.specs.declared.jury_verdict.JuryVerdict.{JuryVerdict}
-use Rattle.contest_requests.specs.declared.request.Request.{Request}
 
 -- what a posted object says
 unfoldable pub verdict_of : Data → Option WantedVerdict
@@ -27,9 +26,9 @@ judged_by account None = Err Malformed
 judged_by account (Some wanted) = Ok (record { account = account; wanted = wanted })
 
 -- only the jury judges, each by an account of its own
-abbrev pub posted_verdict : (judge : Option (List ℕ)) → Request → Result JuryVerdict Refusal
-posted_verdict None request = Err RoleForbids
-posted_verdict (Some account) request = judged_by account (verdict_in request.body)
+abbrev pub posted_verdict : (judge : Option (List ℕ)) → (body : List ℕ) → Result JuryVerdict Refusal
+posted_verdict None body = Err RoleForbids
+posted_verdict (Some account) body = judged_by account (verdict_in body)
 
 -- what is known of it once it is read: the account is there
 abbrev pub IsSoundVerdict : FixedPart → JuryVerdict → Type 0

@@ -1,5 +1,5 @@
 -- The body of a posted rejudging (DOMjudge manual, "Rejudging"; the object that is posted is own).
-use Rattle.std.specs.Prelude.{ℕ, Bool, ◌&&◌, nat_lt, nat_le, List, length, Option, Some, None, Result, Err, codes, if◌then◌else◌}
+use Rattle.std.specs.Prelude.{◌≡◌, ◌≤◌, ℕ, Bool, true, ◌&&◌, nat_lt, nat_le, List, length, Option, Some, None, Result, Err, codes, if◌then◌else◌}
 use Rattle.std.specs.Option.{ok_or, option_map, option_and_then}
 use Rattle.serde_json.specs.Data.{Data}
 use Rattle.serde_json.specs.Find.{get}
@@ -10,7 +10,6 @@ use Rattle.contest_types.specs.declared.refusal.Refusal.TheVariants.{Malformed, 
 use Rattle.contest_rules.specs.declared.opening.WantedRejudging.{WantedRejudging}
 use Rattle.contest_files.specs.IdArrays.{ids_in}
 use Rattle.contest_files.specs.JsonMembers.{data_of, name_in}
-use Rattle.contest_requests.specs.declared.request.Request.{Request}
 
 -- at least one, no more than a rejudging may have members, and none twice
 abbrev pub may_be_members : List (List ℕ) → Bool
@@ -31,7 +30,11 @@ rejudging_of d =
 abbrev pub rejudging_in : (body : List ℕ) → Option WantedRejudging
 rejudging_in body = option_and_then rejudging_of (data_of body)
 
+-- what is known of it once it is read
+abbrev pub IsSoundRejudging : WantedRejudging → Type 0
+IsSoundRejudging w = (are_different w.submissions ≡ true) × (length w.submissions ≤ REJUDGING_MEMBERS)
+
 -- only the jury rejudges
-abbrev pub posted_rejudging : (judge : Option (List ℕ)) → Request → Result WantedRejudging Refusal
-posted_rejudging None request = Err RoleForbids
-posted_rejudging (Some account) request = ok_or (rejudging_in request.body) Malformed
+abbrev pub posted_rejudging : (judge : Option (List ℕ)) → (body : List ℕ) → Result WantedRejudging Refusal
+posted_rejudging None body = Err RoleForbids
+posted_rejudging (Some account) body = ok_or (rejudging_in body) Malformed

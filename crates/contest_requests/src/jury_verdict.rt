@@ -5,7 +5,6 @@ ghost use Rattle.serde_json.specs.View.{view};
 ghost use Rattle.contest_files.specs.Refused.{IsRefused};
 ghost use Rattle.contest_requests.specs.JuryVerdicts.{posted_verdict, verdict_in, verdict_of};
 
-use crate::Request;
 use contest_files::{id_in, value_of};
 use contest_rules::WantedVerdict;
 use contest_types::{Id, Refusal};
@@ -21,24 +20,20 @@ pub struct JuryVerdict {
     pub wanted: WantedVerdict,
 }
 
-/// The verdict that a caller posts, if it holds the account of a judge or an administrator.
+/// The verdict that a caller posts in a body, if it holds the account of a judge or an administrator.
 ///
 /// # Errors
 ///
 /// `RoleForbids`, then `Malformed` where the body is off its form; else want of memory.
-pub fn post_verdict(
-    alloc: Global,
-    judge: Option<&Id>,
-    request: Request,
-) -> Result<JuryVerdict, Refusal>
-    ensures ok { IfOk result (λ v. posted_verdict (option_map (λ id. id.now) judge.entry) request ≡ Ok v) }
-    ensures err { IfErr result (λ e. (e ≡ Refusal.Memory) ⊎ (posted_verdict (option_map (λ id. id.now) judge.entry) request ≡ Err e)) }
+pub fn post_verdict(alloc: Global, judge: Option<&Id>, body: &[u8]) -> Result<JuryVerdict, Refusal>
+    ensures ok { IfOk result (λ v. posted_verdict (option_map (λ id. id.now) judge.entry) body.now ≡ Ok v) }
+    ensures err { IfErr result (λ e. (e ≡ Refusal.Memory) ⊎ (posted_verdict (option_map (λ id. id.now) judge.entry) body.now ≡ Err e)) }
     ensures forbids { IfErr result (λ e. e ≡ Refusal.Memory → is_some judge.entry ≡ true) }
 {
     let Some(judge) = judge else {
         return Err(Refusal::RoleForbids);
     };
-    let wanted = verdict_in(alloc, request.body.as_slice())?;
+    let wanted = verdict_in(alloc, body)?;
     let account = judge.clone()?;
     Ok(JuryVerdict { account, wanted })
 }

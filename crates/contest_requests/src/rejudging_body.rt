@@ -6,7 +6,6 @@ ghost use Rattle.contest_files.specs.JsonMembers.{name_in};
 ghost use Rattle.contest_files.specs.Refused.{IsRefused};
 ghost use Rattle.contest_requests.specs.RejudgingBodies.{may_be_members, posted_rejudging, rejudging_in, rejudging_of, submissions_in};
 
-use crate::Request;
 use contest_files::{are_different, ids_in, name_in, value_of};
 use contest_rules::WantedRejudging;
 use contest_types::limits::REJUDGING_MEMBERS;
@@ -14,7 +13,7 @@ use contest_types::{Id, Name, Refusal, Rows};
 use serde_json::Value;
 use std::alloc::Global;
 
-/// The rejudging that a caller posts, if it holds the account of a judge or an administrator.
+/// The rejudging that a caller posts in a body, if it holds the account of a judge or an administrator.
 ///
 /// # Errors
 ///
@@ -22,16 +21,16 @@ use std::alloc::Global;
 pub fn post_rejudging(
     alloc: Global,
     judge: Option<&Id>,
-    request: Request,
+    body: &[u8],
 ) -> Result<WantedRejudging, Refusal>
-    ensures ok { IfOk result (λ w. posted_rejudging (option_map (λ id. id.now) judge.entry) request ≡ Ok w) }
-    ensures err { IfErr result (λ e. (e ≡ Refusal.Memory) ⊎ (posted_rejudging (option_map (λ id. id.now) judge.entry) request ≡ Err e)) }
+    ensures ok { IfOk result (λ w. posted_rejudging (option_map (λ id. id.now) judge.entry) body.now ≡ Ok w) }
+    ensures err { IfErr result (λ e. (e ≡ Refusal.Memory) ⊎ (posted_rejudging (option_map (λ id. id.now) judge.entry) body.now ≡ Err e)) }
     ensures forbids { IfErr result (λ e. e ≡ Refusal.Memory → is_some judge.entry ≡ true) }
 {
     if judge.is_none() {
         return Err(Refusal::RoleForbids);
     }
-    read_rejudging(alloc, request.body.as_slice())
+    read_rejudging(alloc, body)
 }
 
 /// What a body asks for: `reason`, a name, and `submission_ids`, the ids of the submissions.

@@ -1,5 +1,5 @@
 -- Worked examples: rejudgings of the first team's first submission, and of others.
-use Rattle.std.proofs.Common.{◌≡◌, ℕ, true, false, List, [], ◌∷◌, refl, Some, None, Result, Ok, Err}
+use Rattle.std.proofs.Common.{◌≡◌, ℕ, true, false, List, [], ◌∷◌, refl, Some, Result, Ok, Err}
 use Rattle.std.specs.Prelude.{codes}
 use Rattle.std.specs.Fmt.{digits}
 use Rattle.contest_types.specs.State.{FixedPart}
@@ -17,7 +17,7 @@ use Rattle.contest_rules.specs.Opening.{open_rejudging}
 use Rattle.contest_rules.specs.Rejudging.{applied_entries, apply_on, cancel_on, member_after, rejudge_on}
 use Rattle.contest_rules.specs.declared.rejudging.MemberChange.{MemberChange}
 use Rattle.contest_rules.specs.declared.rule_refusal.RuleRefusal.{RuleRefusal}
-use Rattle.contest_rules.specs.declared.rule_refusal.RuleRefusal.TheVariants.{InRejudging, NotFound, NotOpen, RejudgingClosed, RejudgingIncomplete, UnknownReference}
+use Rattle.contest_rules.specs.declared.rule_refusal.RuleRefusal.TheVariants.{InRejudging, NotOpen, RejudgingClosed, RejudgingIncomplete, UnknownReference}
 
 -- two submissions of the first team and one of the second; the last waits for its verdict
 abbrev standing : List Submission
@@ -109,7 +109,7 @@ ready_no_more = refl
 
 -- a verdict of account j1 for a submission of the first team
 abbrev verdict_for : Rejudging → (number : ℕ) → Result MemberChange RuleRefusal
-verdict_for r number = rejudge_on false (Some r) (Some (record { team = 0; number = number; verdict = wrong })) (codes "j1")
+verdict_for r number = rejudge_on false r (Some (record { team = 0; number = number; verdict = wrong })) (codes "j1")
 
 member_judged : verdict_for (over Open (member 2 Empty ∷ member 1 Empty ∷ [])) 1 ≡ Ok (record { place = 1; state = Ready wrong })
 member_judged = refl
@@ -123,31 +123,28 @@ closed = refl
 no_member_before_closed : verdict_for (over Applied (member 1 (Ready wrong) ∷ [])) 2 ≡ Err UnknownReference
 no_member_before_closed = refl
 
-no_rejudging : rejudge_on false None None (codes "j1") ≡ Err NotFound
-no_rejudging = refl
-
 -- one that is applied releases a further verdict on each member
-applied : apply_on judged (minutes 50) (Some (over Open (member 1 (Ready wrong) ∷ []))) ≡ Ok (record { team = 0; number = 1; round = 2; verdict = wrong; time = minutes 50 } ∷ [])
+applied : apply_on judged (minutes 50) (over Open (member 1 (Ready wrong) ∷ [])) ≡ Ok (record { team = 0; number = 1; round = 2; verdict = wrong; time = minutes 50 } ∷ [])
 applied = refl
 
 -- what was cancelled in between leaves no gap
-applied_later : apply_on (judged) (minutes 60) (Some (over Open (member 2 (Ready accepted) ∷ []))) ≡ Ok (record { team = 0; number = 2; round = 2; verdict = accepted; time = minutes 60 } ∷ [])
+applied_later : apply_on judged (minutes 60) (over Open (member 2 (Ready accepted) ∷ [])) ≡ Ok (record { team = 0; number = 2; round = 2; verdict = accepted; time = minutes 60 } ∷ [])
 applied_later = refl
 
-not_ready : apply_on judged (minutes 50) (Some (over Open (member 1 (Ready wrong) ∷ member 2 Empty ∷ []))) ≡ Err RejudgingIncomplete
+not_ready : apply_on judged (minutes 50) (over Open (member 1 (Ready wrong) ∷ member 2 Empty ∷ [])) ≡ Err RejudgingIncomplete
 not_ready = refl
 
-only_proposed : apply_on judged (minutes 50) (Some (over Open (member 1 (Proposed wrong (codes "j1")) ∷ []))) ≡ Err RejudgingIncomplete
+only_proposed : apply_on judged (minutes 50) (over Open (member 1 (Proposed wrong (codes "j1")) ∷ [])) ≡ Err RejudgingIncomplete
 only_proposed = refl
 
-closed_before_ready : apply_on judged (minutes 50) (Some (over Cancelled (member 1 Empty ∷ []))) ≡ Err RejudgingClosed
+closed_before_ready : apply_on judged (minutes 50) (over Cancelled (member 1 Empty ∷ [])) ≡ Err RejudgingClosed
 closed_before_ready = refl
 
 all_added : applied_entries 1 (released 1 2 wrong ∷ []) ≡ NewRelease (released 1 2 wrong) ∷ SetRejudging 1 Applied ∷ []
 all_added = refl
 
-cancelled : cancel_on (Some (over Open (member 1 (Ready wrong) ∷ []))) ≡ Ok tt
+cancelled : cancel_on (over Open (member 1 (Ready wrong) ∷ [])) ≡ Ok tt
 cancelled = refl
 
-cancelled_once : cancel_on (Some (over Cancelled [])) ≡ Err RejudgingClosed
+cancelled_once : cancel_on (over Cancelled []) ≡ Err RejudgingClosed
 cancelled_once = refl

@@ -9,6 +9,7 @@ mod ExamplesProposing
 mod ExamplesRejudging
 pub mod VerifiedLemmas
 pub mod RoundLemmas
+pub mod CandidateLemmas
 pub mod OpenedLemmas
 pub mod AppliedLemmas
 pub mod RejudgedLemmas

@@ -1,5 +1,5 @@
 -- A rejudging that is opened may be added.
-use Rattle.std.proofs.Common.{◌≡◌, ◌∙◌, ◌≤◌, ◌+◌, ℕ, Bool, true, false, List, [], ◌∷◌, ◌++◌, length, map, Option, Some, None, Result, Ok, Err, refl, sym, ap, subst, arith}
+use Rattle.std.proofs.Common.{◌≡◌, ◌∙◌, ◌≤◌, ℕ, Bool, true, false, List, [], ◌∷◌, ◌++◌, length, map, Option, Some, None, Result, Ok, Err, refl, sym, ap, subst, arith}
 use Rattle.std.specs.Prelude.{◌&&◌, ◌||◌, ◌==◌, not, nat_le, nat_lt, find, is_some, if◌then◌else◌}
 use Rattle.std.specs.List.{list_all, list_any}
 use Rattle.std.specs.Option.{option_map, option_and_then}
@@ -25,9 +25,9 @@ use Rattle.contest_types.proofs.PlaceLemmas.{and_left, and_right, both_true, not
 use Rattle.contest_types.proofs.Rising.{find_passes}
 use Rattle.contest_types.proofs.ValidParts.{parts}
 use Rattle.contest_rules.specs.Laws.{OpenedIsAddable}
-use Rattle.contest_rules.specs.Opening.{all_there, are_released, candidate_of, is_any_rejudged, is_rejudged, member_of, open_on, opening_refusal}
+use Rattle.contest_rules.specs.Opening.{all_there, are_released, candidate_of, is_any_rejudged, is_rejudged, member_of, open_named, opening_refusal}
 use Rattle.contest_rules.specs.Verdicts.{submission_named}
-use Rattle.contest_rules.specs.declared.opening.Candidate.{Candidate}
+use Rattle.contest_rules.specs.declared.candidates.Candidate.{Candidate}
 use Rattle.contest_rules.specs.declared.opening.WantedRejudging.{WantedRejudging}
 use Rattle.contest_rules.specs.declared.rule_refusal.RuleRefusal.{RuleRefusal}
 use Rattle.contest_rules.specs.declared.rule_refusal.RuleRefusal.TheVariants.{InRejudging, NotOpen, RejudgingIncomplete, TeamLimit}
@@ -192,7 +192,7 @@ opened_is_addable x w r valid different few h =
       | None ↦ λ e k. (let is : made refs ≡ r = cc k in
           subst (λ q. is_addable x (NewRejudging q) ≡ true) is (fits x w refs valid different few ids (is_free x.fixed (length rs) (map (candidate_of vs rs) refs) e)))
     ] in
-    let go : (o : Option (List SubmissionRef)) → all_there (map (λ id. submission_named id x.submissions) w.submissions) ≡ o → open_on x.fixed (option_map (map (candidate_of vs rs)) o) (length rs) w.reason ≡ Ok r → is_addable x (NewRejudging r) ≡ true = elim [
+    let go : (o : Option (List SubmissionRef)) → all_there (map (λ id. submission_named id x.submissions) w.submissions) ≡ o → open_named x.fixed o vs rs w.reason ≡ Ok r → is_addable x (NewRejudging r) ≡ true = elim [
       | None ↦ λ e k. absurd (cc k)
       | (Some refs) ↦ λ e k. over refs (all_named w.submissions x.submissions refs e) (opening_refusal x.fixed (length rs) (map (candidate_of vs rs) refs)) refl k
     ] in

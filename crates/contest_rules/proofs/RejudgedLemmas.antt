@@ -42,7 +42,7 @@ rejudged_is_addable x verification number r w account change known h =
       | None ↦ λ k. absurd (cc k)
       | (Some place) ↦ λ k. open_one v typed place (is_open r) k
     ] in
-    let go : (o : Option NamedVerdict) → named_verdict x.fixed x.submissions w ≡ o → rejudge_on verification (Some r) o account ≡ Ok change → is_addable x (SetMember number change.place change.state) ≡ true = elim [
+    let go : (o : Option NamedVerdict) → named_verdict x.fixed x.submissions w ≡ o → rejudge_on verification r o account ≡ Ok change → is_addable x (SetMember number change.place change.state) ≡ true = elim [
       | None ↦ λ e k. absurd (cc k)
       | (Some v) ↦ λ e k. member v (named_there x w v e).is_type (member_at v.team v.number r.members) k
     ] in

@@ -101,10 +101,10 @@ OpenedIsAddable =
 abbrev pub RejudgedIsAddable : Type 0
 RejudgedIsAddable =
     (x : ContestState) (verification : Bool) (number : ℕ) (r : Rejudging) (w : WantedVerdict) (account : List ℕ) (change : MemberChange) → is_some (account_named x.fixed.accounts account) ≡ true
-    → rejudge_on verification (Some r) (named_verdict x.fixed x.submissions w) account ≡ Ok change → is_addable x (SetMember number change.place change.state) ≡ true
+    → rejudge_on verification r (named_verdict x.fixed x.submissions w) account ≡ Ok change → is_addable x (SetMember number change.place change.state) ≡ true
 
 -- what one adds that is applied may be added, one after the other
 abbrev pub AppliedIsAddable : Type 0
 AppliedIsAddable =
     (x : ContestState) (now number : ℕ) (r : Rejudging) (releases : List Release) → is_valid x ≡ true → Has x.rejudgings r
-    → apply_on x.releases now (Some r) ≡ Ok releases → are_addable x (applied_entries number releases) ≡ true
+    → apply_on x.releases now r ≡ Ok releases → are_addable x (applied_entries number releases) ≡ true

@@ -6,5 +6,6 @@ pub mod Verifying
 pub mod Clarifying
 pub mod Opening
 pub mod Rounds
+pub mod Candidates
 pub mod Rejudging
 pub mod Laws

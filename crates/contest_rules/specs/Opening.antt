@@ -12,7 +12,7 @@ use Rattle.contest_types.specs.declared.rejudging.Rejudging.{Rejudging}
 use Rattle.contest_types.specs.declared.rejudging.RejudgingState.TheVariants.{Open}
 use Rattle.contest_types.specs.declared.submission.Release.{Release}
 use Rattle.contest_types.specs.declared.submission.Submission.{Submission}
-use Rattle.contest_rules.specs.declared.opening.Candidate.{Candidate}
+use Rattle.contest_rules.specs.declared.candidates.Candidate.{Candidate}
 use Rattle.contest_rules.specs.declared.opening.WantedRejudging.{WantedRejudging}
 use Rattle.contest_rules.specs.declared.rule_refusal.RuleRefusal.{RuleRefusal}
 use Rattle.contest_rules.specs.declared.rule_refusal.RuleRefusal.TheVariants.{InRejudging, NotOpen, RejudgingIncomplete, TeamLimit, UnknownReference}
@@ -31,9 +31,9 @@ is_rejudged team number rs = list_any (λ m. names team number (of_member m)) (o
 abbrev pub candidate_of : List Release → List Rejudging → SubmissionRef → Candidate
 candidate_of vs rs s = record { team = s.team; number = s.number; is_released = is_released s.team s.number vs; is_rejudged = is_rejudged s.team s.number rs }
 
--- those that are named, if each is there
-abbrev pub candidates : List Submission → List Release → List Rejudging → List (List ℕ) → Option (List Candidate)
-candidates ss vs rs ids = option_map (map (candidate_of vs rs)) (all_there (map (λ id. submission_named id ss) ids))
+-- the submissions that have these ids, if each is there
+abbrev pub submissions_named : List (List ℕ) → List Submission → Option (List SubmissionRef)
+submissions_named ids ss = all_there (map (λ id. submission_named id ss) ids)
 
 -- a member that waits for its verdict
 abbrev pub member_of : Candidate → Member
@@ -61,8 +61,8 @@ open_over f opened reason cs = elim (opening_refusal f opened cs) [
 ]
 
 -- what is named first
-abbrev pub open_on : FixedPart → Option (List Candidate) → (opened : ℕ) → (reason : List ℕ) → Result Rejudging RuleRefusal
-open_on f o opened reason = elim o [ None ↦ Err UnknownReference | (Some cs) ↦ open_over f opened reason cs ]
+abbrev pub open_named : FixedPart → Option (List SubmissionRef) → List Release → List Rejudging → (reason : List ℕ) → Result Rejudging RuleRefusal
+open_named f o vs rs reason = elim o [ None ↦ Err UnknownReference | (Some named) ↦ open_over f (length rs) reason (map (candidate_of vs rs) named) ]
 
 abbrev pub open_rejudging : FixedPart → List Submission → List Release → List Rejudging → WantedRejudging → Result Rejudging RuleRefusal
-open_rejudging f ss vs rs w = open_on f (candidates ss vs rs w.submissions) (length rs) w.reason
+open_rejudging f ss vs rs w = open_named f (submissions_named w.submissions ss) vs rs w.reason

@@ -16,7 +16,7 @@ use Rattle.contest_types.specs.declared.rejudging.RejudgingState.TheVariants.{Ap
 use Rattle.contest_types.specs.declared.submission.Release.{Release}
 use Rattle.contest_rules.specs.declared.rejudging.MemberChange.{MemberChange}
 use Rattle.contest_rules.specs.declared.rule_refusal.RuleRefusal.{RuleRefusal}
-use Rattle.contest_rules.specs.declared.rule_refusal.RuleRefusal.TheVariants.{NotFound, RejudgingClosed, RejudgingIncomplete, UnknownReference}
+use Rattle.contest_rules.specs.declared.rule_refusal.RuleRefusal.TheVariants.{RejudgingClosed, RejudgingIncomplete, UnknownReference}
 use Rattle.contest_rules.specs.declared.verdicts.NamedVerdict.{NamedVerdict}
 
 -- a verdict of an account settles a member's: it stands already, or another account proposed it
@@ -43,11 +43,10 @@ rejudge_in verification r v account = elim (member_at v.team v.number r.members)
   | (Some place) ↦ if is_open r then Ok (record { place = place; state = member_after verification account v.verdict (state_at place r.members) }) else Err RejudgingClosed
 ]
 
--- the rejudging first, then what is named
-abbrev pub rejudge_on : (verification : Bool) → Option Rejudging → Option NamedVerdict → (account : List ℕ) → Result MemberChange RuleRefusal
-rejudge_on verification None named account = Err NotFound
-rejudge_on verification (Some r) None account = Err UnknownReference
-rejudge_on verification (Some r) (Some v) account = rejudge_in verification r v account
+-- what is named first
+abbrev pub rejudge_on : (verification : Bool) → Rejudging → Option NamedVerdict → (account : List ℕ) → Result MemberChange RuleRefusal
+rejudge_on verification r None account = Err UnknownReference
+rejudge_on verification r (Some v) account = rejudge_in verification r v account
 
 -- the verdict of a member, once it stands
 abbrev pub ready_verdict : MemberState → Option ℕ
@@ -68,15 +67,13 @@ abbrev pub apply_refusal : Rejudging → Option RuleRefusal
 apply_refusal r = if not (is_open r) then Some RejudgingClosed else (if list_all is_ready r.members then None else Some RejudgingIncomplete)
 
 -- one that is applied releases the verdicts of all of its members
-abbrev pub apply_on : List Release → (now : ℕ) → Option Rejudging → Result (List Release) RuleRefusal
-apply_on vs now None = Err NotFound
-apply_on vs now (Some r) = elim (apply_refusal r) [ (Some refusal) ↦ Err refusal | None ↦ Ok (filter_map (release_of vs now) r.members) ]
+abbrev pub apply_on : List Release → (now : ℕ) → Rejudging → Result (List Release) RuleRefusal
+apply_on vs now r = elim (apply_refusal r) [ (Some refusal) ↦ Err refusal | None ↦ Ok (filter_map (release_of vs now) r.members) ]
 
 -- what is added then: its releases, and that it is applied
 abbrev pub applied_entries : (number : ℕ) → List Release → List Entry
 applied_entries number releases = map NewRelease releases ++ SetRejudging number Applied ∷ []
 
 -- one that is cancelled releases none
-abbrev pub cancel_on : Option Rejudging → Result (Unit {0}) RuleRefusal
-cancel_on None = Err NotFound
-cancel_on (Some r) = if is_open r then Ok tt else Err RejudgingClosed
+abbrev pub cancel_on : Rejudging → Result (Unit {0}) RuleRefusal
+cancel_on r = if is_open r then Ok tt else Err RejudgingClosed

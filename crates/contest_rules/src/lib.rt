@@ -1,6 +1,7 @@
 //! What each command adds to a contest, or why it is refused.
 #![tactic(auto)]
 
+mod candidates;
 mod clarifying;
 mod decision;
 pub mod laws;
@@ -18,7 +19,7 @@ pub use clarifying::{
     decide_clarification,
 };
 pub use decision::Decision;
-pub use opening::{Candidate, WantedRejudging, decide_opening};
+pub use opening::{WantedRejudging, decide_opening};
 pub use proposing::{NewVerdict, decide_proposal};
 pub use rejudging::{MemberChange, decide_apply, decide_cancel, decide_member};
 pub use rule_refusal::RuleRefusal;

@@ -1,11 +1,14 @@
 //! The jury opens a rejudging.
-ghost use Rattle.std.specs.Prelude.{◌≡◌, IfOk, map};
-ghost use Rattle.std.specs.Option.{option_map};
-ghost use Rattle.contest_rules.specs.Opening.{are_released, is_any_rejudged, member_of, open_on, opening_refusal};
+ghost use Rattle.std.specs.Prelude.{◌≡◌, Some, IfOk, map};
+ghost use Rattle.contest_types.specs.State.{of_submission};
+ghost use Rattle.contest_rules.specs.Opening.{are_released, is_any_rejudged, member_of, open_named, opening_refusal};
 
 use crate::RuleRefusal;
+use crate::candidates::{Candidate, candidates_of};
 use contest_types::limits::REJUDGINGS;
-use contest_types::{Fixed, Id, Member, MemberState, Name, Rejudging, RejudgingState, Rows};
+use contest_types::{
+    Fixed, Id, Member, MemberState, Name, Rejudging, RejudgingState, Release, Rows, Submission,
+};
 use std::alloc::{AllocError, Global};
 
 /// What is asked for when a rejudging is opened (DOMjudge manual, "Rejudging").
@@ -17,56 +20,29 @@ pub struct WantedRejudging {
     pub submissions: Rows<Id>,
 }
 
-/// A submission that is named for a rejudging, and how it stands.
-#[derive(Clone, Copy)]
-pub struct Candidate {
-    /// The place of its team, from 0.
-    pub team: usize,
-    /// Which of the team's submissions it is, from 1.
-    pub number: usize,
-    /// Whether it has a release.
-    pub is_released: bool,
-    /// Whether it is in an open rejudging.
-    pub is_rejudged: bool,
-}
-
-impl Candidate {
-    // A member that waits for its verdict.
-    fn member(self) -> Member
-        ensures { result ≡ member_of self }
-    {
-        Member {
-            team: self.team,
-            number: self.number,
-            state: MemberState::Empty,
-        }
-    }
-}
-
-/// What becomes of a rejudging that is opened for a reason over these submissions, if each of those that
-/// are named is there; so many were opened before: the rejudging that is added.
+/// What becomes of a rejudging that is opened for a reason over these submissions, after these releases
+/// and rejudgings: the rejudging that is added.
 ///
 /// # Errors
 ///
-/// Want of memory; or `UnknownReference` where a submission isn't there; then `NotOpen` once a mark of
-/// final results is set, `RejudgingIncomplete` where a submission has no release, `InRejudging` where one
-/// is in an open rejudging, and `TeamLimit` where as many rejudgings stand as there may be.
+/// Want of memory; or `NotOpen` once a mark of final results is set, then `RejudgingIncomplete` where a
+/// submission has no release, `InRejudging` where one is in an open rejudging, and `TeamLimit` where as
+/// many rejudgings stand as there may be.
 pub fn decide_opening(
     alloc: Global,
     fixed: &Fixed,
-    candidates: Option<&[Candidate]>,
-    opened: usize,
+    named: &[&Submission],
+    releases: &[Release],
+    rejudgings: &[Rejudging],
     reason: Name,
 ) -> Result<Result<Rejudging, RuleRefusal>, AllocError>
-    ensures { IfOk result (λ r. r ≡ open_on fixed.now (option_map (λ cs. cs.now) candidates.entry) opened reason) }
+    ensures { IfOk result (λ r. r ≡ open_named fixed.now (Some (map (λ s. of_submission s.now) named.now)) releases.now rejudgings.now reason) }
 {
-    let Some(candidates) = candidates else {
-        return Ok(Err(RuleRefusal::UnknownReference));
-    };
-    if let Some(refusal) = opening_refusal(fixed, candidates, opened) {
+    let candidates = candidates_of(alloc, named, releases, rejudgings)?;
+    if let Some(refusal) = opening_refusal(fixed, candidates.as_slice(), rejudgings.len()) {
         return Ok(Err(refusal));
     }
-    let members = members_of(alloc, candidates)?;
+    let members = members_of(alloc, candidates.as_slice())?;
     Ok(Ok(Rejudging {
         reason,
         state: RejudgingState::Open,

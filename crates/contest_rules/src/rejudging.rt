@@ -1,7 +1,6 @@
 //! A judge judges a member of a rejudging again; the jury applies a rejudging, or cancels it.
 ghost use Rattle.std.specs.Prelude.{◌≡◌, ◌<◌, ◌+◌, ◌^◌, ℕ, List, length, IfOk, IfSome};
 ghost use Rattle.std.specs.List.{filter_map, list_all};
-ghost use Rattle.std.specs.Option.{option_map};
 ghost use Rattle.contest_types.specs.declared.submission.Release.{Release as TheRelease};
 ghost use Rattle.contest_rules.specs.Rejudging.{apply_on, apply_refusal, cancel_on, is_ready, member_after, member_at, ready_verdict, rejudge_in, rejudge_on, release_of, settles};
 ghost use Rattle.contest_rules.specs.Rounds.{AreRounds, count_in};
@@ -21,26 +20,22 @@ pub struct MemberChange {
     pub state: MemberState,
 }
 
-/// What becomes of a verdict that the account with this id gives to a member of a rejudging, if that is
-/// there, of what the verdict names. With verification another account has to give the same before it
-/// stands (DOMjudge manual, "Judging": verification).
+/// What becomes of a verdict that the account with this id gives to a member of a rejudging, if what the
+/// verdict names is there. With verification another account has to give the same before it stands
+/// (DOMjudge manual, "Judging": verification).
 ///
 /// # Errors
 ///
-/// `NotFound` where the rejudging isn't there; then `UnknownReference` where the submission or the
-/// judgement type isn't there, or the submission is no member; and `RejudgingClosed` where the rejudging
-/// is applied or cancelled.
+/// `UnknownReference` where the submission or the judgement type isn't there, or the submission is no
+/// member; then `RejudgingClosed` where the rejudging is applied or cancelled.
 pub fn decide_member(
     verification: bool,
-    rejudging: Option<&Rejudging>,
+    rejudging: &Rejudging,
     named: Option<NamedVerdict>,
     account: Id,
 ) -> Result<MemberChange, RuleRefusal>
-    ensures { result ≡ rejudge_on verification (option_map (λ r. r.now) rejudging.entry) named account }
+    ensures { result ≡ rejudge_on verification rejudging.now named account }
 {
-    let Some(rejudging) = rejudging else {
-        return Err(RuleRefusal::NotFound);
-    };
     match named {
         Some(named) => rejudge_in(verification, rejudging, named, account),
         None => Err(RuleRefusal::UnknownReference),
@@ -102,23 +97,20 @@ fn settles(state: &MemberState, verdict: usize, account: &Id) -> bool
     }
 }
 
-/// The releases of a rejudging that is applied now, if it is there: one for each member, in their order.
+/// The releases of a rejudging that is applied now: one for each member, in their order.
 ///
 /// # Errors
 ///
-/// Want of memory; or `NotFound` where the rejudging isn't there, then `RejudgingClosed` where it is
-/// applied or cancelled, and `RejudgingIncomplete` where a member's verdict doesn't stand.
+/// Want of memory; or `RejudgingClosed` where it is applied or cancelled, then `RejudgingIncomplete`
+/// where a member's verdict doesn't stand.
 pub fn decide_apply(
     alloc: Global,
-    rejudging: Option<&Rejudging>,
+    rejudging: &Rejudging,
     releases: &[Release],
     now: Moment,
 ) -> Result<Result<Rows<Release>, RuleRefusal>, AllocError>
-    ensures { IfOk result (λ r. r ≡ apply_on releases.now now (option_map (λ r. r.now) rejudging.entry)) }
+    ensures { IfOk result (λ r. r ≡ apply_on releases.now now rejudging.now) }
 {
-    let Some(rejudging) = rejudging else {
-        return Ok(Err(RuleRefusal::NotFound));
-    };
     if let Some(refusal) = apply_refusal(rejudging) {
         return Ok(Err(refusal));
     }
@@ -198,17 +190,16 @@ fn ready_verdict(state: &MemberState) -> Option<usize>
     }
 }
 
-/// Whether a rejudging may be cancelled, if it is there; it releases nothing then.
+/// Whether a rejudging may be cancelled; it releases nothing then.
 ///
 /// # Errors
 ///
-/// `NotFound` where the rejudging isn't there, and `RejudgingClosed` where it is applied or cancelled.
-pub fn decide_cancel(rejudging: Option<&Rejudging>) -> Result<(), RuleRefusal>
-    ensures { result ≡ cancel_on (option_map (λ r. r.now) rejudging.entry) }
+/// `RejudgingClosed` where it is applied or cancelled.
+pub fn decide_cancel(rejudging: &Rejudging) -> Result<(), RuleRefusal>
+    ensures { result ≡ cancel_on rejudging.now }
 {
-    match rejudging {
-        None => Err(RuleRefusal::NotFound),
-        Some(rejudging) if rejudging.state == RejudgingState::Open => Ok(()),
-        Some(_) => Err(RuleRefusal::RejudgingClosed),
+    match rejudging.state {
+        RejudgingState::Open => Ok(()),
+        RejudgingState::Applied | RejudgingState::Cancelled => Err(RuleRefusal::RejudgingClosed),
     }
 }

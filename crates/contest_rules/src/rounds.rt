@@ -40,8 +40,15 @@ pub(crate) fn next_round(rounds: &Rounds, team: usize, number: usize) -> usize
     requires { count_in rounds.now team number + 1 < 2 ^ 64 }
     ensures { result ≡ count_in rounds.now team number + 1 }
 {
+    count_of(rounds, team, number) + 1
+}
+
+/// How often a submission was released.
+pub(crate) fn count_of(rounds: &Rounds, team: usize, number: usize) -> usize
+    ensures { result ≡ count_in rounds.now team number }
+{
     match rounds.get(&(team, number)) {
-        Some(count) => *count + 1,
-        None => 1,
+        Some(count) => *count,
+        None => 0,
     }
 }

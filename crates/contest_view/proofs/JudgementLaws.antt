@@ -22,7 +22,7 @@ judgements_alike a now x y held alike =
     ap (λ f. map (item_of f) (seen_judgements a now x)) alike.fixed ∙ ap (λ vs. map (item_of y.fixed) (filter_map judged vs)) (seen_alike a now x y held alike) in
     (ap array_of same, λ id. ap (λ items. found_in items id) same)
 
-no_jury : (a : Audience) → a ≢ audience.Jury → is_jury a ≡ false
+pub no_jury : (a : Audience) → a ≢ audience.Jury → is_jury a ≡ false
 no_jury audience.Public h = refl
 no_jury (audience.Team number) h = refl
 no_jury audience.Jury h = absurd (h refl)

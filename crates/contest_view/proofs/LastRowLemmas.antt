@@ -1,9 +1,8 @@
 -- The last of the rows on a submission, found in one pass.
 use Rattle.std.proofs.Common.{◌≡◌, ◌<◌, ◌+◌, ◌∙◌, ℕ, Bool, true, false, cond, List, [], ◌∷◌, ◌++◌, append-nil, length, map, take, get_or, Option, Some, None, refl, sym, ap}
 use Rattle.std.specs.Prelude.{filter, slice_get, if◌then◌else◌}
-use Rattle.std.specs.List.{flat_map, last_or}
-use Rattle.std.specs.Option.{option_map, option_map_or, option_and_then}
-use Rattle.std.proofs.lemmas.Grind.{flat_map-append}
+use Rattle.std.specs.List.{last_or}
+use Rattle.std.specs.Option.{option_map, option_and_then}
 use Rattle.std.proofs.lemmas.List.{take_more}
 use Rattle.std.proofs.lemmas.List.Elements.{filter-append}
 use Rattle.std.proofs.lemmas.Option.{slice_get-get_or}

@@ -18,3 +18,5 @@ pub mod JudgementLemmas
 pub mod JudgementIds
 pub mod JudgementLaws
 pub mod ProposalLemmas
+pub mod RejudgingLemmas
+pub mod RejudgingLaws

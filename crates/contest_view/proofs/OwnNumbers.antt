@@ -1,5 +1,5 @@
 -- A team's submissions are numbered one after another, with or without their files.
-use Rattle.std.proofs.Common.{None, ◌≡◌, ℕ, Bool, true, false, cond, List, [], ◌∷◌, length, map, Some, refl, sym, ap}
+use Rattle.std.proofs.Common.{None, ◌≡◌, ℕ, Bool, true, false, cond, List, [], ◌∷◌, length, map, Some, refl, ap}
 use Rattle.std.specs.Prelude.{◌==◌, ◌&&◌, find, filter}
 use Rattle.std.specs.List.{range_with_len, list_all}
 use Rattle.std.proofs.lemmas.Slice.Eq.{bytes_eq-Decides}

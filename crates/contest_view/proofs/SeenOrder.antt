@@ -1,7 +1,5 @@
 -- The submissions that an audience sees are seen of those that stand.
-use Rattle.std.proofs.Common.{◌≡◌, ◌∙◌, ℕ, Bool, true, false, List, Option, Some, None, refl, sym, ap}
-use Rattle.std.specs.Prelude.{if◌then◌else◌}
-use Rattle.std.specs.Option.{option_and_then}
+use Rattle.std.proofs.Common.{◌≡◌, ◌∙◌, ℕ, true, List, Option, Some, sym, ap}
 use Rattle.serde_json.specs.Data.{Data}
 use Rattle.std.specs.List.{filter_map}
 use Rattle.contest_types.specs.Loads.{without_file, loaded_submissions}

@@ -17,7 +17,7 @@ use Rattle.contest_types.specs.declared.audience.Audience.{Audience}
 use Rattle.contest_types.specs.declared.submission.Submission.{Submission}
 use Rattle.contest_types.proofs.InOrderLemmas.{find_has, map_has, none_passes}
 use Rattle.contest_types.proofs.Rising.{find_passes}
-use Rattle.contest_objects.specs.Items.{Item, IsListed, array_of, found_in, has_this_id, object_in}
+use Rattle.contest_objects.specs.Items.{Item, IsListed, array_of, found_in, has_this_id}
 use Rattle.contest_objects.specs.Objects.{submission_data}
 use Rattle.contest_view.specs.Reads.{named_submission, submission_found, submission_item, submissions_data}
 use Rattle.contest_view.specs.Rows.{row_cmp, row_item}

@@ -1,5 +1,5 @@
 -- What holds of all that is read, in the subject's words. Each is the contract of a function of src/laws.rt.
-use Rattle.std.specs.Prelude.{◌≡◌, ℕ, true, List, Some, None, if◌then◌else◌}
+use Rattle.std.specs.Prelude.{◌≡◌, ◌≢◌, ℕ, true, List, [], Some, None, if◌then◌else◌}
 use Rattle.std.specs.Option.{option_and_then}
 use Rattle.contest_types.specs.Alike.{Alike, MayBeHeld}
 use Rattle.contest_types.specs.Loads.{file_of, loaded_submissions}
@@ -9,14 +9,17 @@ use Rattle.contest_types.specs.State.{ContestState}
 use Rattle.contest_types.specs.Sight.{sees_submission, seen_submission}
 use Rattle.contest_types.specs.Valid.{is_valid}
 use Rattle.contest_types.specs.declared.audience.Audience.{Audience}
+use Rattle.contest_types.specs.declared.audience.Audience.TheVariants.{Jury}
 use Rattle.contest_types.specs.declared.submission.Submission.{Submission}
 use Rattle.contest_types.specs.VisibleIds.{submission_id}
 use Rattle.contest_view.specs.Clarifications.{clarifications_data, clarification_found}
 use Rattle.contest_view.specs.FileReads.{file_found, file_place}
+use Rattle.contest_objects.specs.Items.{array_of}
 use Rattle.contest_objects.specs.Objects.{submission_object}
 use Rattle.contest_view.specs.Reads.{submissions_data, submission_found}
 use Rattle.contest_view.specs.Judgements.{judgements_data, judgement_found}
 use Rattle.contest_view.specs.Proposals.{proposals_data}
+use Rattle.contest_view.specs.Rejudgings.{rejudgings_data, rejudging_found}
 use Rattle.contest_view.specs.Scoreboards.{scoreboard_data}
 
 -- until the thaw, alike contests give an audience the same submissions to read, all of them and by any id
@@ -63,6 +66,11 @@ AlikeReadTheSameJudgements =
 -- and the same proposals, which are none
 abbrev pub AlikeReadTheSameProposals : Type 0
 AlikeReadTheSameProposals = (a : Audience) (now : ℕ) (x y : ContestState) → MayBeHeld a now x → Alike a x y → proposals_data a now x ≡ proposals_data a now y
+
+-- who isn't of the jury reads no rejudging, and by no number
+abbrev pub OnlyTheJuryReadsRejudgings : Type 0
+OnlyTheJuryReadsRejudgings =
+    (a : Audience) (x : ContestState) → a ≢ Jury → (rejudgings_data a x ≡ array_of []) × ((id : List ℕ) → rejudging_found a x id ≡ None)
 
 -- alike contests give an audience the same clarifications to read, all of them and by any id: of those between others it
 -- hears nothing

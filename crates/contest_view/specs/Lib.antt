@@ -7,4 +7,5 @@ pub mod Scoreboards
 pub mod LastRows
 pub mod Judgements
 pub mod Proposals
+pub mod Rejudgings
 pub mod Laws

@@ -1,6 +1,6 @@
 //! Laws of what is shown: functions that do nothing, and whose contracts say what holds of every
 //! contest.
-ghost use Rattle.contest_view.specs.Laws.{AlikeReadTheSame, AlikeReadTheSameFiles, SeenIsFound, NothingElseIsFound, FilesAreForTheirTeams, PlacedFileIsFound, AlikeReadTheSameJudgements, AlikeReadTheSameProposals, AlikeReadTheSameClarifications, AlikeShowTheSameScoreboard};
+ghost use Rattle.contest_view.specs.Laws.{AlikeReadTheSame, AlikeReadTheSameFiles, SeenIsFound, NothingElseIsFound, FilesAreForTheirTeams, PlacedFileIsFound, AlikeReadTheSameJudgements, AlikeReadTheSameProposals, AlikeReadTheSameClarifications, AlikeShowTheSameScoreboard, OnlyTheJuryReadsRejudgings};
 
 /// Until the thaw, contests that are alike for an audience give it the same submissions to read, all
 /// of them and by any id.
@@ -44,6 +44,11 @@ pub fn judgements_alike()
 /// And no proposals, whatever judges propose.
 pub fn proposals_alike()
     ensures { AlikeReadTheSameProposals }
+{}
+
+/// Who isn't of the jury reads no rejudging, whichever are opened, judged, applied or cancelled.
+pub fn only_the_jury_reads_rejudgings()
+    ensures { OnlyTheJuryReadsRejudgings }
 {}
 
 /// Contests that are alike for an audience give it the same clarifications to read, all of them and by

@@ -1,5 +1,5 @@
 //! What an audience is shown of a contest, and in which order: submissions and their verdicts,
-//! clarifications, the scoreboard.
+//! clarifications, rejudgings, the scoreboard.
 #![tactic(auto)]
 
 mod cells;
@@ -9,6 +9,7 @@ mod last_rows;
 pub mod laws;
 mod named;
 mod proposals;
+mod rejudgings;
 mod scoreboard;
 mod seen;
 mod submissions;
@@ -16,8 +17,9 @@ mod submissions;
 pub use cells::{board_for, board_found, cells_for};
 pub use clarifications::{clarification_by_id, clarifications_value};
 pub use judgements::{judgement_by_id, judgements_value};
-pub use named::named_submission;
+pub use named::{NumberedRejudging, named_rejudging, named_submission};
 pub use proposals::proposals_value;
+pub use rejudgings::{rejudging_by_id, rejudgings_value};
 pub use scoreboard::{board_value, scoreboard_value};
 pub use seen::Seen;
 pub use submissions::{compare_submissions, file_place, submission_by_id, submissions_value};

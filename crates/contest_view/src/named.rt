@@ -1,14 +1,15 @@
-//! The submission that an id names.
-ghost use Rattle.std.specs.Prelude.{◌≡◌, true, option_map};
+//! The submission, and the rejudging, that an id names.
+ghost use Rattle.std.specs.Prelude.{◌≡◌, true, option_map, slice_get};
 ghost use Rattle.std.specs.Option.{option_to_list};
 ghost use Rattle.contest_types.specs.Loads.{loaded_submissions};
 ghost use Rattle.contest_types.specs.State.{ContestState};
 ghost use Rattle.contest_types.specs.Valid.{is_valid};
 ghost use Rattle.contest_view.specs.Reads.{named_submission};
+ghost use Rattle.contest_view.specs.Rejudgings.{named_rejudging};
 
 use contest_lists::Lists;
-use contest_objects::submission_numbers;
-use contest_types::Submission;
+use contest_objects::{rejudging_number, submission_numbers};
+use contest_types::{Rejudging, Submission};
 
 /// The submission with an id, byte for byte, whoever sees it. It is as quick whatever was submitted.
 pub fn named_submission<'a>(lists: &'a Lists, id: &[u8]) -> Option<&'a Submission>
@@ -30,4 +31,30 @@ pub(crate) fn named_rows<'a>(lists: &'a Lists, id: &[u8]) -> &'a [Submission]
         Some(submission) => std::slice::from_ref(submission),
         None => &[],
     }
+}
+
+/// A rejudging, and its number.
+#[derive(Clone, Copy)]
+pub struct NumberedRejudging<'a> {
+    /// Its number, from 1.
+    pub number: usize,
+    /// The rejudging.
+    pub rejudging: &'a Rejudging,
+}
+
+/// The rejudging whose number an id is, in decimal digits without leading zeros. It is as quick whatever
+/// was opened.
+pub fn named_rejudging<'a>(lists: &'a Lists, id: &[u8]) -> Option<NumberedRejudging<'a>>
+    ensures { (x : ContestState) → is_valid x ≡ true → lists.now.rejudgings ≡ x.rejudgings
+        → named_rejudging id.now x.rejudgings ≡ option_map (λ r. (r.number, r.rejudging.now)) result }
+{
+    let number = rejudging_number(id)?;
+    let rejudging = rejudging_at(lists, number.checked_sub(1)?)?;
+    Some(NumberedRejudging { number, rejudging })
+}
+
+fn rejudging_at(lists: &Lists, place: usize) -> Option<&Rejudging>
+    ensures { option_map (λ r. r.now) result ≡ slice_get lists.now.rejudgings place }
+{
+    lists.rejudgings().get(place)
 }

@@ -2,17 +2,17 @@
 ghost use Rattle.std.specs.Prelude.{◌≡◌, ℕ, IfOk, false, option_map};
 ghost use Rattle.serde_json.specs.View.{view};
 ghost use Rattle.serde_json.specs.Written.{has_float};
-ghost use Rattle.contest_types.specs.Masks.{is_jury};
 ghost use Rattle.contest_types.specs.State.{ContestState, of_proposal, of_release};
 ghost use Rattle.contest_view.specs.SeenLists.{Shows};
 ghost use Rattle.contest_view.specs.LastRows.{last_in, last_row};
 ghost use Rattle.contest_view.specs.Proposals.{open_of, proposals_data};
 
 use crate::last_rows::{LastPlaces, last_on, last_places};
+use crate::seen::is_jury;
 use crate::{Seen, compare_submissions};
 use contest_lists::Lists;
 use contest_objects::{Collection, Ordered, has_submission_id, list, proposal_value};
-use contest_types::{Audience, Proposal, Submission};
+use contest_types::{Proposal, Submission};
 use serde_json::Value;
 use std::alloc::{AllocError, Global};
 use std::cmp::Ordering;
@@ -109,13 +109,4 @@ pub fn proposals_value(alloc: Global, seen: &Seen<'_>) -> Result<Value, AllocErr
     let proposals = Proposals::new(alloc, lists)?;
     let value = list(alloc, &proposals, rows)?;
     Ok(value)
-}
-
-fn is_jury(audience: Audience) -> bool
-    ensures { result ≡ is_jury audience }
-{
-    match audience {
-        Audience::Jury => true,
-        Audience::Public | Audience::Team(_) => false,
-    }
 }

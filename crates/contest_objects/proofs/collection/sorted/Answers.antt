@@ -1,5 +1,4 @@
-use Rattle.std.proofs.Common.{rules, is_lt, map, subst}
-use Rattle.std.specs.List.Sorted.{IsPermutation}
+use Rattle.std.proofs.Common.{rules, is_lt}
 use Rattle.std.proofs.lemmas.Fn.{always_returns_same}
 use Rattle.std.proofs.lemmas.List.Sorted.{IsPermutation-map, ranks_by}
 use Rattle.contest_objects.proofs.ListingLemmas.{sorted_map}

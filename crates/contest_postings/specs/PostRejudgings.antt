@@ -1,0 +1,78 @@
+-- The jury opens rejudgings, judges their members, applies them or cancels them (DOMjudge manual, "Rejudging").
+use Rattle.std.specs.Prelude.{ℕ, ◌+◌, List, [], ◌∷◌, length, Some, None, Result, Err}
+use Rattle.serde_json.specs.Data.{Data}
+use Rattle.contest_types.specs.State.{FixedPart, ContestState, with_member_state}
+use Rattle.contest_types.specs.declared.entry.Entry.{Entry}
+use Rattle.contest_types.specs.declared.entry.Entry.TheVariants.{NewRejudging, SetMember, SetRejudging}
+use Rattle.contest_types.specs.declared.rejudging.Rejudging.{Rejudging}
+use Rattle.contest_types.specs.declared.rejudging.RejudgingState.TheVariants.{Applied, Cancelled}
+use Rattle.contest_types.specs.declared.submission.Release.{Release}
+use Rattle.contest_rules.specs.Opening.{open_rejudging}
+use Rattle.contest_rules.specs.Rejudging.{applied_entries, apply_on, cancel_on, rejudge_on}
+use Rattle.contest_rules.specs.Verdicts.{named_verdict}
+use Rattle.contest_rules.specs.declared.opening.WantedRejudging.{WantedRejudging}
+use Rattle.contest_rules.specs.declared.rejudging.MemberChange.{MemberChange}
+use Rattle.contest_rules.specs.declared.rule_refusal.RuleRefusal.{RuleRefusal}
+use Rattle.contest_rules.specs.declared.rule_refusal.RuleRefusal.TheVariants.{NotFound}
+use Rattle.contest_objects.specs.RejudgingObjects.{rejudging_data}
+use Rattle.contest_requests.specs.JuryVerdicts.{IsSoundVerdict}
+use Rattle.contest_view.specs.Rejudgings.{named_rejudging}
+use Rattle.contest_postings.specs.DoneThings.{Done, done_as, ruled_with}
+use Rattle.contest_postings.specs.declared.opening.OpenedRejudging.{OpenedRejudging}
+use Rattle.contest_postings.specs.declared.rejudging.RejudgingChange.{RejudgingChange}
+use Rattle.contest_postings.specs.declared.rejudging.RejudgingStep.{RejudgingStep}
+use Rattle.contest_postings.specs.declared.rejudging.RejudgingStep.TheVariants.{Judge, Apply, Cancel}
+
+-- one that is opened has the number after those that were opened before
+abbrev pub opened : WantedRejudging → ContestState → Result OpenedRejudging RuleRefusal
+opened w x =
+    ruled_with (λ r. record { number = length x.rejudgings + 1; rejudging = r }) (open_rejudging x.fixed x.submissions x.releases x.rejudgings w)
+
+abbrev pub opened_object : FixedPart → OpenedRejudging → Data
+opened_object f o = rejudging_data f.settings o.number o.rejudging
+
+abbrev pub opened_entries : OpenedRejudging → List Entry
+opened_entries o = NewRejudging o.rejudging ∷ []
+
+-- what becomes of a rejudging that the jury opens
+abbrev pub opening_done : WantedRejudging → ContestState → Result Done RuleRefusal
+opening_done w x = done_as (opened_object x.fixed) opened_entries (opened w x)
+
+-- a rejudging with a member in another state
+abbrev pub member_changed : (number : ℕ) → Rejudging → MemberChange → RejudgingChange
+member_changed number r c = record { number = number; rejudging = with_member_state c.place c.state r; entries = SetMember number c.place c.state ∷ [] }
+
+-- one that is applied, with its releases
+abbrev pub applied : (number : ℕ) → Rejudging → List Release → RejudgingChange
+applied number r releases = record { number = number; rejudging = record r { state = Applied }; entries = applied_entries number releases }
+
+-- one that is cancelled releases nothing
+abbrev pub cancelled : (number : ℕ) → Rejudging → RejudgingChange
+cancelled number r = record { number = number; rejudging = record r { state = Cancelled }; entries = SetRejudging number Cancelled ∷ [] }
+
+-- what is known of a step once it is read: the judge's account is there
+abbrev pub IsSoundStep : FixedPart → RejudgingStep → Type 0
+IsSoundStep f (Judge v) = IsSoundVerdict f v
+IsSoundStep f Apply = Unit {0}
+IsSoundStep f Cancel = Unit {0}
+
+-- what a step makes of a rejudging and its number
+abbrev pub stepped : (now : ℕ) → RejudgingStep → ContestState → ℕ × Rejudging → Result RejudgingChange RuleRefusal
+stepped now (Judge v) x p = ruled_with (member_changed p.0 p.1) (rejudge_on x.fixed.settings.head.verification p.1 (named_verdict x.fixed x.submissions v.wanted) v.account)
+stepped now Apply x p = ruled_with (applied p.0 p.1) (apply_on x.releases now p.1)
+stepped now Cancel x p = ruled_with (λ done. cancelled p.0 p.1) (cancel_on p.1)
+
+-- the rejudging that the path names comes first
+abbrev pub changed : (now : ℕ) → (id : List ℕ) → RejudgingStep → ContestState → Result RejudgingChange RuleRefusal
+changed now id step x = elim (named_rejudging id x.rejudgings) [ None ↦ Err NotFound | (Some p) ↦ stepped now step x p ]
+
+-- it is answered as it is after the change
+abbrev pub change_object : FixedPart → RejudgingChange → Data
+change_object f c = rejudging_data f.settings c.number c.rejudging
+
+abbrev pub change_entries : RejudgingChange → List Entry
+change_entries c = c.entries
+
+-- what becomes of what the jury does with a rejudging
+abbrev pub rejudging_done : (now : ℕ) → (id : List ℕ) → RejudgingStep → ContestState → Result Done RuleRefusal
+rejudging_done now id step x = done_as (change_object x.fixed) change_entries (changed now id step x)

@@ -1,0 +1,127 @@
+//! How the submissions stand that are named for a rejudging.
+ghost use Rattle.std.specs.Prelude.{◌≡◌, ◌||◌, ℕ, IfOk, map};
+ghost use Rattle.std.specs.List.{list_any};
+ghost use Rattle.contest_types.specs.State.{SubmissionRef, names, of_member, of_submission};
+ghost use Rattle.contest_rules.specs.Candidates.{candidate_by, is_in, members_if_open};
+ghost use Rattle.contest_rules.specs.Opening.{candidate_of, is_rejudged, member_of};
+
+use crate::rounds::{Rounds, count_of, rounds_of};
+use contest_types::{Member, MemberState, Rejudging, RejudgingState, Release, Rows, Submission};
+use std::alloc::{AllocError, Global};
+use std::collections::HashSet;
+
+/// A submission that is named for a rejudging, and how it stands.
+#[derive(Clone, Copy)]
+pub(crate) struct Candidate {
+    /// The place of its team, from 0.
+    pub team: usize,
+    /// Which of the team's submissions it is, from 1.
+    pub number: usize,
+    /// Whether it has a release.
+    pub is_released: bool,
+    /// Whether it is in an open rejudging.
+    pub is_rejudged: bool,
+}
+
+impl Candidate {
+    /// A member that waits for its verdict.
+    pub fn member(self) -> Member
+        ensures { result ≡ member_of self }
+    {
+        Member {
+            team: self.team,
+            number: self.number,
+            state: MemberState::Empty,
+        }
+    }
+}
+
+/// Submissions, by the place of the team, from 0, and the number, from 1.
+type Members = HashSet<(usize, usize)>;
+
+/// What was released, and what is judged again.
+#[derive(Drop)]
+struct Judged {
+    rounds: Rounds,
+    again: Members,
+}
+
+impl Judged {
+    fn new(
+        alloc: Global,
+        releases: &[Release],
+        rejudgings: &[Rejudging],
+    ) -> Result<Judged, AllocError>
+        ensures { IfOk result (λ judged. (s : SubmissionRef) → candidate_by judged.rounds judged.again s ≡ candidate_of releases.now rejudgings.now s) }
+    {
+        let rounds = rounds_of(alloc, releases)?;
+        let again = judged_again(alloc, rejudgings)?;
+        Ok(Judged { rounds, again })
+    }
+
+    fn candidate(&self, submission: &Submission) -> Candidate
+        ensures { result ≡ candidate_by self.now.rounds self.now.again (of_submission submission.now) }
+    {
+        let (team, number) = (submission.team, submission.number);
+        Candidate {
+            team,
+            number,
+            is_released: count_of(&self.rounds, team, number) > 0,
+            is_rejudged: self.again.contains(&(team, number)),
+        }
+    }
+}
+
+/// How each of these submissions stands: known in one pass over the releases and the rejudgings.
+///
+/// # Errors
+///
+/// Want of memory alone.
+pub(crate) fn candidates_of(
+    alloc: Global,
+    named: &[&Submission],
+    releases: &[Release],
+    rejudgings: &[Rejudging],
+) -> Result<Rows<Candidate>, AllocError>
+    ensures { IfOk result (λ candidates. candidates ≡ map (candidate_of releases.now rejudgings.now) (map (λ s. of_submission s.now) named.now)) }
+{
+    let judged = Judged::new(alloc, releases, rejudgings)?;
+    let mut candidates = Rows::new(alloc);
+    for submission in named {
+        candidates.push(judged.candidate(submission))?;
+    }
+    Ok(candidates)
+}
+
+// The members of all open rejudgings.
+fn judged_again(alloc: Global, rejudgings: &[Rejudging]) -> Result<Members, AllocError>
+    ensures { IfOk result (λ again. (team number : ℕ) → is_in again team number ≡ is_rejudged team number rejudgings.now) }
+{
+    let mut again = HashSet::new(alloc);
+    for rejudging in rejudgings {
+        let more = with_members(again, members_if_open(rejudging))?;
+        again = more;
+    }
+    Ok(again)
+}
+
+// With these members too.
+fn with_members(again: Members, members: &[Member]) -> Result<Members, AllocError>
+    ensures { IfOk result (λ more. (team number : ℕ) → is_in more team number ≡ (is_in again team number || list_any (λ m. names team number (of_member m)) members.now)) }
+{
+    let mut more = again;
+    for member in members {
+        more.insert((member.team, member.number))?;
+    }
+    Ok(more)
+}
+
+// The members of a rejudging that is open; those of another count no more.
+fn members_if_open(rejudging: &Rejudging) -> &[Member]
+    ensures { result.now ≡ members_if_open rejudging.now }
+{
+    match rejudging.state {
+        RejudgingState::Open => rejudging.members.as_slice(),
+        RejudgingState::Applied | RejudgingState::Cancelled => &[],
+    }
+}
