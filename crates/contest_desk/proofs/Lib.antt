@@ -2,6 +2,7 @@ pub mod ServingLemmas
 pub mod DoingLemmas
 pub mod KeepLemmas
 pub mod UnseenLemmas
+pub mod RejudgingLemmas
 pub mod QuietSteps
 mod ExamplesUnseen
 pub mod FaultLemmas

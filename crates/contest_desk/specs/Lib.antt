@@ -1,6 +1,7 @@
 pub mod Serving
 pub mod Unseen
 pub mod UnseenLaws
+pub mod RejudgingLaws
 pub mod Laws
 pub mod Imports
 pub mod Items

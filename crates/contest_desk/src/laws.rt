@@ -2,6 +2,7 @@
 //! every run. All of them stand here, by subject in the modules beside.
 ghost use Rattle.contest_desk.specs.Laws.{ImportedAgainAddsNothing, ImportsKeepValid, ImportsNeverFail};
 
+pub use crate::rejudgings::{applied_is_unseen, applied_whole, unapplied_is_unseen};
 pub use crate::repeats::{posts_repeat_once, repeats_once, runs_grow};
 pub use crate::two_runs::{moves_stay_alike, runs_alike};
 pub use crate::unseen::{

@@ -9,6 +9,7 @@ mod in_memory;
 mod item;
 mod keep;
 pub mod laws;
+mod rejudgings;
 mod repeats;
 mod run;
 mod serve;
