@@ -30,6 +30,7 @@ from lib.demo import AT_REHEARSAL, REHEARSAL, START
 from lib.desk_opinion import moment
 from lib.import_opinion import compact
 from lib.program import ROOT, Program
+from lib.rejudger import Rejudger
 from lib.replay_opinion import reltime_text
 from lib.server import Server
 from lib.sqlite import insert, opened
@@ -147,7 +148,7 @@ def milliseconds_of(text):
     return START + ((hours - 9) * 3600 + minutes * 60 + seconds) * 1000 + int(found[4] or 0)
 
 
-class Asker(Clarifier):
+class Asker(Clarifier, Rejudger):
     """What is asked next, by a seed."""
 
     def submission(self, contest):
@@ -156,8 +157,9 @@ class Asker(Clarifier):
 
     def request(self, contest):
         """Who asks, a key, a method, a path and a body."""
-        if self.random.random() < 0.35:
-            return self.about_clarifications(contest, [row for row, _, _ in ACCOUNTS])
+        what, accounts = self.random.random(), [row for row, _, _ in ACCOUNTS]
+        if what < 0.5:
+            return (self.about_clarifications if what < 0.25 else self.about_rejudgings)(contest, accounts)
         role = self.random.random()
         if role < 0.3:
             team = self.one(["1", "2", "3", "9"])
@@ -169,7 +171,7 @@ class Asker(Clarifier):
             return judge, None, "POST", self.one(["/jury/proposals", "/jury/verifications"]), compact(body)
         who = self.often(f"token-{self.one(ACCOUNTS)[0]}", ["public"], 0.75)
         which = self.submission(contest)
-        paths = ["scoreboard", "scoreboard", "judgements", f"judgements/{which}.{self.often('1', ['2', '01'], 0.9)}", "submissions",
+        paths = ["scoreboard", "scoreboard", "judgements", f"judgements/{which}.{self.often('1', ['2', '2', '3', '01'], 0.7)}", "submissions",
                  f"submissions/{which}", f"submissions/{which}/files", "state"]  # fmt: skip
         path = self.often(f"{AT_REHEARSAL}/{self.one(paths)}", ["/jury/proposals", "/jury/verifications"], 0.85)
         return who, None, self.often("GET", ["HEAD"], 0.95), path, ""

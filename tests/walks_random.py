@@ -20,6 +20,7 @@ from lib.demo import AT_REHEARSAL, REHEARSAL, START
 from lib.desk_opinion import moment
 from lib.import_opinion import HEADERS, compact
 from lib.program import Program, ran
+from lib.rejudger import Rejudger
 
 SETTINGS = ["judgement-types", "languages", "groups", "problems", "teams"]
 NAMES = ["Alpha", "Beta", "Gamma, the third", 'The "Deltas"', "Łódź", "東京", ""]
@@ -30,7 +31,7 @@ KEYS = [None, None, "k1", "k2", "k3", "?"]
 FILES = [b"abc", b"", b"abd", bytes(7)]
 
 
-class Asker(Clarifier):
+class Asker(Clarifier, Rejudger):
     """What is asked next, by a seed."""
 
     def settings_row(self, kind):
@@ -116,8 +117,9 @@ class Asker(Clarifier):
 
 def next_request(chance, contest):
     """Who asks, a key, a method, a path and a body."""
-    if chance.random.random() < 0.4:
-        return chance.about_clarifications(contest, ACCOUNTS)
+    what = chance.random.random()
+    if what < 0.5:
+        return (chance.about_clarifications if what < 0.3 else chance.about_rejudgings)(contest, ACCOUNTS)
     who = chance.often(f"token-{chance.one(ACCOUNTS)}", ["public", "bad token", "token-none"], 0.85)
     method, path, body = chance.request()
     return who, chance.one(KEYS) if method == "POST" and path.endswith("submissions") else None, method, path, body

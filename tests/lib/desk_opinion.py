@@ -2,7 +2,7 @@
 
 docs/FORMATS.md says what is asked and answered. It is written to be read beside that page and to share nothing with the
 program: whole lists, filtered and counted for each answer, and nothing kept up to date along the way. What imports add to a
-contest is told by import_opinion.py.
+contest is told by import_opinion.py, and what is answered about rejudgings by rejudging_opinion.py.
 """
 
 import base64
@@ -12,6 +12,7 @@ import datetime
 import hashlib
 import json
 
+from . import rejudging_opinion
 from .import_opinion import COLLECTIONS, Refused, compact, has_come, is_id, is_name, member
 from .replay_opinion import Fault, reltime_text
 
@@ -24,14 +25,16 @@ JURY_LIMIT = 100_000
 STATUSES = {
     "Malformed": 400, "UnknownToken": 401, "RoleForbids": 403, "NotFound": 404, "Method": 405, "BodyTooLarge": 413,
     "NotOpen": 409, "UnknownReference": 400, "EntryPointMissing": 400, "TeamLimit": 409, "KeyReused": 409, "AlreadyReleased": 409,
-    "NothingToVerify": 409, "SameJudge": 403, "TypeDiffers": 409,
+    "NothingToVerify": 409, "SameJudge": 403, "TypeDiffers": 409, "RejudgingIncomplete": 409, "InRejudging": 409,
+    "RejudgingClosed": 409,
 }  # fmt: skip
 
 
 def new_contest(head, start, thaw, finalized):
     """A contest with nothing in it: its head has id, name, duration, freeze, penalty and whether verdicts are verified; each
     mark is set or None."""
-    lists = ("types", "languages", "problems", "groups", "teams", "accounts", "submissions", "proposals", "releases", "clarifications")
+    settings = ("types", "languages", "problems", "groups", "teams", "accounts")
+    lists = (*settings, "submissions", "proposals", "releases", "clarifications", "rejudgings")
     return {**head, "start": start, "thaw": thaw, "finalized": finalized, **{name: [] for name in lists}}
 
 
@@ -396,6 +399,8 @@ def verify(contest, now, caller, body):
 def offered(contest, path):
     """What a path offers: the methods, the collection and the id in it."""
     pieces = path.split("/")
+    if (rejudgings := rejudging_opinion.offered(path)) is not None:
+        return rejudgings
     if path in ("/jury/proposals", "/jury/verifications"):
         return ["GET", "HEAD", "POST"] if pieces[2] == "proposals" else ["POST"], pieces[2], None
     if pieces in (["", "contests", contest["id"], "state"], ["", "contests", contest["id"], "scoreboard"]):
@@ -436,6 +441,11 @@ def value_of(contest, now, who, key, method, path, body):
     if method not in methods:
         raise Refused("Method", " Allow: " + ", ".join(methods))
     caller = caller_of(contest, who)
+    if name in ("rejudgings", *rejudging_opinion.STEPS):
+        if not is_jury(caller):
+            raise Refused("RoleForbids")
+        known = [submission_id(contest, one) for one in contest["submissions"]]
+        return rejudging_opinion.answered(contest, now, caller, known, method, name, which, body)
     if method == "POST" and name in ("proposals", "verifications"):
         return {"proposals": propose, "verifications": verify}[name](contest, now, caller, body)
     if method == "POST" and name == "clarifications":
