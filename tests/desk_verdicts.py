@@ -8,9 +8,10 @@ come the walks about verdicts and clarifications of crates/walks/stdin, reply by
 the jury may write to a team. Then N requests (20,000) made from a seed, by every role, before the freeze, in it and after it, and
 at last beside final results, which sqlite3 sets between two servers: the replies are those of lib/desk_opinion.py. Then N pairs
 (5,000) of worlds that a team, or the public, may not tell apart: they differ in hidden teams' submissions, in verdicts on others'
-frozen submissions, in others' clarifications, in which of these the jury answers, by whom and under which key, and in the order
-of acceptance, nothing else. Their rows are written by sqlite3, and each reply to that team, at one moment before the thaw, is the
-same in both. With --leak a verdict that the team may see differs too, and the pairs have to tell it.
+frozen submissions, in rejudgings, of which those that are applied change such verdicts alone, in others' clarifications, in which
+of these the jury answers, by whom and under which key, and in the order of acceptance, nothing else. Their rows are written by
+sqlite3, and each reply to that team, at one moment before the thaw, is the same in both. With --leak a verdict that the team may
+see differs too, and the pairs have to tell it.
 
 Takes faketime. Ends with the line `N passed, M failed`; the exit status is 0 if M is 0.
 """
@@ -30,13 +31,14 @@ from lib.demo import AT_REHEARSAL, REHEARSAL, START
 from lib.desk_opinion import moment
 from lib.import_opinion import compact
 from lib.program import ROOT, Program
-from lib.rejudger import Rejudger
+from lib.rejudger import AT_REJUDGINGS, NUMBERS, REASONS, Rejudger
 from lib.replay_opinion import reltime_text
 from lib.server import Server
 from lib.sqlite import insert, opened
 
 END = START + 18_000_000
 FREEZE = START + 14_400_000
+OPEN, APPLIED, CANCELLED = 0, 1, 2
 TYPES = [{"id": "AC", "name": "correct", "solved": True, "penalty": False},
          {"id": "WA", "name": "wrong answer", "solved": False, "penalty": True},
          {"id": "CE", "name": "compile error", "solved": False, "penalty": False}]  # fmt: skip
@@ -321,9 +323,38 @@ def partner_words(chance, rows, own):
     return mixed(chance, signed(chance, made))
 
 
-def write(database, rows, told):
-    """Puts the rows of a world, and its clarifications, into the tables in place of those that stand."""
-    for table in ("submissions", "proposals", "releases", "clarifications"):
+def is_held_back(own, row):
+    """Whether the verdicts of a submission are told to others than the team at a place alone."""
+    return row["team"] != own and (row["team"] == 2 or row["time"] >= FREEZE)
+
+
+def verdict_again(chance, state, row):
+    """A member's type, its account and whether it is ready; the type of one that is applied is released in the next round."""
+    verdict = chance.random.randint(0, 2)
+    if state == APPLIED:
+        row["types"].append(verdict)
+        return TYPES[verdict]["id"], None, 1
+    return chance.one([(None, None, 0), (TYPES[verdict]["id"], chance.one(["j1", "j2", "adm"]), 0), (TYPES[verdict]["id"], None, 1)])
+
+
+def judged_again(chance, rows, own):
+    """Rejudgings of a world: open and cancelled ones over any submissions that have releases, each in one that is open, and applied
+    ones over those of which the team at a place isn't told a verdict."""
+    made, held = [], set()
+    for _ in range(chance.random.randint(0, 4)):
+        state = chance.random.randint(OPEN, CANCELLED)
+        free = [row for row in rows if row["types"] and (state != OPEN or (row["team"], row["number"]) not in held)]
+        free = [row for row in free if state != APPLIED or is_held_back(own, row)]
+        members = chance.random.sample(free, min(len(free), chance.random.randint(1, 3)))
+        held |= {(row["team"], row["number"]) for row in members if state == OPEN}
+        judged = [(row["team"] + 1, row["number"], *verdict_again(chance, state, row)) for row in members]
+        made.append({"reason": chance.one(REASONS), "state": state, "members": judged})
+    return made
+
+
+def write(database, rows, told, again):
+    """Puts the rows of a world, its clarifications and its rejudgings into the tables in place of those that stand."""
+    for table in ("submissions", "proposals", "releases", "clarifications", "rejudgings", "members"):
         database.execute(f"DELETE FROM {table}")
     for seq, row in enumerate(rows, 1):
         file = bytes(row["number"] % 5)
@@ -340,18 +371,28 @@ def write(database, rows, told):
         whose = 0 if row["team"] is None else row["team"] + 1
         parts = ("account", "problem", "reply", "text", "time", "key")
         insert(database, "clarifications", (seq, whose, row["number"], int(row["is_by_jury"]), *(row[part] for part in parts)))
+    for number, rejudging in enumerate(again, 1):
+        insert(database, "rejudgings", (number, rejudging["reason"], rejudging["state"]))
+        for place, one in enumerate(rejudging["members"], 1):
+            insert(database, "members", (number, place, *one))
 
 
 def questions(rows, told, own, chance):
     """What the team asks in both worlds: a key, a method, a path and a body each. It posts between what it reads."""
     ids = [f"s{row['team'] + 1}-{row['number']}" for row in rows] or ["s1-1"]
     paths = ["scoreboard", "judgements", "submissions", f"judgements/{chance.one(ids)}.1", f"submissions/{chance.one(ids)}/files"]
-    paths += ["clarifications", *(f"clarifications/{chance.one(told)}" for _ in range(3))]
+    paths += ["clarifications", *(f"clarifications/{chance.one(told)}" for _ in range(3)), f"judgements/{chance.one(ids)}.{chance.one('23')}"]
+    number = chance.often(chance.one("1234"), NUMBERS)
     reads = [(None, "GET", f"{AT_REHEARSAL}/{path}", "") for path in paths]
+    reads += [(None, "GET", path, "") for path in (AT_REJUDGINGS, f"{AT_REJUDGINGS}/{number}")]
     posts = [(None, f"{AT_REHEARSAL}/submissions", '{"problem_id":"a","language_id":"cpp","files":[{"data":"YWJj"}]}')]
     for key in ("k1", "k2", None):
         row = {"text": chance.one(TEXTS[:2]), "problem_id": chance.one([None, "a"]), "reply_to_id": chance.often(None, told, 0.4)}
         posts.append((key, AT_ALL, compact(row)))
+    which, verdict = chance.one(ids), chance.one(TYPES)["id"]
+    posts.append((None, AT_REJUDGINGS, compact({"reason": "data", "submission_ids": [which]})))
+    judged = compact({"submission_id": which, "judgement_type_id": verdict})
+    posts += [(None, f"{AT_REJUDGINGS}/{number}/{step}", judged) for step in ("verdicts", "apply", "cancel")]
     return reads + [(key, "POST", path, body) for key, path, body in posts + own] + reads[2:3] + reads[5:6]
 
 
@@ -362,10 +403,10 @@ def repeats(told, own):
     return [(row["key"], AT_ALL, compact({name: row[part] for name, part in names.items()})) for row in asked]
 
 
-def answers(desk, folder, rows, told, who, now, asked):
+def answers(desk, folder, one_world, who, now, asked):
     """The replies to a team in one world."""
     with opened(folder / "cup.db") as database:
-        write(database, rows, told)
+        write(database, *one_world)
     server = Server(desk, folder, requests=len(asked))
     server.at(text_of(now))
     replies = [server.ask(sent(who, *one)) for one in asked]
@@ -385,12 +426,13 @@ def try_worlds(desk):
         who = "public" if own == len(TEAMS) else f"token-a{TEAMS[own][0][1:]}"
         rows, told_first = world(chance), told_words(chance)
         others, told_second = partner(chance, rows, own), partner_words(chance, told_first, own)
+        worlds = [(rows, told_first, judged_again(chance, rows, own)), (others, told_second, judged_again(chance, others, own))]
         seen = [row for row in others if row["team"] == own and row["types"]]
         if desk.options.leak and seen:
             seen[0]["types"][-1] = (seen[0]["types"][-1] + 1) % 3
         now, ids = START + chance.random.randint(0, 17_999_999), [id_of(row) for row in told_first + told_second] or ["g-1"]
         asked = questions(rows, ids, repeats(told_first, own), chance)
-        given = answers(desk, first, rows, told_first, who, now, asked), answers(desk, second, others, told_second, who, now, asked)
+        given = [answers(desk, folder, one_world, who, now, asked) for folder, one_world in zip((first, second), worlds)]
         if desk.options.leak:
             differed += given[0] != given[1]
             continue
