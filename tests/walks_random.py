@@ -20,7 +20,7 @@ from lib.demo import AT_REHEARSAL, REHEARSAL, START
 from lib.desk_opinion import moment
 from lib.import_opinion import HEADERS, compact
 from lib.program import Program, ran
-from lib.rejudger import Rejudger
+from lib.rejudger import JURY, Rejudger
 
 SETTINGS = ["judgement-types", "languages", "groups", "problems", "teams"]
 NAMES = ["Alpha", "Beta", "Gamma, the third", 'The "Deltas"', "Łódź", "東京", ""]
@@ -87,18 +87,19 @@ class Asker(Clarifier, Rejudger):
         body = {name: value for name, value in body.items() if value is not None or self.random.random() < 0.5}
         return self.often(compact(body), ["", "{", "[]", '{"files":[]}'], 0.97)
 
-    def proposal(self):
-        which = f"s{self.random.randint(1, 3)}-{self.random.randint(1, 4)}"
+    def proposal(self, contest):
+        made = [desk_opinion.submission_id(contest, one) for one in contest["submissions"]] or ["s1-1"]
+        which = self.often(self.one(made), [f"s{self.random.randint(1, 3)}-{self.random.randint(1, 4)}"], 0.8)
         body = {"submission_id": self.often(which, ["s1", "s1-01", 3], 0.95), "judgement_type_id": self.often("AC", ["WA", "CE", "TLE", None], 0.5)}
         return self.often(compact(body), ["", "7"], 0.97)
 
-    def request(self):
+    def request(self, contest):
         """A method, a path and a body."""
         if self.random.random() < 0.5:
             return "POST", self.often(f"{AT_REHEARSAL}/submissions", ["/contests/cup/submissions"], 0.98), self.post()
         if self.random.random() < 0.4:
             path = self.often("/jury/proposals", ["/jury/verifications"], 0.6)
-            return self.often("POST", ["GET", "HEAD", "PATCH"], 0.9), path, self.proposal()
+            return self.often("POST", ["GET", "HEAD", "PATCH"], 0.9), path, self.proposal(contest)
         if self.random.random() < 0.4:
             path = self.often(f"{AT_REHEARSAL}/scoreboard", [f"{AT_REHEARSAL}/judgements"], 0.5)
             ids = [f"/s{team}-{number}.{n}" for team in (1, 2, 3) for number in (1, 2) for n in (1, 1, 2)]
@@ -119,9 +120,10 @@ def next_request(chance, contest):
     """Who asks, a key, a method, a path and a body."""
     what = chance.random.random()
     if what < 0.5:
-        return (chance.about_clarifications if what < 0.3 else chance.about_rejudgings)(contest, ACCOUNTS)
+        return (chance.about_clarifications if what < 0.25 else chance.about_rejudgings)(contest, ACCOUNTS)
     who = chance.often(f"token-{chance.one(ACCOUNTS)}", ["public", "bad token", "token-none"], 0.85)
-    method, path, body = chance.request()
+    method, path, body = chance.request(contest)
+    who = chance.often(f"token-{chance.one(JURY)}", [who], 0.8) if path.startswith("/jury/") else who
     return who, chance.one(KEYS) if method == "POST" and path.endswith("submissions") else None, method, path, body
 
 
