@@ -52,7 +52,8 @@ class Desk(Server):
     def views(self):
         """What anyone sees of the contest."""
         paths = ("scoreboard", "judgements", "submissions", "judgements/s1-1.1", "judgements/s1-1.2")
-        return {(who, path): self.answer(who, "GET", f"{DEMO}/{path}") for who in ("public", "a1", "a2", "j1", "adm") for path in paths}
+        asked_for = [(who, f"{DEMO}/{path}") for who in ("public", "a1", "a2", "j1", "adm") for path in paths]
+        return {(who, path): self.answer(who, "GET", path) for who, path in asked_for}
 
     def cell(self):
         """The first team's on the first problem."""
@@ -189,10 +190,9 @@ def try_limits(desk):
     with opened(folder / "cup.db") as database:
         database.executemany("INSERT INTO rejudgings VALUES (?, 'data', 2)", ((number,) for number in range(3, LIMIT)))
     server = Desk(desk, folder)
-    for wanted in (rejudging(LIMIT, "open", ("s1-1", None)), refusal(409, "TeamLimit")):
-        given = server.answer("j1", "POST", "/jury/rejudgings", {"reason": "data", "submission_ids": ["s1-1"]})
+    for which, wanted in (("s1-1", rejudging(LIMIT, "open", ("s1-1", None))), ("s2-1", refusal(409, "TeamLimit"))):
+        given = server.answer("j1", "POST", "/jury/rejudgings", {"reason": "data", "submission_ids": [which]})
         desk.same("the last rejudging and one more", given, wanted)
-        desk.same("the last is cancelled", server.answer("j1", "POST", f"/jury/rejudgings/{LIMIT}/cancel")[0] // 100 in (2, 4), True)
     desk.same("all of them", len(server.answer("j1", "GET", "/jury/rejudgings")[1]), LIMIT)
     server.stop()
 
@@ -238,7 +238,8 @@ def shown(desk, folder, by_server):
         rows = server.answer("j1", "GET", f"{DEMO}/scoreboard")[1]["rows"]
         server.stop()
         return sum(row["score"]["num_solved"] == 1 for row in rows), state
-    status, out, err = desk.run(folder, "board", "cup.db", "--audience", "jury", "--at", "2024-03-02T09:05:00Z", "--format", "csv")
+    words = ("board", "cup.db", "--audience", "jury", "--at", "2024-03-02T09:05:00Z", "--format", "csv")
+    status, out, err = desk.run(folder, *words)
     solved = [line.split(",")[3] for line in out.split("\n")[1:-1]]
     return solved.count("1") if (status, err, len(solved)) == (0, "", MEMBER_LIMIT) else (status, err, len(solved)), None
 
@@ -261,7 +262,8 @@ def try_kills(desk):
     base, chance, kills, taken = filled(desk), random.Random(22), desk.options.kills, []
     for _ in range(5):
         folder, whole, seconds = posted(desk, base)
-        desk.note(whole.startswith(b"HTTP/1.1 200 OK\r\n") and whole.count(b'"ready":true') == MEMBER_LIMIT, f"applied: {whole[:300]!r}")
+        is_whole = whole.startswith(b"HTTP/1.1 200 OK\r\n") and whole.count(b'"ready":true') == MEMBER_LIMIT
+        desk.note(is_whole and whole.endswith(b'"state":"applied"}'), f"applied: {whole[:300]!r}")
         desk.same("the rows of one that is applied", tuple(asked(folder / "cup.db", COUNTS).split()), EVERY)
         taken.append(seconds)
     longest = 1.5 * statistics.median(taken)

@@ -31,7 +31,7 @@ from lib.demo import AT_REHEARSAL, REHEARSAL, START
 from lib.desk_opinion import moment
 from lib.import_opinion import compact
 from lib.program import ROOT, Program
-from lib.rejudger import AT_REJUDGINGS, NUMBERS, REASONS, Rejudger
+from lib.rejudger import AT_REJUDGINGS, JURY, NUMBERS, REASONS, Rejudger
 from lib.replay_opinion import reltime_text
 from lib.server import Server
 from lib.sqlite import insert, opened
@@ -173,8 +173,8 @@ class Asker(Clarifier, Rejudger):
             return judge, None, "POST", self.one(["/jury/proposals", "/jury/verifications"]), compact(body)
         who = self.often(f"token-{self.one(ACCOUNTS)[0]}", ["public"], 0.75)
         which = self.submission(contest)
-        paths = ["scoreboard", "scoreboard", "judgements", f"judgements/{which}.{self.often('1', ['2', '2', '3', '01'], 0.7)}", "submissions",
-                 f"submissions/{which}", f"submissions/{which}/files", "state"]  # fmt: skip
+        paths = ["scoreboard", "scoreboard", "judgements", f"judgements/{which}.{self.often('1', ['2', '2', '3', '01'], 0.7)}",
+                 "submissions", f"submissions/{which}", f"submissions/{which}/files", "state"]  # fmt: skip
         path = self.often(f"{AT_REHEARSAL}/{self.one(paths)}", ["/jury/proposals", "/jury/verifications"], 0.85)
         return who, None, self.often("GET", ["HEAD"], 0.95), path, ""
 
@@ -334,12 +334,13 @@ def verdict_again(chance, state, row):
     if state == APPLIED:
         row["types"].append(verdict)
         return TYPES[verdict]["id"], None, 1
-    return chance.one([(None, None, 0), (TYPES[verdict]["id"], chance.one(["j1", "j2", "adm"]), 0), (TYPES[verdict]["id"], None, 1)])
+    verdict, account = TYPES[verdict]["id"], chance.one(JURY)
+    return chance.one([(None, None, 0), (verdict, account, 0), (verdict, None, 1)])
 
 
 def judged_again(chance, rows, own):
-    """Rejudgings of a world: open and cancelled ones over any submissions that have releases, each in one that is open, and applied
-    ones over those of which the team at a place isn't told a verdict."""
+    """Rejudgings of a world: open and cancelled ones over any submissions with releases, of which each is in one that is open at
+    most, and applied ones over those of which the team at a place is told no verdict."""
     made, held = [], set()
     for _ in range(chance.random.randint(0, 4)):
         state = chance.random.randint(OPEN, CANCELLED)
@@ -381,7 +382,8 @@ def questions(rows, told, own, chance):
     """What the team asks in both worlds: a key, a method, a path and a body each. It posts between what it reads."""
     ids = [f"s{row['team'] + 1}-{row['number']}" for row in rows] or ["s1-1"]
     paths = ["scoreboard", "judgements", "submissions", f"judgements/{chance.one(ids)}.1", f"submissions/{chance.one(ids)}/files"]
-    paths += ["clarifications", *(f"clarifications/{chance.one(told)}" for _ in range(3)), f"judgements/{chance.one(ids)}.{chance.one('23')}"]
+    paths += ["clarifications", *(f"clarifications/{chance.one(told)}" for _ in range(3))]
+    paths += [f"judgements/{chance.one(ids)}.{chance.one('23')}"]
     number = chance.often(chance.one("1234"), NUMBERS)
     reads = [(None, "GET", f"{AT_REHEARSAL}/{path}", "") for path in paths]
     reads += [(None, "GET", path, "") for path in (AT_REJUDGINGS, f"{AT_REJUDGINGS}/{number}")]
