@@ -144,6 +144,7 @@ def try_session(desk):
     server = Desk(desk, folder)
     server.at("2024-03-02 09:40:00")
     desk.same("the same when the server was killed", server.views(), after)
+    desk.same("the rejudging then", server.answer("j1", "GET", FIRST), rejudging(1, "applied", ("s1-1", "WA")))
     server.stop()
     server = Desk(desk, other)
     server.at("2024-03-02 09:30:00")
