@@ -1,0 +1,6 @@
+pub mod StandingLemmas
+pub mod RecordLemmas
+pub mod SoFarLemmas
+pub mod AddableLemmas
+mod ExamplesVerdicts
+pub mod AgainLemmas

@@ -1,0 +1,4 @@
+pub mod StandingVerdicts
+pub mod VerdictFiles
+pub mod SoFar
+pub mod Laws
