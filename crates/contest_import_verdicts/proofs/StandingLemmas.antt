@@ -14,7 +14,7 @@ use Rattle.contest_types.specs.declared.limits.TheConstants.{PROPOSALS}
 use Rattle.contest_types.specs.declared.proposal.Proposal.{Proposal}
 use Rattle.contest_types.specs.declared.submission.Release.{Release}
 use Rattle.contest_types.proofs.PlaceLemmas.{and_left, and_right}
-use Rattle.contest_import_verdicts.specs.StandingVerdicts.{counted, first_of, next_count}
+use Rattle.contest_import_verdicts.specs.StandingVerdicts.{capped_count, first_of, next_count}
 
 abbrev is_own : (team number : ℕ) → Proposal → Bool
 is_own team number p = names team number (of_proposal p)
@@ -35,7 +35,7 @@ no_less n e k = grind (arith, nat_tests, e, k)
 the_last : (n : ℕ) → nat_lt (n + 1) PROPOSALS ≡ false → nat_lt n PROPOSALS ≡ true → PROPOSALS ≡ n + 1
 the_last n e k = grind (arith, nat_tests, e, k)
 
-counted_next : (n : ℕ) → counted (n + 1) ≡ next_count (counted n)
+counted_next : (n : ℕ) → capped_count (n + 1) ≡ next_count (capped_count n)
 counted_next n =
     let go : (a b : Bool) → nat_lt (n + 1) PROPOSALS ≡ a → nat_lt n PROPOSALS ≡ b → (if a then n + 1 else PROPOSALS) ≡ next_count (if b then n else PROPOSALS) = elim [
       | true ↦ elim [
@@ -49,17 +49,17 @@ counted_next n =
     ] in
     go (nat_lt (n + 1) PROPOSALS) (nat_lt n PROPOSALS) refl refl
 
--- one more is counted for its submission
-pub one_counted : (ps : List Proposal) (p : Proposal) (old new : ℕ → ℕ → ℕ) → ((team number : ℕ) → old team number ≡ counted (length (proposals_for team number ps)))
+-- one more is capped_count for its submission
+pub one_counted : (ps : List Proposal) (p : Proposal) (old new : ℕ → ℕ → ℕ) → ((team number : ℕ) → old team number ≡ capped_count (length (proposals_for team number ps)))
     → ((team number : ℕ) → new team number ≡ (if (p.team == team) && (p.number == number) then next_count (old p.team p.number) else old team number))
-    → (team number : ℕ) → new team number ≡ counted (length (proposals_for team number (ps ++ p ∷ [])))
+    → (team number : ℕ) → new team number ≡ capped_count (length (proposals_for team number (ps ++ p ∷ [])))
 one_counted ps p old new before after team number =
     let own = proposals_for team number ps in
-    let go : (b : Bool) → is_own team number p ≡ b → (if b then next_count (old p.team p.number) else old team number) ≡ counted (length (own ++ cond b (p ∷ []) [])) = elim [
-      | true ↦ λ e. ap next_count (at_own p team number old e ∙ before team number) ∙ (sym (counted_next (length own)) ∙ ap counted (sym (length-append own (p ∷ []))))
-      | false ↦ λ e. before team number ∙ ap (λ (qs : List Proposal). counted (length qs)) (sym (append-nil own))
+    let go : (b : Bool) → is_own team number p ≡ b → (if b then next_count (old p.team p.number) else old team number) ≡ capped_count (length (own ++ cond b (p ∷ []) [])) = elim [
+      | true ↦ λ e. ap next_count (at_own p team number old e ∙ before team number) ∙ (sym (counted_next (length own)) ∙ ap capped_count (sym (length-append own (p ∷ []))))
+      | false ↦ λ e. before team number ∙ ap (λ (qs : List Proposal). capped_count (length qs)) (sym (append-nil own))
     ] in
-    after team number ∙ (go (is_own team number p) refl ∙ ap (λ (qs : List Proposal). counted (length qs)) (sym (own_more team number ps p)))
+    after team number ∙ (go (is_own team number p) refl ∙ ap (λ (qs : List Proposal). capped_count (length qs)) (sym (own_more team number ps p)))
 
 abbrev imported_in : List Proposal → Option ℕ
 imported_in ps = option_map (λ (p : Proposal). p.verdict) (find is_imported ps)

@@ -25,8 +25,8 @@ abbrev pub next_count : ℕ → ℕ
 next_count n = if nat_lt n PROPOSALS then n + 1 else n
 
 -- so many, or as many as there may be
-abbrev pub counted : ℕ → ℕ
-counted n = if nat_lt n PROPOSALS then n else PROPOSALS
+abbrev pub capped_count : ℕ → ℕ
+capped_count n = if nat_lt n PROPOSALS then n else PROPOSALS
 
 abbrev pub first_of : Option ℕ → ℕ → ℕ
 first_of earlier verdict = option_map_or (λ (n : ℕ). n) earlier verdict
@@ -34,5 +34,5 @@ first_of earlier verdict = option_map_or (λ (n : ℕ). n) earlier verdict
 -- what is kept is what these proposals and releases say
 pub record Stand {H I S : Type 0} (imported : HashMap (ℕ × ℕ) ℕ H) (proposed : HashMap (ℕ × ℕ) ℕ I) (released : HashSet (ℕ × ℕ) S) (ps : List Proposal) (vs : List Release) : Type 0 where
   pub imported_are : (team number : ℕ) → value_at imported team number ≡ option_map (λ (p : Proposal). p.verdict) (find is_imported (proposals_for team number ps))
-  pub proposed_are : (team number : ℕ) → count_at proposed team number ≡ counted (length (proposals_for team number ps))
+  pub proposed_are : (team number : ℕ) → count_at proposed team number ≡ capped_count (length (proposals_for team number ps))
   pub released_are : (team number : ℕ) → is_in released team number ≡ is_released team number vs

@@ -87,9 +87,9 @@ fn take_all(
     now: Moment,
 ) -> Result<(), Refusal>
     requires { length records.old ≤ 2 ^ 63 }
-    ensures ok { OnOk result ((x : ContestState) → SoFar x lists.now so_far.old.standing.imported so_far.old.standing.proposed so_far.old.standing.released so_far.old.verdicts
+    ensures ok { OnOk result ((x : ContestState) → SoFar x lists.now so_far.old.standing.imported_verdicts so_far.old.standing.proposal_counts so_far.old.standing.released_submissions so_far.old.verdicts
         → after_records x now so_far.old.verdicts 1 records.old ≡ Ok so_far.new.verdicts) }
-    ensures err { IfErr result (λ e. (x : ContestState) → SoFar x lists.now so_far.old.standing.imported so_far.old.standing.proposed so_far.old.standing.released so_far.old.verdicts
+    ensures err { IfErr result (λ e. (x : ContestState) → SoFar x lists.now so_far.old.standing.imported_verdicts so_far.old.standing.proposal_counts so_far.old.standing.released_submissions so_far.old.verdicts
         → Refuses e (after_records x now so_far.old.verdicts 1 records.old)) }
 {
     for n in 1..u64::MAX {
@@ -110,10 +110,10 @@ fn take(
     lists: &Lists,
     now: Moment,
 ) -> Result<(), Refusal>
-    ensures ok { OnOk result ((x : ContestState) → SoFar x lists.now so_far.old.standing.imported so_far.old.standing.proposed so_far.old.standing.released so_far.old.verdicts
-        → SoFar x lists.now so_far.new.standing.imported so_far.new.standing.proposed so_far.new.standing.released so_far.new.verdicts
+    ensures ok { OnOk result ((x : ContestState) → SoFar x lists.now so_far.old.standing.imported_verdicts so_far.old.standing.proposal_counts so_far.old.standing.released_submissions so_far.old.verdicts
+        → SoFar x lists.now so_far.new.standing.imported_verdicts so_far.new.standing.proposal_counts so_far.new.standing.released_submissions so_far.new.verdicts
         × ((rest : List (List (List ℕ))) → after_records x now so_far.old.verdicts n (fields_of row.now ∷ rest) ≡ after_records x now so_far.new.verdicts (n + 1) rest)) }
-    ensures err { IfErr result (λ e. (x : ContestState) → SoFar x lists.now so_far.old.standing.imported so_far.old.standing.proposed so_far.old.standing.released so_far.old.verdicts
+    ensures err { IfErr result (λ e. (x : ContestState) → SoFar x lists.now so_far.old.standing.imported_verdicts so_far.old.standing.proposal_counts so_far.old.standing.released_submissions so_far.old.verdicts
         → (rest : List (List (List ℕ))) → Refuses e (after_records x now so_far.old.verdicts n (fields_of row.now ∷ rest))) }
 {
     match so_far.take(alloc, lists, now, row) {

@@ -20,11 +20,11 @@ type Numbers = HashMap<(usize, usize), usize>;
 #[derive(Drop)]
 pub(crate) struct StandingVerdicts {
     /// The verdict that was imported for a submission, by the place of the judgement type.
-    imported: Numbers,
+    imported_verdicts: Numbers,
     /// How many were proposed for it; where there are as many as there may be, that many.
-    proposed: Numbers,
+    proposal_counts: Numbers,
     /// The submissions that have a release.
-    released: HashSet<(usize, usize)>,
+    released_submissions: HashSet<(usize, usize)>,
 }
 
 impl StandingVerdicts {
@@ -38,10 +38,10 @@ impl StandingVerdicts {
         proposals: &[Proposal],
         releases: &[Release],
     ) -> Result<StandingVerdicts, AllocError>
-        ensures { IfOk result (λ v. Stand v.imported v.proposed v.released proposals.now releases.now) }
+        ensures { IfOk result (λ v. Stand v.imported_verdicts v.proposal_counts v.released_submissions proposals.now releases.now) }
     {
-        let standing = proposed(alloc, proposals)?;
-        released(standing, releases)
+        let standing = after_proposals(alloc, proposals)?;
+        with_releases(standing, releases)
     }
 
     /// Whether an imported verdict is added, whose submission and judgement type are there; where an
@@ -52,10 +52,13 @@ impl StandingVerdicts {
     /// `KeyReused` where one of another type was imported for the submission; else `TableFull` where as
     /// many verdicts were proposed for it as there may be, and `AlreadyReleased` where it has a release.
     pub(crate) fn addition(&self, proposal: &Proposal) -> Result<bool, Cause>
-        ensures { (x : ContestState) → Stand self.now.imported self.now.proposed self.now.released x.proposals x.releases
+        ensures { (x : ContestState) → Stand self.now.imported_verdicts self.now.proposal_counts self.now.released_submissions x.proposals x.releases
             → is_valid_proposal x proposal.now ≡ true → result ≡ verdict_addition x proposal.now }
     {
-        match self.imported.get(&(proposal.team, proposal.number)) {
+        match self
+            .imported_verdicts
+            .get(&(proposal.team, proposal.number))
+        {
             Some(earlier) => {
                 if *earlier == proposal.verdict {
                     Ok(false)
@@ -68,13 +71,13 @@ impl StandingVerdicts {
     }
 
     fn first_addition(&self, proposal: &Proposal) -> Result<bool, Cause>
-        ensures { (x : ContestState) → Stand self.now.imported self.now.proposed self.now.released x.proposals x.releases
+        ensures { (x : ContestState) → Stand self.now.imported_verdicts self.now.proposal_counts self.now.released_submissions x.proposals x.releases
             → result ≡ first_addition x proposal.now }
     {
         let submission = (proposal.team, proposal.number);
-        if count_at(&self.proposed, submission) >= PROPOSALS {
+        if count_at(&self.proposal_counts, submission) >= PROPOSALS {
             Err(Cause::TableFull)
-        } else if self.released.contains(&submission) {
+        } else if self.released_submissions.contains(&submission) {
             Err(Cause::AlreadyReleased)
         } else {
             Ok(true)
@@ -87,13 +90,13 @@ impl StandingVerdicts {
     ///
     /// Want of memory alone. Nothing is known then.
     pub(crate) fn take_proposal(&mut self, proposal: &Proposal) -> Result<(), AllocError>
-        ensures { OnOk result ((ps : List TheProposal) (vs : List TheRelease) → Stand self.old.imported self.old.proposed self.old.released ps vs
-            → Stand self.new.imported self.new.proposed self.new.released (ps ++ proposal.now ∷ []) vs) }
+        ensures { OnOk result ((ps : List TheProposal) (vs : List TheRelease) → Stand self.old.imported_verdicts self.old.proposal_counts self.old.released_submissions ps vs
+            → Stand self.new.imported_verdicts self.new.proposal_counts self.new.released_submissions (ps ++ proposal.now ∷ []) vs) }
     {
         let submission = (proposal.team, proposal.number);
-        count_one(&mut self.proposed, submission)?;
+        count_one(&mut self.proposal_counts, submission)?;
         if is_imported(proposal) {
-            keep_first(&mut self.imported, submission, proposal.verdict)?;
+            keep_first(&mut self.imported_verdicts, submission, proposal.verdict)?;
         }
         Ok(())
     }
@@ -104,29 +107,30 @@ impl StandingVerdicts {
     ///
     /// Want of memory alone.
     pub(crate) fn take_release(&mut self, release: &Release) -> Result<(), AllocError>
-        ensures { OnOk result ((ps : List TheProposal) (vs : List TheRelease) → Stand self.old.imported self.old.proposed self.old.released ps vs
-            → Stand self.new.imported self.new.proposed self.new.released ps (vs ++ release.now ∷ [])) }
+        ensures { OnOk result ((ps : List TheProposal) (vs : List TheRelease) → Stand self.old.imported_verdicts self.old.proposal_counts self.old.released_submissions ps vs
+            → Stand self.new.imported_verdicts self.new.proposal_counts self.new.released_submissions ps (vs ++ release.now ∷ [])) }
     {
-        self.released.insert((release.team, release.number))?;
+        self.released_submissions
+            .insert((release.team, release.number))?;
         Ok(())
     }
 }
 
 // None stands.
-fn nothing(alloc: Global) -> StandingVerdicts
-    ensures { Stand result.imported result.proposed result.released [] [] }
+fn no_verdicts(alloc: Global) -> StandingVerdicts
+    ensures { Stand result.imported_verdicts result.proposal_counts result.released_submissions [] [] }
 {
     StandingVerdicts {
-        imported: HashMap::new(alloc),
-        proposed: HashMap::new(alloc),
-        released: HashSet::new(alloc),
+        imported_verdicts: HashMap::new(alloc),
+        proposal_counts: HashMap::new(alloc),
+        released_submissions: HashSet::new(alloc),
     }
 }
 
-fn proposed(alloc: Global, proposals: &[Proposal]) -> Result<StandingVerdicts, AllocError>
-    ensures { IfOk result (λ v. Stand v.imported v.proposed v.released proposals.now []) }
+fn after_proposals(alloc: Global, proposals: &[Proposal]) -> Result<StandingVerdicts, AllocError>
+    ensures { IfOk result (λ v. Stand v.imported_verdicts v.proposal_counts v.released_submissions proposals.now []) }
 {
-    let mut standing = nothing(alloc);
+    let mut standing = no_verdicts(alloc);
     for proposal in proposals {
         standing.take_proposal(proposal)?;
     }
@@ -134,11 +138,11 @@ fn proposed(alloc: Global, proposals: &[Proposal]) -> Result<StandingVerdicts, A
 }
 
 // With these releases too.
-fn released(
+fn with_releases(
     standing: StandingVerdicts,
     releases: &[Release],
 ) -> Result<StandingVerdicts, AllocError>
-    ensures { (ps : List TheProposal) → Stand standing.imported standing.proposed standing.released ps [] → IfOk result (λ v. Stand v.imported v.proposed v.released ps releases.now) }
+    ensures { (ps : List TheProposal) → Stand standing.imported_verdicts standing.proposal_counts standing.released_submissions ps [] → IfOk result (λ v. Stand v.imported_verdicts v.proposal_counts v.released_submissions ps releases.now) }
 {
     let mut all = standing;
     for release in releases {
@@ -157,18 +161,18 @@ fn is_imported(proposal: &Proposal) -> bool
 }
 
 // One more verdict is proposed for a submission.
-fn count_one(proposed: &mut Numbers, submission: (usize, usize)) -> Result<(), AllocError>
-    ensures { OnOk result ((team number : ℕ) → count_at proposed.new team number ≡ (if (submission.0 == team) && (submission.1 == number) then next_count (count_at proposed.old submission.0 submission.1) else count_at proposed.old team number)) }
+fn count_one(counts: &mut Numbers, submission: (usize, usize)) -> Result<(), AllocError>
+    ensures { OnOk result ((team number : ℕ) → count_at counts.new team number ≡ (if (submission.0 == team) && (submission.1 == number) then next_count (count_at counts.old submission.0 submission.1) else count_at counts.old team number)) }
 {
-    let next = next_count(count_at(proposed, submission));
-    proposed.insert(submission, next)?;
+    let next = next_count(count_at(counts, submission));
+    counts.insert(submission, next)?;
     Ok(())
 }
 
-fn count_at(proposed: &Numbers, submission: (usize, usize)) -> usize
-    ensures { result ≡ count_at proposed.now submission.0 submission.1 }
+fn count_at(counts: &Numbers, submission: (usize, usize)) -> usize
+    ensures { result ≡ count_at counts.now submission.0 submission.1 }
 {
-    match proposed.get(&submission) {
+    match counts.get(&submission) {
         Some(count) => *count,
         None => 0,
     }
@@ -183,21 +187,21 @@ fn next_count(count: usize) -> usize
 
 // The first verdict that is imported for a submission stands.
 fn keep_first(
-    imported: &mut Numbers,
+    verdicts: &mut Numbers,
     submission: (usize, usize),
     verdict: usize,
 ) -> Result<(), AllocError>
-    ensures { OnOk result ((team number : ℕ) → value_at imported.new team number ≡ (if (submission.0 == team) && (submission.1 == number) then Some (first_of (value_at imported.old submission.0 submission.1) verdict) else value_at imported.old team number)) }
+    ensures { OnOk result ((team number : ℕ) → value_at verdicts.new team number ≡ (if (submission.0 == team) && (submission.1 == number) then Some (first_of (value_at verdicts.old submission.0 submission.1) verdict) else value_at verdicts.old team number)) }
 {
-    let first = first_of(imported, submission, verdict);
-    imported.insert(submission, first)?;
+    let first = first_of(verdicts, submission, verdict);
+    verdicts.insert(submission, first)?;
     Ok(())
 }
 
-fn first_of(imported: &Numbers, submission: (usize, usize), verdict: usize) -> usize
-    ensures { result ≡ first_of (value_at imported.now submission.0 submission.1) verdict }
+fn first_of(verdicts: &Numbers, submission: (usize, usize), verdict: usize) -> usize
+    ensures { result ≡ first_of (value_at verdicts.now submission.0 submission.1) verdict }
 {
-    match imported.get(&submission) {
+    match verdicts.get(&submission) {
         Some(earlier) => *earlier,
         None => verdict,
     }

@@ -40,7 +40,7 @@ impl VerdictsSoFar {
     /// Want of memory alone.
     pub(crate) fn new(alloc: Global, lists: &Lists) -> Result<VerdictsSoFar, AllocError>
         ensures none { IfOk result (λ s. s.verdicts ≡ []) }
-        ensures stand { IfOk result (λ s. Stand s.standing.imported s.standing.proposed s.standing.released lists.now.proposals lists.now.releases) }
+        ensures stand { IfOk result (λ s. Stand s.standing.imported_verdicts s.standing.proposal_counts s.standing.released_submissions lists.now.proposals lists.now.releases) }
     {
         let standing = StandingVerdicts::new(alloc, lists.proposals(), lists.releases())?;
         Ok(VerdictsSoFar {
@@ -61,9 +61,9 @@ impl VerdictsSoFar {
         now: Moment,
         row: &ByteRecord,
     ) -> Result<(), RowFault>
-        ensures ok { OnOk result ((x : ContestState) → SoFar x lists.now self.old.standing.imported self.old.standing.proposed self.old.standing.released self.old.verdicts
-            → (after_record x now self.old.verdicts (fields_of row.now) ≡ Ok self.new.verdicts) × SoFar x lists.now self.new.standing.imported self.new.standing.proposed self.new.standing.released self.new.verdicts) }
-        ensures err { IfErr result (λ e. (x : ContestState) → SoFar x lists.now self.old.standing.imported self.old.standing.proposed self.old.standing.released self.old.verdicts
+        ensures ok { OnOk result ((x : ContestState) → SoFar x lists.now self.old.standing.imported_verdicts self.old.standing.proposal_counts self.old.standing.released_submissions self.old.verdicts
+            → (after_record x now self.old.verdicts (fields_of row.now) ≡ Ok self.new.verdicts) × SoFar x lists.now self.new.standing.imported_verdicts self.new.standing.proposal_counts self.new.standing.released_submissions self.new.verdicts) }
+        ensures err { IfErr result (λ e. (x : ContestState) → SoFar x lists.now self.old.standing.imported_verdicts self.old.standing.proposal_counts self.old.standing.released_submissions self.old.verdicts
             → IsFaultOf e (after_record x now self.old.verdicts (fields_of row.now))) }
     {
         let verdict = record_verdict(alloc, lists, now, row)?;
@@ -77,8 +77,8 @@ impl VerdictsSoFar {
     // One more verdict is added.
     fn add(&mut self, verdict: NewVerdict) -> Result<(), AllocError>
         ensures added { OnOk result (self.new.verdicts ≡ self.old.verdicts ++ verdict ∷ []) }
-        ensures stand { OnOk result ((ps : List TheProposal) (vs : List TheRelease) → Stand self.old.standing.imported self.old.standing.proposed self.old.standing.released ps vs
-            → Stand self.new.standing.imported self.new.standing.proposed self.new.standing.released (ps ++ verdict.proposal ∷ []) (vs ++ option_to_list verdict.release)) }
+        ensures stand { OnOk result ((ps : List TheProposal) (vs : List TheRelease) → Stand self.old.standing.imported_verdicts self.old.standing.proposal_counts self.old.standing.released_submissions ps vs
+            → Stand self.new.standing.imported_verdicts self.new.standing.proposal_counts self.new.standing.released_submissions (ps ++ verdict.proposal ∷ []) (vs ++ option_to_list verdict.release)) }
     {
         take_verdict(&mut self.standing, &verdict)?;
         self.verdicts.push(verdict)?;
@@ -88,8 +88,8 @@ impl VerdictsSoFar {
 
 // A verdict stands, with its release if it has one.
 fn take_verdict(standing: &mut StandingVerdicts, verdict: &NewVerdict) -> Result<(), AllocError>
-    ensures { OnOk result ((ps : List TheProposal) (vs : List TheRelease) → Stand standing.old.imported standing.old.proposed standing.old.released ps vs
-        → Stand standing.new.imported standing.new.proposed standing.new.released (ps ++ verdict.now.proposal ∷ []) (vs ++ option_to_list verdict.now.release)) }
+    ensures { OnOk result ((ps : List TheProposal) (vs : List TheRelease) → Stand standing.old.imported_verdicts standing.old.proposal_counts standing.old.released_submissions ps vs
+        → Stand standing.new.imported_verdicts standing.new.proposal_counts standing.new.released_submissions (ps ++ verdict.now.proposal ∷ []) (vs ++ option_to_list verdict.now.release)) }
 {
     standing.take_proposal(&verdict.proposal)?;
     if let Some(release) = &verdict.release {
