@@ -14,7 +14,7 @@ import collections
 import re
 import sys
 
-from lib import desk_opinion, import_opinion, program
+from lib import desk_opinion, program, verdict_file_opinion
 from lib.clarifier import Clarifier
 from lib.demo import AT_REHEARSAL, REHEARSAL, START
 from lib.desk_opinion import moment
@@ -74,9 +74,20 @@ class Asker(Clarifier, Rejudger):
             return self.often(text, ["{}", "", text[:-1], "[7]"], 0.96) + "\n"
         made = self.teams_record if kind == "teams-csv" else self.accounts_record
         rows = [made() for _ in range(self.random.randint(0, 4))]
-        lines = [",".join(map(self.quoted, row[: self.often(4, [3], 0.98)])) for row in rows]
-        header = self.often(HEADERS[kind].decode(), ["id,name", ""], 0.97)
-        return "\n".join([header, *lines]) + "\n"
+        return self.csv_file(HEADERS[kind].decode(), rows)
+
+    def csv_file(self, header, rows):
+        lines = [",".join(map(self.quoted, row[: self.often(len(row), [len(row) - 1], 0.98)])) for row in rows]
+        return "\n".join([self.often(header, ["id,name", ""], 0.97), *lines]) + "\n"
+
+    def verdicts_file(self, contest):
+        """A file of verdicts, for submissions that stand or don't."""
+        made = [desk_opinion.submission_id(contest, one) for one in contest["submissions"]] or ["s1-1"]
+        rows = []
+        for _ in range(self.random.choice([0, 1, 1, 2, 3])):
+            which = self.often(self.one(made), [f"s{self.random.randint(1, 4)}-{self.random.randint(1, 4)}", "s1-01", "-s1"], 0.93)
+            rows.append([which, self.often("AC", ["WA", "WA", "CE", "TLE", ""], 0.6)])
+        return self.csv_file("submission_id,judgement_type_id", rows)
 
     def post(self):
         problem, language = self.often(self.one("abc"), ["x", "-x", None], 0.9), self.often("cpp", ["java", "java", "c", None], 0.7)
@@ -130,10 +141,11 @@ def next_request(chance, contest):
 def item(chance, contest, now):
     """An item of a walk at a moment: its lines, its answer, and the contest after it."""
     head = f"at {moment(now).replace('+00:00', 'Z')}"
-    if chance.random.random() < (0.8 if now < START else 0.1):
+    if chance.random.random() < (0.8 if now < START else 0.15):
         kind = chance.one(SETTINGS + ["teams-csv", "accounts-csv", "accounts-csv"])
-        file = chance.file(kind)
-        answer, after = import_opinion.imported(contest, now, kind, file.encode())
+        kind = chance.often(kind, ["verdicts-csv"], 0.97 if now < START else 0.4)
+        file = chance.verdicts_file(contest) if kind == "verdicts-csv" else chance.file(kind)
+        answer, after = verdict_file_opinion.imported(contest, now, kind, file.encode())
         return f"{head} import\n{kind} {file[:-1].replace(chr(10), ' | ')}\n", answer, after
     who, key, method, path, body = next_request(chance, contest)
     answer, after = desk_opinion.handled(contest, now, who, key, method, path, body)

@@ -139,8 +139,13 @@ def records_in(kind, data):
     return rows, row_of
 
 
+def refusal(refused):
+    """What is printed of a file that is refused as a whole."""
+    return f"refused: E{NUMBERS[str(refused)]} {refused}"
+
+
 def imported(contest, now, kind, data):
-    """What is answered to an import, and the contest after it."""
+    """What is answered to an import of settings or accounts, and the contest after it."""
     after, added = copy.deepcopy(contest), 0
     try:
         records, made = records_in(kind, data)
@@ -156,5 +161,5 @@ def imported(contest, now, kind, data):
         if kind != "accounts-csv" and added and is_closed:
             raise Refused("SettingsClosed")
     except Refused as refused:
-        return f"refused: E{NUMBERS[str(refused)]} {refused}", contest
+        return refusal(refused), contest
     return f"added {added}", after

@@ -4,7 +4,8 @@ use Rattle.std.specs.Str.{bytes_eq}
 use Rattle.clap.specs.Simple.{App, new_app, with_rule}
 use Rattle.clap.specs.Walk.{Text}
 use Rattle.contest_types.specs.declared.import_kind.ImportKind.{ImportKind}
-use Rattle.contest_types.specs.declared.import_kind.ImportKind.TheVariants.{Settings, TeamsCsv, AccountsCsv}
+use Rattle.contest_types.specs.declared.import_kind.ImportKind.TheVariants.{Fixed, VerdictsCsv}
+use Rattle.contest_types.specs.declared.import_kind.FixedKind.TheVariants.{Settings, TeamsCsv, AccountsCsv}
 use Rattle.contest_types.specs.declared.import_kind.SettingsKind.TheVariants.{JudgementTypes, Languages, Problems, Groups, Teams}
 use Rattle.contest_cli_words.specs.Arguments.{word, faults_in, value_of}
 
@@ -17,14 +18,15 @@ import_app =
 -- the kind of file that a word names
 abbrev pub kind_named : Text → Option ImportKind
 kind_named name =
-    if bytes_eq name (codes "judgement-types") then Some (Settings JudgementTypes)
-    else (if bytes_eq name (codes "languages") then Some (Settings Languages)
-    else (if bytes_eq name (codes "problems") then Some (Settings Problems)
-    else (if bytes_eq name (codes "groups") then Some (Settings Groups)
-    else (if bytes_eq name (codes "teams") then Some (Settings Teams)
-    else (if bytes_eq name (codes "teams-csv") then Some TeamsCsv
-    else (if bytes_eq name (codes "accounts-csv") then Some AccountsCsv
-    else None))))))
+    if bytes_eq name (codes "judgement-types") then Some (Fixed (Settings JudgementTypes))
+    else (if bytes_eq name (codes "languages") then Some (Fixed (Settings Languages))
+    else (if bytes_eq name (codes "problems") then Some (Fixed (Settings Problems))
+    else (if bytes_eq name (codes "groups") then Some (Fixed (Settings Groups))
+    else (if bytes_eq name (codes "teams") then Some (Fixed (Settings Teams))
+    else (if bytes_eq name (codes "teams-csv") then Some (Fixed TeamsCsv)
+    else (if bytes_eq name (codes "accounts-csv") then Some (Fixed AccountsCsv)
+    else (if bytes_eq name (codes "verdicts-csv") then Some VerdictsCsv
+    else None)))))))
 
 -- the words have no fault, and name the file that keeps a contest, a kind, and a file of that kind
 pub record NamesImport (words : List Text) (file : Text) (kind : ImportKind) (path : Text) : Type 0 where

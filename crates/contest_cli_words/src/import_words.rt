@@ -1,12 +1,14 @@
 //! The words of `import`.
 ghost use Rattle.std.specs.Prelude.{◌≡◌, ◌⊎◌, IfOk, IfErr, map};
 ghost use Rattle.clap.specs.Simple.{app_of};
+ghost use Rattle.contest_types.specs.declared.import_kind.ImportKind.TheVariants.{Fixed};
+ghost use Rattle.contest_types.specs.declared.import_kind.FixedKind.TheVariants.{Settings};
 ghost use Rattle.contest_cli_words.specs.ImportWords.{HasImportFault, NamesImport, import_app, kind_named};
 ghost use Rattle.contest_cli_words.specs.CommandErrors.{IsMemory, IsWords, IsWordsOrMemory};
 
 use crate::{CommandError, headed, matches_in, with_arg, word, word_in};
 use clap::Command;
-use contest_types::{ImportKind, SettingsKind};
+use contest_types::{FixedKind, ImportKind, SettingsKind};
 use std::alloc::{AllocError, Global};
 
 /// What the words of `import` name.
@@ -36,7 +38,7 @@ pub fn import_app<'a>(alloc: Global) -> Result<Command<'a>, AllocError>
         alloc,
         "KIND",
         "Says what PATH holds: judgement-types, languages, problems, groups or teams as JSON, \
-         teams-csv or accounts-csv",
+         teams-csv, accounts-csv or verdicts-csv",
     );
     let import = with_arg(import, kind);
     let path = word(alloc, "PATH", "Holds the rows to add");
@@ -69,15 +71,23 @@ fn kind_named(name: &str) -> Option<ImportKind>
     ensures { result ≡ kind_named name.now }
 {
     match name {
-        "judgement-types" => Some(ImportKind::Settings(SettingsKind::JudgementTypes)),
-        "languages" => Some(ImportKind::Settings(SettingsKind::Languages)),
-        "problems" => Some(ImportKind::Settings(SettingsKind::Problems)),
-        "groups" => Some(ImportKind::Settings(SettingsKind::Groups)),
-        "teams" => Some(ImportKind::Settings(SettingsKind::Teams)),
-        "teams-csv" => Some(ImportKind::TeamsCsv),
-        "accounts-csv" => Some(ImportKind::AccountsCsv),
+        "judgement-types" => Some(settings(SettingsKind::JudgementTypes)),
+        "languages" => Some(settings(SettingsKind::Languages)),
+        "problems" => Some(settings(SettingsKind::Problems)),
+        "groups" => Some(settings(SettingsKind::Groups)),
+        "teams" => Some(settings(SettingsKind::Teams)),
+        "teams-csv" => Some(ImportKind::Fixed(FixedKind::TeamsCsv)),
+        "accounts-csv" => Some(ImportKind::Fixed(FixedKind::AccountsCsv)),
+        "verdicts-csv" => Some(ImportKind::VerdictsCsv),
         _ => None,
     }
+}
+
+// A JSON file of settings.
+fn settings(kind: SettingsKind) -> ImportKind
+    ensures { result ≡ Fixed (Settings kind) }
+{
+    ImportKind::Fixed(FixedKind::Settings(kind))
 }
 
 // What is said of a word that names no kind.
@@ -86,7 +96,7 @@ fn no_kind(alloc: Global, name: &str) -> CommandError
 {
     match format!(in alloc;
         "error: '{name}' of '<KIND>' is no kind of file: judgement-types, languages, problems, groups, \
-         teams, teams-csv or accounts-csv\n"
+         teams, teams-csv, accounts-csv or verdicts-csv\n"
     ) {
         Ok(message) => CommandError::Usage(message),
         Err(AllocError) => CommandError::from(AllocError),

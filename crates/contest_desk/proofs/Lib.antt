@@ -7,6 +7,7 @@ pub mod QuietSteps
 mod ExamplesUnseen
 pub mod FaultLemmas
 pub mod ImportLemmas
+pub mod VerdictImports
 pub mod ImportedAgain
 pub mod ItemLemmas
 pub mod RunLemmas

@@ -23,7 +23,7 @@ use Rattle.contest_rules.specs.declared.rule_refusal.RuleRefusal.{RuleRefusal}
 use Rattle.contest_rules.specs.declared.rule_refusal.RuleRefusal.TheVariants.{NotFound, RejudgingClosed, RejudgingIncomplete}
 use Rattle.contest_view.specs.Rejudgings.{named_rejudging}
 use Rattle.contest_postings.specs.DoneThings.{ruled_with}
-use Rattle.contest_postings.specs.PostRejudgings.{applied, cancelled, change_entries, change_object, member_changed, opened_entries, opened_object, stepped}
+use Rattle.contest_postings.specs.PostRejudgings.{apply_change, cancel_change, change_entries, change_object, member_change, opening_entries, opening_object, step_change}
 use Rattle.contest_postings.specs.declared.opening.OpenedRejudging.{OpenedRejudging}
 use Rattle.contest_postings.specs.declared.rejudging.RejudgingChange.{RejudgingChange}
 use Rattle.contest_postings.specs.declared.rejudging.RejudgingStep.TheVariants.{Judge, Apply, Cancel}
@@ -71,7 +71,7 @@ applied_whole now path x =
     let id = jury_piece path in
     let whole : List Entry → Type 0 = λ es. (es ≡ []) ⊎ IsApplied now id x (add_all x es) in
     let one : (p : ℕ × Rejudging) → named_rejudging id x.rejudgings ≡ Some p → (o : Option RuleRefusal) → apply_refusal p.1 ≡ o
-    → whole (told_change x (ruled_with (applied p.0 p.1) (elim o as (λ _. Result (List Release) RuleRefusal) [ (Some refusal) ↦ Err refusal | None ↦ Ok (member_releases x now p.1) ]))) = λ p named. elim [
+    → whole (told_change x (ruled_with (apply_change p.0 p.1) (elim o as (λ _. Result (List Release) RuleRefusal) [ (Some refusal) ↦ Err refusal | None ↦ Ok (member_releases x now p.1) ]))) = λ p named. elim [
       | (Some refusal) ↦ λ e. inl refl
       | None ↦ λ e. inr (record {
         number = p.0;
@@ -82,25 +82,25 @@ applied_whole now path x =
         states = states_added x p.0 (member_releases x now p.1);
       })
     ] in
-    let go : (o : Option (ℕ × Rejudging)) → named_rejudging id x.rejudgings ≡ o → whole (told_change x (elim o as (λ _. Result RejudgingChange RuleRefusal) [ None ↦ Err NotFound | (Some p) ↦ stepped now Apply x p ])) = elim [
+    let go : (o : Option (ℕ × Rejudging)) → named_rejudging id x.rejudgings ≡ o → whole (told_change x (elim o as (λ _. Result RejudgingChange RuleRefusal) [ None ↦ Err NotFound | (Some p) ↦ step_change now Apply x p ])) = elim [
       | None ↦ λ e. inl refl
       | (Some p) ↦ λ e. one p e (apply_refusal p.1) refl
     ] in
     go (named_rejudging id x.rejudgings) refl
 
-judged_unseen : (a : Audience) (x : ContestState) (p : ℕ × Rejudging) (r : Result MemberChange RuleRefusal) → AreUnseen a x (told_change x (ruled_with (member_changed p.0 p.1) r))
+judged_unseen : (a : Audience) (x : ContestState) (p : ℕ × Rejudging) (r : Result MemberChange RuleRefusal) → AreUnseen a x (told_change x (ruled_with (member_change p.0 p.1) r))
 judged_unseen a x p (Err refusal) = tt
 judged_unseen a x p (Ok change) = (tt, tt)
 
-cancelled_unseen : (a : Audience) (x : ContestState) (p : ℕ × Rejudging) (r : Result (Unit {0}) RuleRefusal) → AreUnseen a x (told_change x (ruled_with (λ done. cancelled p.0 p.1) r))
+cancelled_unseen : (a : Audience) (x : ContestState) (p : ℕ × Rejudging) (r : Result (Unit {0}) RuleRefusal) → AreUnseen a x (told_change x (ruled_with (λ done. cancel_change p.0 p.1) r))
 cancelled_unseen a x p (Err refusal) = tt
 cancelled_unseen a x p (Ok done) = (tt, tt)
 
-opened_unseen : (a : Audience) (x : ContestState) (r : Result OpenedRejudging RuleRefusal) → AreUnseen a x (done_or_ruled (opened_object x.fixed) opened_entries r).entries
+opened_unseen : (a : Audience) (x : ContestState) (r : Result OpenedRejudging RuleRefusal) → AreUnseen a x (done_or_ruled (opening_object x.fixed) opening_entries r).entries
 opened_unseen a x (Err refusal) = tt
 opened_unseen a x (Ok o) = (tt, tt)
 
-opening_unseen : (a : Audience) (x : ContestState) (make : Rejudging → OpenedRejudging) (r : Result Rejudging RuleRefusal) → AreUnseen a x (done_or_ruled (opened_object x.fixed) opened_entries (ruled_with make r)).entries
+opening_unseen : (a : Audience) (x : ContestState) (make : Rejudging → OpenedRejudging) (r : Result Rejudging RuleRefusal) → AreUnseen a x (done_or_ruled (opening_object x.fixed) opening_entries (ruled_with make r)).entries
 opening_unseen a x make r = opened_unseen a x (ruled_with make r)
 
 pub unapplied_is_unseen : UnappliedIsUnseen
@@ -110,13 +110,13 @@ unapplied_is_unseen a now (Proposal v) x h = absurd h
 unapplied_is_unseen a now (Verification v) x h = absurd h
 unapplied_is_unseen a now (Opening w) x h = opening_unseen a x (λ r. record { number = length x.rejudgings + 1; rejudging = r }) (open_rejudging x.fixed x.submissions x.releases x.rejudgings w)
 unapplied_is_unseen a now (OfRejudging path (Judge v)) x h =
-    let go : (o : Option (ℕ × Rejudging)) → AreUnseen a x (told_change x (elim o as (λ _. Result RejudgingChange RuleRefusal) [ None ↦ Err NotFound | (Some p) ↦ stepped now (Judge v) x p ])) = elim [
+    let go : (o : Option (ℕ × Rejudging)) → AreUnseen a x (told_change x (elim o as (λ _. Result RejudgingChange RuleRefusal) [ None ↦ Err NotFound | (Some p) ↦ step_change now (Judge v) x p ])) = elim [
       | None ↦ tt
       | (Some p) ↦ judged_unseen a x p (rejudge_on x.fixed.settings.head.verification p.1 (named_verdict x.fixed x.submissions v.wanted) v.account)
     ] in
     go (named_rejudging (jury_piece path) x.rejudgings)
 unapplied_is_unseen a now (OfRejudging path Cancel) x h =
-    let go : (o : Option (ℕ × Rejudging)) → AreUnseen a x (told_change x (elim o as (λ _. Result RejudgingChange RuleRefusal) [ None ↦ Err NotFound | (Some p) ↦ stepped now Cancel x p ])) = elim [
+    let go : (o : Option (ℕ × Rejudging)) → AreUnseen a x (told_change x (elim o as (λ _. Result RejudgingChange RuleRefusal) [ None ↦ Err NotFound | (Some p) ↦ step_change now Cancel x p ])) = elim [
       | None ↦ tt
       | (Some p) ↦ cancelled_unseen a x p (cancel_on p.1)
     ] in
@@ -132,9 +132,9 @@ unseen_releases a x number (v ∷ vs) h =
 pub applied_is_unseen : AppliedIsUnseen
 applied_is_unseen a now path x number r named unseen =
     let go : (o : Option RuleRefusal)
-    → AreUnseen a x (told_change x (ruled_with (applied number r) (elim o as (λ _. Result (List Release) RuleRefusal) [ (Some refusal) ↦ Err refusal | None ↦ Ok (member_releases x now r) ]))) = elim [
+    → AreUnseen a x (told_change x (ruled_with (apply_change number r) (elim o as (λ _. Result (List Release) RuleRefusal) [ (Some refusal) ↦ Err refusal | None ↦ Ok (member_releases x now r) ]))) = elim [
       | (Some refusal) ↦ tt
       | None ↦ unseen_releases a x number (member_releases x now r) unseen
     ] in
-    let step : Option (ℕ × Rejudging) → Result RejudgingChange RuleRefusal = λ o. elim o as (λ _. Result RejudgingChange RuleRefusal) [ None ↦ Err NotFound | (Some p) ↦ stepped now Apply x p ] in
+    let step : Option (ℕ × Rejudging) → Result RejudgingChange RuleRefusal = λ o. elim o as (λ _. Result RejudgingChange RuleRefusal) [ None ↦ Err NotFound | (Some p) ↦ step_change now Apply x p ] in
     subst (λ o. AreUnseen a x (told_change x (step o))) (sym named) (go (apply_refusal r))

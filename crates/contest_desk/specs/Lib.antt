@@ -2,6 +2,7 @@ pub mod Serving
 pub mod Unseen
 pub mod UnseenLaws
 pub mod RejudgingLaws
+pub mod VerdictLaws
 pub mod Laws
 pub mod Imports
 pub mod Items

@@ -7,13 +7,14 @@ ghost use Rattle.contest_desk.specs.Items.{HasStoreError};
 ghost use Rattle.contest_desk.specs.Serving.{IsSettled, Keeps};
 
 use crate::Desk;
+use crate::added_count::added_count;
 use crate::imported::imported;
 use crate::keep::keep;
 use contest_store::{ContestStore, StoreError};
 use contest_types::{Entry, ImportKind, Moment, Refusal, Rows};
 use std::alloc::Global;
 
-/// Imports one file: all of its rows or none, and how many these are.
+/// Imports one file: all of its rows or none, and how many of its records added something.
 ///
 /// # Errors
 ///
@@ -35,7 +36,7 @@ pub fn serve_import<S: ContestStore>(
     keep_rows(alloc, store, rows)
 }
 
-// Rows are kept, and then counted.
+// Rows are counted, and then kept.
 fn keep_rows<S: ContestStore>(
     alloc: Global,
     store: &mut S,
@@ -50,7 +51,7 @@ fn keep_rows<S: ContestStore>(
 {
     match rows {
         Ok(rows) => {
-            let added = rows.as_slice().len() as u64;
+            let added = added_count(rows.as_slice());
             keep(alloc, store, rows)?;
             Ok(Ok(added))
         }
@@ -60,7 +61,7 @@ fn keep_rows<S: ContestStore>(
 
 impl<S: ContestStore> Desk<S> {
     /// Imports a file at a moment, and keeps what it adds by one commit: all of its rows or none. The
-    /// answer is the number of rows that were added; one that stands with equal content adds nothing.
+    /// answer is the number of records that added something; one that stands with equal content adds nothing.
     ///
     /// Where the store fails or a growth is refused the contest, while the store is open, is as before.
     ///

@@ -1,16 +1,22 @@
 //! What a file adds to a contest at a moment, before any of it is kept.
-ghost use Rattle.std.specs.Prelude.{◌≡◌, IfOk, Ok, length, nat_lt};
+ghost use Rattle.std.specs.Prelude.{◌≡◌, ◌≢◌, true, IfErr, IfOk, Ok, length, nat_lt};
 ghost use Rattle.contest_types.specs.Clock.{reached};
-ghost use Rattle.contest_desk.specs.Imports.{are_closed, imported, is_of_settings, unless_closed};
+ghost use Rattle.contest_types.specs.State.{ContestState};
+ghost use Rattle.contest_types.specs.Valid.{is_valid};
+ghost use Rattle.contest_lists.specs.Lists.{loaded};
+ghost use Rattle.contest_files.specs.Refused.{Refuses};
+ghost use Rattle.contest_desk.specs.Imports.{are_closed, count_of, file_rows, imported, is_of_settings, unless_closed};
+ghost use Rattle.contest_desk.specs.Items.{HasStoreError};
 
 use contest_import::read_import;
+use contest_import_verdicts::read_verdicts_csv;
 use contest_lists::Lists;
 use contest_types::limits::IMPORTED_FILE;
-use contest_types::{Entry, ImportKind, Moment, Refusal, Rows};
+use contest_types::{Entry, FixedKind, ImportKind, Moment, Refusal, Rows};
 use std::alloc::{AllocError, Global};
 
-/// The rows that a file adds at a moment, or why it is refused: its size first, then its form, then
-/// its first record at fault, then settings that are closed.
+/// What a file adds at a moment, or why it is refused: its size first, then its form, then its first
+/// record at fault, then settings that are closed.
 ///
 /// # Errors
 ///
@@ -22,15 +28,34 @@ pub fn imported(
     kind: ImportKind,
     file: &[u8],
 ) -> Result<Result<Rows<Entry>, Refusal>, AllocError>
-    ensures { IfOk result (λ rows. rows ≡ imported lists.now now kind file.now) }
+    ensures rows { IfOk result (λ rows. (x : ContestState) → is_valid x ≡ true → lists.now ≡ loaded x → rows ≡ imported x now kind file.now) }
+    ensures ordinary { IfOk result (λ rows. HasStoreError (count_of rows) → ⊥) }
 {
     if is_too_large(file) {
         return Ok(Err(Refusal::BodyTooLarge));
     }
-    match read_import(alloc, kind, file, lists.fixed()) {
+    match file_rows(alloc, lists, now, kind, file) {
         Ok(rows) => Ok(unless_closed(is_of_settings(kind) && are_closed(lists, now), rows)),
         Err(Refusal::Memory) => Err(AllocError),
         Err(refusal) => Ok(Err(refusal)),
+    }
+}
+
+// What a file adds to what stands. The error is the file's fault, or want of memory.
+fn file_rows(
+    alloc: Global,
+    lists: &Lists,
+    now: Moment,
+    kind: ImportKind,
+    file: &[u8],
+) -> Result<Rows<Entry>, Refusal>
+    ensures ok { IfOk result (λ rows. (x : ContestState) → is_valid x ≡ true → lists.now ≡ loaded x → file_rows x now kind file.now ≡ Ok rows) }
+    ensures err { IfErr result (λ e. (x : ContestState) → is_valid x ≡ true → lists.now ≡ loaded x → Refuses e (file_rows x now kind file.now)) }
+    ensures ordinary { IfErr result (λ e. e ≢ Refusal.StoreFault) }
+{
+    match kind {
+        ImportKind::Fixed(kind) => read_import(alloc, kind, file, lists.fixed()),
+        ImportKind::VerdictsCsv => read_verdicts_csv(alloc, file, lists, now),
     }
 }
 
@@ -41,13 +66,13 @@ fn is_too_large(file: &[u8]) -> bool
     file.len() > IMPORTED_FILE
 }
 
-// Accounts may be imported at any time, all else is settings.
+// Accounts and verdicts may be imported at any time, all else is settings.
 fn is_of_settings(kind: ImportKind) -> bool
     ensures { result ≡ is_of_settings kind }
 {
     match kind {
-        ImportKind::Settings(_) | ImportKind::TeamsCsv => true,
-        ImportKind::AccountsCsv => false,
+        ImportKind::Fixed(FixedKind::Settings(_) | FixedKind::TeamsCsv) => true,
+        ImportKind::Fixed(FixedKind::AccountsCsv) | ImportKind::VerdictsCsv => false,
     }
 }
 

@@ -9,6 +9,7 @@ pub use crate::unseen::{
     read_step, refused_import, refused_step, unseen_entries, unseen_entry, unseen_import,
     unseen_step,
 };
+pub use crate::verdicts::{imported_verdicts_are_unseen, pending_verdicts_are_unseen};
 pub use contest_operations::laws::{
     head_is_get, posts_alike, reads_alike, step_alike, steps_keep_valid, steps_never_fail,
 };

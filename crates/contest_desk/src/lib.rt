@@ -1,6 +1,7 @@
 //! The contest desk: a request or a file in, its answer out, and what it adds to the contest kept.
 #![tactic(auto)]
 
+mod added_count;
 mod board;
 mod desk;
 mod import;
@@ -16,6 +17,7 @@ mod serve;
 mod standing;
 mod two_runs;
 mod unseen;
+mod verdicts;
 
 pub use contest_operations::{
     AllowedMethods, Command, ContentType, Endpoint, ExtraField, Offer, Operation, Reading, Reply,

@@ -1,15 +1,11 @@
 -- Reading the ids in a JSON array (RFC 8259; an id is own).
-use Rattle.std.specs.Prelude.{ℕ, List, [], ◌∷◌, map, Option, Some}
-use Rattle.std.specs.Option.{option_map, option_and_then}
+use Rattle.std.specs.Prelude.{ℕ, List, map, Option}
+use Rattle.std.specs.Option.{option_and_then}
 use Rattle.serde_json.specs.Data.{Data}
 use Rattle.serde_json.specs.Find.{as_array, as_str}
 use Rattle.contest_types.specs.IdText.{id_of}
+use Rattle.contest_types.specs.Options.{all_some}
 use Rattle.contest_files.specs.JsonMembers.{list_of}
-
--- all of them, or none where one is missing
-abbrev pub all_some : {A : Type 0} → List (Option A) → Option (List A)
-all_some [] = Some []
-all_some (found ∷ more) = option_and_then (λ a. option_map (λ rest. a ∷ rest) (all_some more)) found
 
 -- an item that is an id
 abbrev pub id_item : Data → Option (List ℕ)

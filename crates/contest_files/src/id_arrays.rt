@@ -4,7 +4,8 @@ ghost use Rattle.std.specs.Option.{option_map};
 ghost use Rattle.serde_json.specs.Find.{as_array};
 ghost use Rattle.serde_json.specs.View.{view};
 ghost use Rattle.contest_types.specs.Places.{are_different, is_among};
-ghost use Rattle.contest_files.specs.IdArrays.{all_some, id_item, ids_in};
+ghost use Rattle.contest_types.specs.Options.{all_some};
+ghost use Rattle.contest_files.specs.IdArrays.{id_item, ids_in};
 ghost use Rattle.contest_files.specs.JsonMembers.{list_of};
 
 use contest_types::{Id, Refusal, Rows};

@@ -13,7 +13,7 @@ use Rattle.std.proofs.lemmas.Bool.{eq-eqb, false≢true}
 use Rattle.std.proofs.lemmas.List.Folds.{find-append}
 use Rattle.std.proofs.lemmas.Slice.Eq.{bytes_eq-Decides}
 use Rattle.serde_json.specs.Data.{Data}
-use Rattle.contest_files.specs.IdArrays.{all_some}
+use Rattle.contest_types.specs.Options.{all_some}
 use Rattle.contest_types.specs.Accounts.{account_named, comes_before, has_valid_role, same_account, same_role, with_account}
 use Rattle.contest_types.specs.Additions.{addition, addition_by, id_match_by, id_match_of, keyed_addition}
 use Rattle.contest_types.specs.Places.{are_different, is_among, place_of}
@@ -27,8 +27,8 @@ use Rattle.contest_types.specs.declared.entry.Entry.{Entry}
 use Rattle.contest_types.specs.declared.entry.Entry.TheVariants.{NewType, NewLanguage, NewProblem, NewGroup, NewTeam, NewAccount}
 use Rattle.contest_types.specs.declared.id_list.IdMatch.{IdMatch}
 use Rattle.contest_types.specs.declared.id_list.IdMatch.TheVariants.{New, Same, Other}
-use Rattle.contest_types.specs.declared.import_kind.ImportKind.{ImportKind}
-use Rattle.contest_types.specs.declared.import_kind.ImportKind.TheVariants as kind
+use Rattle.contest_types.specs.declared.import_kind.FixedKind.{FixedKind}
+use Rattle.contest_types.specs.declared.import_kind.FixedKind.TheVariants as kind
 use Rattle.contest_types.specs.declared.import_kind.SettingsKind.{SettingsKind}
 use Rattle.contest_types.specs.declared.import_kind.SettingsKind.TheVariants as settings
 use Rattle.contest_types.specs.declared.limits.TheConstants.{ACCOUNTS, TEAMS}
@@ -454,7 +454,7 @@ objects_again settings.Problems x rs rows = rows_again (object_row settings.Prob
 objects_again settings.Groups x rs rows = rows_again (object_row settings.Groups) IsGroup groups_settle (sound_object settings.Groups) x rs rows
 objects_again settings.Teams x rs rows = rows_again (object_row settings.Teams) IsTeam team_objects_settle (sound_object settings.Teams) x rs rows
 
-pub rows_in_again : (k : ImportKind) (x : ContestState) (bytes : List ℕ) (rows : List Entry) → rows_in k x.fixed bytes ≡ Ok rows → rows_in k (add_all x rows).fixed bytes ≡ Ok []
+pub rows_in_again : (k : FixedKind) (x : ContestState) (bytes : List ℕ) (rows : List Entry) → rows_in k x.fixed bytes ≡ Ok rows → rows_in k (add_all x rows).fixed bytes ≡ Ok []
 rows_in_again (kind.Settings s) x bytes rows is = off_form_again (rows_of (object_row s) x.fixed) (rows_of (object_row s) (add_all x rows).fixed) (items_in bytes) rows (λ rs. objects_again s x rs rows) is
 rows_in_again kind.TeamsCsv x bytes rows is =
     off_form_again (rows_of team_record x.fixed) (rows_of team_record (add_all x rows).fixed) (csv_records team_names bytes) rows (λ rs. rows_again team_record IsTeam team_records_settle sound_team_record x rs rows) is

@@ -21,8 +21,8 @@ use Rattle.contest_import.specs.SettingsObjects.{group_in, language_in, object_r
 use Rattle.contest_import.specs.Teams.{group_places, team_by, team_or_malformed}
 use Rattle.contest_import.specs.declared.account_row.AccountRow.{AccountRow}
 use Rattle.contest_import.specs.declared.account_row.NamedRole.{NamedRole}
-use Rattle.contest_types.specs.declared.import_kind.ImportKind.{ImportKind}
-use Rattle.contest_types.specs.declared.import_kind.ImportKind.TheVariants as kind
+use Rattle.contest_types.specs.declared.import_kind.FixedKind.{FixedKind}
+use Rattle.contest_types.specs.declared.import_kind.FixedKind.TheVariants as kind
 use Rattle.contest_types.specs.declared.import_kind.SettingsKind.{SettingsKind}
 use Rattle.contest_types.specs.declared.import_kind.SettingsKind.TheVariants as settings
 use Rattle.contest_import.specs.declared.team_row.TeamRow.{TeamRow}
@@ -112,12 +112,12 @@ off_form_addable : {A : Type 0} (x : ContestState) (rows : List A → Result (Li
 off_form_addable x rows None h = tt
 off_form_addable x rows (Some found) h = h found
 
-by_kind : (k : ImportKind) (x : ContestState) (bytes : List ℕ) → IfOk (rows_in k x.fixed bytes) (λ es. are_addable x es ≡ true)
+by_kind : (k : FixedKind) (x : ContestState) (bytes : List ℕ) → IfOk (rows_in k x.fixed bytes) (λ es. are_addable x es ≡ true)
 by_kind (kind.Settings s) x bytes = off_form_addable x (rows_of (object_row s) x.fixed) (items_in bytes) (rows_addable (object_row s) (sound_object s) x)
 by_kind kind.TeamsCsv x bytes = off_form_addable x (rows_of team_record x.fixed) (csv_records team_names bytes) (rows_addable team_record sound_team_record x)
 by_kind kind.AccountsCsv x bytes = off_form_addable x (rows_of account_record x.fixed) (csv_records account_names bytes) (rows_addable account_record sound_account_record x)
 
-pub rows_in_addable : (k : ImportKind) (x : ContestState) (bytes : List ℕ) (rows : List Entry) → rows_in k x.fixed bytes ≡ Ok rows → are_addable x rows ≡ true
+pub rows_in_addable : (k : FixedKind) (x : ContestState) (bytes : List ℕ) (rows : List Entry) → rows_in k x.fixed bytes ≡ Ok rows → are_addable x rows ≡ true
 rows_in_addable k x bytes rows is =
     let go : (r : Result (List Entry) Refusal) → IfOk r (λ es. are_addable x es ≡ true) → r ≡ Ok rows → are_addable x rows ≡ true = elim [
       | (Ok es) ↦ λ h e. (let same : es ≡ rows = cc e in rw (sym same) h)

@@ -4,7 +4,7 @@ use Rattle.std.specs.List.{slice_split}
 use Rattle.std.specs.Option.{option_and_then, option_map}
 use Rattle.std.specs.Str.{bytes_eq}
 use Rattle.sha2.specs.Sha256.{sha256}
-use Rattle.contest_files.specs.IdArrays.{all_some}
+use Rattle.contest_types.specs.Options.{all_some}
 use Rattle.contest_types.specs.IdText.{id_of}
 use Rattle.contest_types.specs.NameText.{name_from}
 use Rattle.contest_types.specs.Places.{place_of}

@@ -10,8 +10,8 @@ use Rattle.contest_files.specs.JsonMembers.{items_in}
 use Rattle.contest_import.specs.CsvFiles.{FourFields, account_names, account_record, is_header, team_names, team_record}
 use Rattle.contest_import.specs.RowAdditions.{rows_of}
 use Rattle.contest_import.specs.SettingsObjects.{object_row}
-use Rattle.contest_types.specs.declared.import_kind.ImportKind.{ImportKind}
-use Rattle.contest_types.specs.declared.import_kind.ImportKind.TheVariants as kind
+use Rattle.contest_types.specs.declared.import_kind.FixedKind.{FixedKind}
+use Rattle.contest_types.specs.declared.import_kind.FixedKind.TheVariants as kind
 use Rattle.contest_types.specs.declared.import_kind.SettingsKind.{SettingsKind}
 
 -- the records below the header, which are numbered from 1; none where the header isn't these names
@@ -40,7 +40,7 @@ team_rows f bytes = or_off_form (rows_of team_record f) (csv_records team_names 
 abbrev pub account_rows : FixedPart → List ℕ → Result (List Entry) Refusal
 account_rows f bytes = or_off_form (rows_of account_record f) (csv_records account_names bytes)
 
-abbrev pub rows_in : ImportKind → FixedPart → List ℕ → Result (List Entry) Refusal
+abbrev pub rows_in : FixedKind → FixedPart → List ℕ → Result (List Entry) Refusal
 rows_in (kind.Settings settings) f bytes = settings_rows settings f bytes
 rows_in kind.TeamsCsv f bytes = team_rows f bytes
 rows_in kind.AccountsCsv f bytes = account_rows f bytes

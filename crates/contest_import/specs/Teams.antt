@@ -1,6 +1,6 @@
 -- A team as a file tells of it: its groups by their ids (Contest API 2023-06, teams).
 use Rattle.std.specs.Prelude.{ℕ, List, Option, Some, None, Result, Ok, Err, map, if◌then◌else◌}
-use Rattle.contest_files.specs.IdArrays.{all_some}
+use Rattle.contest_types.specs.Options.{all_some}
 use Rattle.contest_types.specs.Places.{are_different, place_of}
 use Rattle.contest_types.specs.Setup.{Setup}
 use Rattle.contest_types.specs.declared.entry.Entry.{Entry}

@@ -4,7 +4,7 @@ ghost use Rattle.contest_files.specs.Refused.{Refuses};
 ghost use Rattle.contest_import.specs.Files.{rows_in};
 
 use crate::{read_accounts_csv, read_settings_json, read_teams_csv};
-use contest_types::{Entry, Fixed, ImportKind, Refusal, Rows};
+use contest_types::{Entry, Fixed, FixedKind, Refusal, Rows};
 use std::alloc::Global;
 
 /// The rows that a file adds to what stands, in its order; an equal row that stands adds nothing.
@@ -15,7 +15,7 @@ use std::alloc::Global;
 /// number, from 1, and the cause (`ImportRow`); or want of memory.
 pub fn read_import(
     alloc: Global,
-    kind: ImportKind,
+    kind: FixedKind,
     bytes: &[u8],
     fixed: &Fixed,
 ) -> Result<Rows<Entry>, Refusal>
@@ -23,8 +23,8 @@ pub fn read_import(
     ensures err { IfErr result (λ e. Refuses e (rows_in kind fixed.now bytes.now)) }
 {
     match kind {
-        ImportKind::Settings(settings) => read_settings_json(alloc, settings, bytes, fixed),
-        ImportKind::TeamsCsv => read_teams_csv(alloc, bytes, fixed),
-        ImportKind::AccountsCsv => read_accounts_csv(alloc, bytes, fixed),
+        FixedKind::Settings(settings) => read_settings_json(alloc, settings, bytes, fixed),
+        FixedKind::TeamsCsv => read_teams_csv(alloc, bytes, fixed),
+        FixedKind::AccountsCsv => read_accounts_csv(alloc, bytes, fixed),
     }
 }

@@ -3,7 +3,7 @@ ghost use Rattle.std.specs.Prelude.{◌≡◌, ◌<◌, ◌==◌, ◌∷◌, [],
 ghost use Rattle.std.specs.List.{position};
 ghost use Rattle.std.specs.Option.{option_and_then, option_map_or};
 ghost use Rattle.csv.specs.Records.{fields_of};
-ghost use Rattle.contest_files.specs.IdArrays.{all_some};
+ghost use Rattle.contest_types.specs.Options.{all_some};
 ghost use Rattle.contest_types.specs.Additions.{IsFaultOf};
 ghost use Rattle.contest_types.specs.IdText.{id_of};
 ghost use Rattle.contest_import.specs.CsvFiles.{four_of, ids_of, team_fields, team_record};

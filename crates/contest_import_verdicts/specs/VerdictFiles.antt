@@ -93,6 +93,9 @@ abbrev pub below_header : List (List Text) → Option (List (List Text))
 below_header [] = None
 below_header (header ∷ rows) = if is_header header then Some rows else None
 
+abbrev pub verdict_records : (bytes : List ℕ) → Option (List (List Text))
+verdict_records bytes = below_header (records default_config (strip_bom bytes))
+
 abbrev pub verdicts_in : ContestState → (now : ℕ) → Option (List (List Text)) → Result (List NewVerdict) Refusal
 verdicts_in x now None = Err Malformed
 verdicts_in x now (Some rows) = after_records x now [] 1 rows
@@ -103,7 +106,7 @@ entries_if (Ok verdicts) = Ok (flat_map entries_of verdicts)
 
 -- what a file adds, or why it is refused
 abbrev pub verdict_rows : ContestState → (now : ℕ) → (bytes : List ℕ) → Result (List Entry) Refusal
-verdict_rows x now bytes = entries_if (verdicts_in x now (below_header (records default_config (strip_bom bytes))))
+verdict_rows x now bytes = entries_if (verdicts_in x now (verdict_records bytes))
 
 -- Words of private functions, from here on: nothing public is said with them.
 

@@ -1,5 +1,5 @@
 //! A CSV file of verdicts.
-ghost use Rattle.std.specs.Prelude.{◌≡◌, ◌≤◌, ◌+◌, ◌∷◌, ◌++◌, ◌^◌, [], ℕ, List, true, false, None, Some, Ok, IfOk, IfErr, OnOk, length};
+ghost use Rattle.std.specs.Prelude.{◌≡◌, ◌≢◌, ◌≤◌, ◌+◌, ◌∷◌, ◌++◌, ◌^◌, [], ℕ, List, true, false, None, Some, Ok, IfOk, IfErr, OnOk, length};
 ghost use Rattle.std.specs.List.{flat_map};
 ghost use Rattle.csv.specs.Records.{fields_of};
 ghost use Rattle.contest_types.specs.State.{ContestState};
@@ -39,6 +39,7 @@ pub fn read_verdicts_csv(
 ) -> Result<Rows<Entry>, Refusal>
     ensures ok { IfOk result (λ rows. (x : ContestState) → is_valid x ≡ true → lists.now ≡ loaded x → verdict_rows x now bytes.now ≡ Ok rows) }
     ensures err { IfErr result (λ e. (x : ContestState) → is_valid x ≡ true → lists.now ≡ loaded x → Refuses e (verdict_rows x now bytes.now)) }
+    ensures ordinary { IfErr result (λ e. e ≢ Refusal.StoreFault) }
 {
     let mut records = CsvRecords::new(alloc, bytes);
     let verdicts = read_verdicts(alloc, &mut records, lists, now)?;
@@ -56,6 +57,7 @@ fn read_verdicts(
     requires { length records.old ≤ 2 ^ 63 }
     ensures ok { IfOk result (λ verdicts. (x : ContestState) → is_valid x ≡ true → lists.now ≡ loaded x → verdicts_in x now (below_header records.old) ≡ Ok verdicts) }
     ensures err { IfErr result (λ e. (x : ContestState) → is_valid x ≡ true → lists.now ≡ loaded x → Refuses e (verdicts_in x now (below_header records.old))) }
+    ensures ordinary { IfErr result (λ e. e ≢ Refusal.StoreFault) }
 {
     let mut row = ByteRecord::new(alloc);
     if !has_header(records, &mut row)? {
@@ -91,6 +93,7 @@ fn take_all(
         → after_records x now so_far.old.verdicts 1 records.old ≡ Ok so_far.new.verdicts) }
     ensures err { IfErr result (λ e. (x : ContestState) → SoFar x lists.now so_far.old.standing.imported_verdicts so_far.old.standing.proposal_counts so_far.old.standing.released_submissions so_far.old.verdicts
         → Refuses e (after_records x now so_far.old.verdicts 1 records.old)) }
+    ensures ordinary { IfErr result (λ e. e ≢ Refusal.StoreFault) }
 {
     for n in 1..u64::MAX {
         if !records.next(row)? {
@@ -115,6 +118,7 @@ fn take(
         × ((rest : List (List (List ℕ))) → after_records x now so_far.old.verdicts n (fields_of row.now ∷ rest) ≡ after_records x now so_far.new.verdicts (n + 1) rest)) }
     ensures err { IfErr result (λ e. (x : ContestState) → SoFar x lists.now so_far.old.standing.imported_verdicts so_far.old.standing.proposal_counts so_far.old.standing.released_submissions so_far.old.verdicts
         → (rest : List (List (List ℕ))) → Refuses e (after_records x now so_far.old.verdicts n (fields_of row.now ∷ rest))) }
+    ensures ordinary { IfErr result (λ e. e ≢ Refusal.StoreFault) }
 {
     match so_far.take(alloc, lists, now, row) {
         Ok(()) => Ok(()),

@@ -8,8 +8,6 @@ ghost use Rattle.contest_types.specs.Valid.{is_valid};
 ghost use Rattle.contest_types.specs.declared.proposal.Proposal.{Proposal as TheProposal};
 ghost use Rattle.contest_types.specs.declared.submission.Release.{Release as TheRelease};
 ghost use Rattle.contest_lists.specs.Lists.{loaded};
-ghost use Rattle.contest_rules.specs.Proposing.{release_at_once};
-ghost use Rattle.contest_rules.specs.Verdicts.{named_verdict};
 ghost use Rattle.contest_import_verdicts.specs.SoFar.{SoFar};
 ghost use Rattle.contest_import_verdicts.specs.StandingVerdicts.{Stand};
 ghost use Rattle.contest_import_verdicts.specs.VerdictFiles.{after_record, imported_verdict, record_verdict};
@@ -17,9 +15,9 @@ ghost use Rattle.contest_import_verdicts.specs.VerdictFiles.{after_record, impor
 use crate::record::wanted_in;
 use crate::standing::StandingVerdicts;
 use contest_lists::Lists;
-use contest_rules::{NamedVerdict, NewVerdict, WantedVerdict, verdict_on};
-use contest_types::{Cause, Fixed, Moment, Proposal, Proposer, Release, RowFault, Rows};
-use contest_view::named_submission;
+use contest_postings::named_verdict;
+use contest_rules::{NamedVerdict, NewVerdict, release_at_once};
+use contest_types::{Cause, Fixed, Moment, Proposal, Proposer, RowFault, Rows};
 use csv::ByteRecord;
 use std::alloc::{AllocError, Global};
 
@@ -109,21 +107,13 @@ fn record_verdict(
     ensures err { IfErr result (λ e. (x : ContestState) → is_valid x ≡ true → lists.now ≡ loaded x → IsFaultOf e (record_verdict x now (fields_of row.now))) }
 {
     match wanted_in(alloc, row) {
-        Ok(Some(wanted)) => match named(lists, &wanted) {
+        Ok(Some(wanted)) => match named_verdict(lists, &wanted) {
             Some(named) => Ok(imported_verdict(lists.fixed(), now, named)),
             None => Err(RowFault::Fault(Cause::UnknownReference)),
         },
         Ok(None) => Err(RowFault::Fault(Cause::Malformed)),
         Err(_) => Err(RowFault::Memory),
     }
-}
-
-// What a verdict names; none where the submission or the judgement type isn't there.
-fn named(lists: &Lists, wanted: &WantedVerdict) -> Option<NamedVerdict>
-    ensures { (x : ContestState) → is_valid x ≡ true → lists.now ≡ loaded x → result ≡ named_verdict x.fixed x.submissions wanted.now }
-{
-    let submission = named_submission(lists, wanted.submission.as_bytes());
-    verdict_on(lists.fixed(), submission, wanted)
 }
 
 fn imported_verdict(fixed: &Fixed, now: Moment, named: NamedVerdict) -> NewVerdict
@@ -139,20 +129,4 @@ fn imported_verdict(fixed: &Fixed, now: Moment, named: NamedVerdict) -> NewVerdi
         },
         release: release_at_once(fixed, now, named),
     }
-}
-
-// Where nobody has to verify it it is released at once.
-fn release_at_once(fixed: &Fixed, now: Moment, named: NamedVerdict) -> Option<Release>
-    ensures { result ≡ release_at_once fixed.now now named }
-{
-    if fixed.settings.head().verification {
-        return None;
-    }
-    Some(Release {
-        team: named.team,
-        number: named.number,
-        round: 1,
-        verdict: named.verdict,
-        time: now,
-    })
 }

@@ -20,7 +20,7 @@ use Rattle.contest_operations.specs.Paths.{jury_piece}
 use Rattle.contest_postings.specs.PostProposal.{proposal_object}
 use Rattle.contest_operations.specs.PostedSubmissions.{submission_outcome}
 use Rattle.contest_postings.specs.PostVerification.{release_entries, release_object}
-use Rattle.contest_postings.specs.PostRejudgings.{change_entries, change_object, changed, opened, opened_entries, opened_object}
+use Rattle.contest_postings.specs.PostRejudgings.{change_entries, change_object, rejudging_change, opening, opening_entries, opening_object}
 use Rattle.contest_postings.specs.declared.rejudging.RejudgingStep.TheVariants.{Judge, Apply, Cancel}
 use Rattle.contest_operations.specs.Laws.{PostsAlike}
 use Rattle.contest_operations.specs.Replies.{IsOrdinary}
@@ -72,8 +72,8 @@ post_addable now (Submission team w) x valid sound = submission_addable now team
 post_addable now (Clarification c) x valid sound = clarification_addable now c x sound
 post_addable now (Proposal v) x valid sound = done_addable x (proposal_object x.fixed) entries_of (propose x.fixed x.submissions x.proposals x.releases now v.account v.wanted) (λ d is. proposed_is_addable x now v.account v.wanted d sound is)
 post_addable now (Verification v) x valid sound = done_addable x (release_object x.fixed) release_entries (verify x.fixed x.submissions x.proposals x.releases now v.account v.wanted) (λ r is. both_true _ _ (verified_is_addable x now v.account v.wanted r is) refl)
-post_addable now (Opening w) x valid sound = done_addable x (opened_object x.fixed) opened_entries (opened w x) (λ o is. opened_addable x w o valid sound is)
-post_addable now (Rejudging path step) x valid sound = done_addable x (change_object x.fixed) change_entries (changed now (jury_piece path) step x) (λ c is. changed_addable now (jury_piece path) step x c valid sound is)
+post_addable now (Opening w) x valid sound = done_addable x (opening_object x.fixed) opening_entries (opening w x) (λ o is. opened_addable x w o valid sound is)
+post_addable now (Rejudging path step) x valid sound = done_addable x (change_object x.fixed) change_entries (rejudging_change now (jury_piece path) step x) (λ c is. changed_addable now (jury_piece path) step x c valid sound is)
 
 -- a post under a key that is answered as done is repeated by whoever asks for the same, and by no other
 pub post_repeats : (x y : ContestState) (now later : ℕ) (first : Posted) → IsSoundPost x.fixed first → is_some (key_of first) ≡ true

@@ -21,7 +21,7 @@ use Rattle.contest_requests.proofs.RejudgingLemmas.{rejudging_fits}
 use Rattle.contest_view.specs.Rejudgings.{named_rejudging}
 use Rattle.contest_view.proofs.RejudgingLemmas.{named_has}
 use Rattle.contest_postings.specs.DoneThings.{ruled_with}
-use Rattle.contest_postings.specs.PostRejudgings.{IsSoundStep, applied, cancelled, changed, member_changed, opened, opened_entries, stepped}
+use Rattle.contest_postings.specs.PostRejudgings.{IsSoundStep, apply_change, cancel_change, rejudging_change, member_change, opening, opening_entries, step_change}
 use Rattle.contest_postings.specs.declared.opening.OpenedRejudging.{OpenedRejudging}
 use Rattle.contest_postings.specs.declared.rejudging.RejudgingChange.{RejudgingChange}
 use Rattle.contest_postings.specs.declared.rejudging.RejudgingStep.{RejudgingStep}
@@ -58,29 +58,29 @@ made : {A B : Type 0} (make : A → B) (r : Result A RuleRefusal) (b : B) → ru
 made make (Err refusal) b h = absurd (cc h)
 made make (Ok a) b h = record { given = a; is_given = refl; is = cc h }
 
-pub opened_addable : (x : ContestState) (w : WantedRejudging) (o : OpenedRejudging) → is_valid x ≡ true → IsSoundRejudging w → opened w x ≡ Ok o → are_addable x (opened_entries o) ≡ true
+pub opened_addable : (x : ContestState) (w : WantedRejudging) (o : OpenedRejudging) → is_valid x ≡ true → IsSoundRejudging w → opening w x ≡ Ok o → are_addable x (opening_entries o) ≡ true
 opened_addable x w o valid sound h =
     let m = made _ (open_rejudging x.fixed x.submissions x.releases x.rejudgings w) o h in
-    subst (λ (q : OpenedRejudging). are_addable x (opened_entries q) ≡ true) m.is (both_true _ _ (opened_is_addable x w m.given valid sound.0 sound.1 m.is_given) refl)
+    subst (λ (q : OpenedRejudging). are_addable x (opening_entries q) ≡ true) m.is (both_true _ _ (opened_is_addable x w m.given valid sound.0 sound.1 m.is_given) refl)
 
 stepped_addable : (now : ℕ) (step : RejudgingStep) (x : ContestState) (p : ℕ × Rejudging) (id : List ℕ) (c : RejudgingChange) → is_valid x ≡ true → IsSoundStep x.fixed step
-    → named_rejudging id x.rejudgings ≡ Some p → stepped now step x p ≡ Ok c → are_addable x c.entries ≡ true
+    → named_rejudging id x.rejudgings ≡ Some p → step_change now step x p ≡ Ok c → are_addable x c.entries ≡ true
 stepped_addable now (Judge v) x p id c valid sound named h =
     let verification = x.fixed.settings.head.verification in
-    let m = made (member_changed p.0 p.1) (rejudge_on verification p.1 (named_verdict x.fixed x.submissions v.wanted) v.account) c h in
+    let m = made (member_change p.0 p.1) (rejudge_on verification p.1 (named_verdict x.fixed x.submissions v.wanted) v.account) c h in
     subst (λ (d : RejudgingChange). are_addable x d.entries ≡ true) m.is
     (both_true _ _ (rejudged_is_addable x verification p.0 p.1 v.wanted v.account m.given sound m.is_given) refl)
 stepped_addable now Apply x p id c valid sound named h =
-    let m = made (applied p.0 p.1) (apply_on x.releases now p.1) c h in
+    let m = made (apply_change p.0 p.1) (apply_on x.releases now p.1) c h in
     subst (λ (d : RejudgingChange). are_addable x d.entries ≡ true) m.is (applied_is_addable x now p.0 p.1 m.given valid (named_has id x.rejudgings p named) m.is_given)
 stepped_addable now Cancel x p id c valid sound named h =
-    let m = made (λ done. cancelled p.0 p.1) (cancel_on p.1) c h in
+    let m = made (λ done. cancel_change p.0 p.1) (cancel_on p.1) c h in
     subst (λ (d : RejudgingChange). are_addable x d.entries ≡ true) m.is refl
 
 pub changed_addable : (now : ℕ) (id : List ℕ) (step : RejudgingStep) (x : ContestState) (c : RejudgingChange) → is_valid x ≡ true → IsSoundStep x.fixed step
-    → changed now id step x ≡ Ok c → are_addable x c.entries ≡ true
+    → rejudging_change now id step x ≡ Ok c → are_addable x c.entries ≡ true
 changed_addable now id step x c valid sound h =
-    let go : (o : Option (ℕ × Rejudging)) → named_rejudging id x.rejudgings ≡ o → elim o as (λ _. Result RejudgingChange RuleRefusal) [ None ↦ Err NotFound | (Some p) ↦ stepped now step x p ] ≡ Ok c → are_addable x c.entries ≡ true = elim [
+    let go : (o : Option (ℕ × Rejudging)) → named_rejudging id x.rejudgings ≡ o → elim o as (λ _. Result RejudgingChange RuleRefusal) [ None ↦ Err NotFound | (Some p) ↦ step_change now step x p ] ≡ Ok c → are_addable x c.entries ≡ true = elim [
       | None ↦ λ e k. absurd (cc k)
       | (Some p) ↦ λ e k. stepped_addable now step x p id c valid sound e k
     ] in

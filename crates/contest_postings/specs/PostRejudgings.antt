@@ -24,31 +24,31 @@ use Rattle.contest_postings.specs.declared.rejudging.RejudgingStep.{RejudgingSte
 use Rattle.contest_postings.specs.declared.rejudging.RejudgingStep.TheVariants.{Judge, Apply, Cancel}
 
 -- one that is opened has the number after those that were opened before
-abbrev pub opened : WantedRejudging → ContestState → Result OpenedRejudging RuleRefusal
-opened w x =
+abbrev pub opening : WantedRejudging → ContestState → Result OpenedRejudging RuleRefusal
+opening w x =
     ruled_with (λ r. record { number = length x.rejudgings + 1; rejudging = r }) (open_rejudging x.fixed x.submissions x.releases x.rejudgings w)
 
-abbrev pub opened_object : FixedPart → OpenedRejudging → Data
-opened_object f o = rejudging_data f.settings o.number o.rejudging
+abbrev pub opening_object : FixedPart → OpenedRejudging → Data
+opening_object f o = rejudging_data f.settings o.number o.rejudging
 
-abbrev pub opened_entries : OpenedRejudging → List Entry
-opened_entries o = NewRejudging o.rejudging ∷ []
+abbrev pub opening_entries : OpenedRejudging → List Entry
+opening_entries o = NewRejudging o.rejudging ∷ []
 
 -- what becomes of a rejudging that the jury opens
 abbrev pub opening_done : WantedRejudging → ContestState → Result Done RuleRefusal
-opening_done w x = done_as (opened_object x.fixed) opened_entries (opened w x)
+opening_done w x = done_as (opening_object x.fixed) opening_entries (opening w x)
 
 -- a rejudging with a member in another state
-abbrev pub member_changed : (number : ℕ) → Rejudging → MemberChange → RejudgingChange
-member_changed number r c = record { number = number; rejudging = with_member_state c.place c.state r; entries = SetMember number c.place c.state ∷ [] }
+abbrev pub member_change : (number : ℕ) → Rejudging → MemberChange → RejudgingChange
+member_change number r c = record { number = number; rejudging = with_member_state c.place c.state r; entries = SetMember number c.place c.state ∷ [] }
 
 -- one that is applied, with its releases
-abbrev pub applied : (number : ℕ) → Rejudging → List Release → RejudgingChange
-applied number r releases = record { number = number; rejudging = record r { state = Applied }; entries = applied_entries number releases }
+abbrev pub apply_change : (number : ℕ) → Rejudging → List Release → RejudgingChange
+apply_change number r releases = record { number = number; rejudging = record r { state = Applied }; entries = applied_entries number releases }
 
 -- one that is cancelled releases nothing
-abbrev pub cancelled : (number : ℕ) → Rejudging → RejudgingChange
-cancelled number r = record { number = number; rejudging = record r { state = Cancelled }; entries = SetRejudging number Cancelled ∷ [] }
+abbrev pub cancel_change : (number : ℕ) → Rejudging → RejudgingChange
+cancel_change number r = record { number = number; rejudging = record r { state = Cancelled }; entries = SetRejudging number Cancelled ∷ [] }
 
 -- what is known of a step once it is read: the judge's account is there
 abbrev pub IsSoundStep : FixedPart → RejudgingStep → Type 0
@@ -57,14 +57,14 @@ IsSoundStep f Apply = Unit {0}
 IsSoundStep f Cancel = Unit {0}
 
 -- what a step makes of a rejudging and its number
-abbrev pub stepped : (now : ℕ) → RejudgingStep → ContestState → ℕ × Rejudging → Result RejudgingChange RuleRefusal
-stepped now (Judge v) x p = ruled_with (member_changed p.0 p.1) (rejudge_on x.fixed.settings.head.verification p.1 (named_verdict x.fixed x.submissions v.wanted) v.account)
-stepped now Apply x p = ruled_with (applied p.0 p.1) (apply_on x.releases now p.1)
-stepped now Cancel x p = ruled_with (λ done. cancelled p.0 p.1) (cancel_on p.1)
+abbrev pub step_change : (now : ℕ) → RejudgingStep → ContestState → ℕ × Rejudging → Result RejudgingChange RuleRefusal
+step_change now (Judge v) x p = ruled_with (member_change p.0 p.1) (rejudge_on x.fixed.settings.head.verification p.1 (named_verdict x.fixed x.submissions v.wanted) v.account)
+step_change now Apply x p = ruled_with (apply_change p.0 p.1) (apply_on x.releases now p.1)
+step_change now Cancel x p = ruled_with (λ done. cancel_change p.0 p.1) (cancel_on p.1)
 
 -- the rejudging that the path names comes first
-abbrev pub changed : (now : ℕ) → (id : List ℕ) → RejudgingStep → ContestState → Result RejudgingChange RuleRefusal
-changed now id step x = elim (named_rejudging id x.rejudgings) [ None ↦ Err NotFound | (Some p) ↦ stepped now step x p ]
+abbrev pub rejudging_change : (now : ℕ) → (id : List ℕ) → RejudgingStep → ContestState → Result RejudgingChange RuleRefusal
+rejudging_change now id step x = elim (named_rejudging id x.rejudgings) [ None ↦ Err NotFound | (Some p) ↦ step_change now step x p ]
 
 -- it is answered as it is after the change
 abbrev pub change_object : FixedPart → RejudgingChange → Data
@@ -75,4 +75,4 @@ change_entries c = c.entries
 
 -- what becomes of what the jury does with a rejudging
 abbrev pub rejudging_done : (now : ℕ) → (id : List ℕ) → RejudgingStep → ContestState → Result Done RuleRefusal
-rejudging_done now id step x = done_as (change_object x.fixed) change_entries (changed now id step x)
+rejudging_done now id step x = done_as (change_object x.fixed) change_entries (rejudging_change now id step x)

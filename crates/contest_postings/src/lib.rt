@@ -13,6 +13,7 @@ mod submission;
 mod verification;
 
 pub use clarification::Clarifying;
+pub use named::named_verdict;
 pub use opening::{OpenedRejudging, Opening};
 pub use own_so_far::keyed_row;
 pub use posting::{Done, Posting, carry_out};

@@ -24,17 +24,17 @@ pub struct OpenedRejudging {
 }
 
 impl<'a> Posting<'a> for Opening {
-    ghost use Rattle.contest_postings.specs.PostRejudgings.{opened, opened_entries, opened_object};
+    ghost use Rattle.contest_postings.specs.PostRejudgings.{opening, opening_entries, opening_object};
 
     type Done = OpenedRejudging;
 
     ghost fits = { λ c x. Unit {0} };
 
-    ghost decide = { λ c now x. opened c.wanted x };
+    ghost decide = { λ c now x. opening c.wanted x };
 
-    ghost object = { opened_object };
+    ghost object = { opening_object };
 
-    ghost entries = { opened_entries };
+    ghost entries = { opening_entries };
 
     fn decide(
         self,

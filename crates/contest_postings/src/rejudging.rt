@@ -5,10 +5,10 @@ ghost use Rattle.contest_types.specs.Valid.{is_valid};
 ghost use Rattle.contest_types.specs.declared.entry.Entry.TheVariants.{NewRelease};
 ghost use Rattle.contest_types.specs.declared.rejudging.Member.{Member as TheMember};
 ghost use Rattle.contest_lists.specs.Lists.{loaded};
-ghost use Rattle.contest_rules.specs.Rejudging.{applied_entries, apply_on, cancel_on, rejudge_on};
+ghost use Rattle.contest_rules.specs.Rejudging.{apply_on, cancel_on, rejudge_on};
 ghost use Rattle.contest_rules.specs.Verdicts.{named_verdict};
 ghost use Rattle.contest_postings.specs.DoneThings.{done_of, ruled_with};
-ghost use Rattle.contest_postings.specs.PostRejudgings.{applied, cancelled, change_entries, change_object, member_changed};
+ghost use Rattle.contest_postings.specs.PostRejudgings.{apply_change, cancel_change, change_entries, change_object, member_change};
 
 use crate::named::named_verdict;
 use crate::posting::{Done, Posting};
@@ -54,13 +54,13 @@ pub struct RejudgingChange {
 }
 
 impl<'a> Posting<'a> for Rejudge<'a> {
-    ghost use Rattle.contest_postings.specs.PostRejudgings.{change_entries, change_object, changed};
+    ghost use Rattle.contest_postings.specs.PostRejudgings.{change_entries, change_object, rejudging_change};
 
     type Done = RejudgingChange;
 
     ghost fits = { λ c x. Unit {0} };
 
-    ghost decide = { λ c now x. changed now c.id.now c.step x };
+    ghost decide = { λ c now x. rejudging_change now c.id.now c.step x };
 
     ghost object = { change_object };
 
@@ -105,7 +105,7 @@ fn judge(
     verdict: JuryVerdict,
 ) -> Result<Result<RejudgingChange, RuleRefusal>, AllocError>
     ensures { (x : ContestState) → is_valid x ≡ true → lists.now ≡ loaded x
-        → IfOk result (λ r. r ≡ ruled_with (member_changed named.entry.number named.entry.rejudging.now) (rejudge_on x.fixed.settings.head.verification named.entry.rejudging.now (named_verdict x.fixed x.submissions verdict.wanted) verdict.account)) }
+        → IfOk result (λ r. r ≡ ruled_with (member_change named.entry.number named.entry.rejudging.now) (rejudge_on x.fixed.settings.head.verification named.entry.rejudging.now (named_verdict x.fixed x.submissions verdict.wanted) verdict.account)) }
 {
     let JuryVerdict { account, wanted } = verdict;
     let on = named_verdict(lists, &wanted);
@@ -122,7 +122,7 @@ fn with_member(
     named: NumberedRejudging<'_>,
     change: MemberChange,
 ) -> Result<RejudgingChange, AllocError>
-    ensures { IfOk result (λ done. done ≡ member_changed named.entry.number named.entry.rejudging.now change) }
+    ensures { IfOk result (λ done. done ≡ member_change named.entry.number named.entry.rejudging.now change) }
 {
     let MemberChange { place, state } = change;
     let NumberedRejudging { number, rejudging } = named;
@@ -183,7 +183,7 @@ fn apply(
     named: NumberedRejudging<'_>,
     now: Moment,
 ) -> Result<Result<RejudgingChange, RuleRefusal>, AllocError>
-    ensures { IfOk result (λ r. r ≡ ruled_with (applied named.entry.number named.entry.rejudging.now) (apply_on releases.now now named.entry.rejudging.now)) }
+    ensures { IfOk result (λ r. r ≡ ruled_with (apply_change named.entry.number named.entry.rejudging.now) (apply_on releases.now now named.entry.rejudging.now)) }
 {
     match decide_apply(alloc, named.rejudging, releases, now)? {
         Ok(next) => Ok(Ok(with_releases(alloc, named, next.as_slice())?)),
@@ -197,7 +197,7 @@ fn with_releases(
     named: NumberedRejudging<'_>,
     releases: &[Release],
 ) -> Result<RejudgingChange, AllocError>
-    ensures { IfOk result (λ done. done ≡ applied named.entry.number named.entry.rejudging.now releases.now) }
+    ensures { IfOk result (λ done. done ≡ apply_change named.entry.number named.entry.rejudging.now releases.now) }
 {
     let mut rejudging = named.rejudging.copied(alloc)?;
     rejudging.state = RejudgingState::Applied;
@@ -225,7 +225,7 @@ fn cancel(
     alloc: Global,
     named: NumberedRejudging<'_>,
 ) -> Result<Result<RejudgingChange, RuleRefusal>, AllocError>
-    ensures { IfOk result (λ r. r ≡ ruled_with (λ done. cancelled named.entry.number named.entry.rejudging.now) (cancel_on named.entry.rejudging.now)) }
+    ensures { IfOk result (λ r. r ≡ ruled_with (λ done. cancel_change named.entry.number named.entry.rejudging.now) (cancel_on named.entry.rejudging.now)) }
 {
     match decide_cancel(named.rejudging) {
         Ok(()) => Ok(Ok(given_up(alloc, named)?)),
@@ -234,7 +234,7 @@ fn cancel(
 }
 
 fn given_up(alloc: Global, named: NumberedRejudging<'_>) -> Result<RejudgingChange, AllocError>
-    ensures { IfOk result (λ done. done ≡ cancelled named.entry.number named.entry.rejudging.now) }
+    ensures { IfOk result (λ done. done ≡ cancel_change named.entry.number named.entry.rejudging.now) }
 {
     let mut rejudging = named.rejudging.copied(alloc)?;
     rejudging.state = RejudgingState::Cancelled;

@@ -25,7 +25,8 @@ use Rattle.contest_types.proofs.PlaceLemmas.{and_left, and_right, both_true, not
 use Rattle.contest_types.proofs.Rising.{find_passes}
 use Rattle.contest_types.proofs.ValidParts.{parts}
 use Rattle.contest_rules.specs.Laws.{OpenedIsAddable}
-use Rattle.contest_rules.specs.Opening.{all_there, are_released, candidate_of, is_any_rejudged, is_rejudged, member_of, open_named, opening_refusal}
+use Rattle.contest_types.specs.Options.{all_some}
+use Rattle.contest_rules.specs.Opening.{are_released, candidate_of, is_any_rejudged, is_rejudged, member_of, open_named, opening_refusal}
 use Rattle.contest_rules.specs.Verdicts.{submission_named}
 use Rattle.contest_rules.specs.declared.candidates.Candidate.{Candidate}
 use Rattle.contest_rules.specs.declared.opening.WantedRejudging.{WantedRejudging}
@@ -47,10 +48,10 @@ named_id id ss s h =
     go (find test ss) refl h
 
 -- so they have these ids, if all are there
-all_named : (ids : List (List ℕ)) (ss : List Submission) (refs : List SubmissionRef) → all_there (map (λ id. submission_named id ss) ids) ≡ Some refs → map id_of refs ≡ ids
+all_named : (ids : List (List ℕ)) (ss : List Submission) (refs : List SubmissionRef) → all_some (map (λ id. submission_named id ss) ids) ≡ Some refs → map id_of refs ≡ ids
 all_named [] ss refs h = let is : [] ≡ refs = cc h in ap (map id_of) (sym is)
 all_named (id ∷ ids) ss refs h =
-    let rest : Option (List SubmissionRef) = all_there (map (λ other. submission_named other ss) ids) in
+    let rest : Option (List SubmissionRef) = all_some (map (λ other. submission_named other ss) ids) in
     let second : (s : SubmissionRef) → submission_named id ss ≡ Some s → (p : Option (List SubmissionRef)) → rest ≡ p → option_map (λ more. s ∷ more) p ≡ Some refs → map id_of refs ≡ id ∷ ids = λ s named. elim [
       | None ↦ λ e k. absurd (cc k)
       | (Some more) ↦ λ e k. (let is : s ∷ more ≡ refs = cc k in
@@ -192,8 +193,8 @@ opened_is_addable x w r valid different few h =
       | None ↦ λ e k. (let is : made refs ≡ r = cc k in
           subst (λ q. is_addable x (NewRejudging q) ≡ true) is (fits x w refs valid different few ids (is_free x.fixed (length rs) (map (candidate_of vs rs) refs) e)))
     ] in
-    let go : (o : Option (List SubmissionRef)) → all_there (map (λ id. submission_named id x.submissions) w.submissions) ≡ o → open_named x.fixed o vs rs w.reason ≡ Ok r → is_addable x (NewRejudging r) ≡ true = elim [
+    let go : (o : Option (List SubmissionRef)) → all_some (map (λ id. submission_named id x.submissions) w.submissions) ≡ o → open_named x.fixed o vs rs w.reason ≡ Ok r → is_addable x (NewRejudging r) ≡ true = elim [
       | None ↦ λ e k. absurd (cc k)
       | (Some refs) ↦ λ e k. over refs (all_named w.submissions x.submissions refs e) (opening_refusal x.fixed (length rs) (map (candidate_of vs rs) refs)) refl k
     ] in
-    go (all_there (map (λ id. submission_named id x.submissions) w.submissions)) refl h
+    go (all_some (map (λ id. submission_named id x.submissions) w.submissions)) refl h

@@ -15,7 +15,7 @@ is_in set team number = contains (λ p q. (p.0 == q.0) && (p.1 == q.1)) set (tea
 
 -- how a submission stands, by the counts of releases and the set of those that are judged again
 abbrev pub candidate_by : {H S : Type 0} → HashMap (ℕ × ℕ) ℕ H → HashSet (ℕ × ℕ) S → SubmissionRef → Candidate
-candidate_by rounds again s = record { team = s.team; number = s.number; is_released = nat_lt 0 (count_in rounds s.team s.number); is_rejudged = is_in again s.team s.number }
+candidate_by rounds members s = record { team = s.team; number = s.number; is_released = nat_lt 0 (count_in rounds s.team s.number); is_rejudged = is_in members s.team s.number }
 
 abbrev pub members_if_open : Rejudging → List Member
 members_if_open r = if is_open r then r.members else []

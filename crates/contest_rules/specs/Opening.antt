@@ -1,8 +1,8 @@
 -- What becomes of a rejudging that the jury opens (DOMjudge manual, "Rejudging"; over which submissions it may be opened, and
 -- the order of refusals, are own).
-use Rattle.std.specs.Prelude.{ℕ, Bool, not, nat_le, List, [], ◌∷◌, length, map, Option, Some, None, is_some, Result, Ok, Err, if◌then◌else◌}
+use Rattle.std.specs.Prelude.{ℕ, Bool, not, nat_le, List, length, map, Option, Some, None, is_some, Result, Ok, Err, if◌then◌else◌}
 use Rattle.std.specs.List.{list_all, list_any}
-use Rattle.std.specs.Option.{option_map, option_and_then}
+use Rattle.contest_types.specs.Options.{all_some}
 use Rattle.contest_types.specs.State.{FixedPart, SubmissionRef, names, of_member}
 use Rattle.contest_types.specs.ValidRejudgings.{is_released, open_members}
 use Rattle.contest_types.specs.declared.limits.TheConstants.{REJUDGINGS}
@@ -18,11 +18,6 @@ use Rattle.contest_rules.specs.declared.rule_refusal.RuleRefusal.{RuleRefusal}
 use Rattle.contest_rules.specs.declared.rule_refusal.RuleRefusal.TheVariants.{InRejudging, NotOpen, RejudgingIncomplete, TeamLimit, UnknownReference}
 use Rattle.contest_rules.specs.Verdicts.{submission_named}
 
--- all of these, if each is there
-abbrev pub all_there : {A : Type 0} → List (Option A) → Option (List A)
-all_there [] = Some []
-all_there (o ∷ os) = option_and_then (λ a. option_map (λ rest. a ∷ rest) (all_there os)) o
-
 -- a submission is a member of an open rejudging
 abbrev pub is_rejudged : (team number : ℕ) → List Rejudging → Bool
 is_rejudged team number rs = list_any (λ m. names team number (of_member m)) (open_members rs)
@@ -33,7 +28,7 @@ candidate_of vs rs s = record { team = s.team; number = s.number; is_released = 
 
 -- the submissions that have these ids, if each is there
 abbrev pub submissions_named : List (List ℕ) → List Submission → Option (List SubmissionRef)
-submissions_named ids ss = all_there (map (λ id. submission_named id ss) ids)
+submissions_named ids ss = all_some (map (λ id. submission_named id ss) ids)
 
 -- a member that waits for its verdict
 abbrev pub member_of : Candidate → Member

@@ -39,35 +39,36 @@ impl Candidate {
 /// Submissions, by the place of the team, from 0, and the number, from 1.
 type Members = HashSet<(usize, usize)>;
 
-/// What was released, and what is judged again.
+/// By which it is known how a submission stands: how often each was released, and the members of all open
+/// rejudgings.
 #[derive(Drop)]
-struct Judged {
+struct Standing {
     rounds: Rounds,
-    again: Members,
+    members: Members,
 }
 
-impl Judged {
+impl Standing {
     fn new(
         alloc: Global,
         releases: &[Release],
         rejudgings: &[Rejudging],
-    ) -> Result<Judged, AllocError>
-        ensures { IfOk result (λ judged. (s : SubmissionRef) → candidate_by judged.rounds judged.again s ≡ candidate_of releases.now rejudgings.now s) }
+    ) -> Result<Standing, AllocError>
+        ensures { IfOk result (λ standing. (s : SubmissionRef) → candidate_by standing.rounds standing.members s ≡ candidate_of releases.now rejudgings.now s) }
     {
         let rounds = rounds_of(alloc, releases)?;
-        let again = judged_again(alloc, rejudgings)?;
-        Ok(Judged { rounds, again })
+        let members = open_members(alloc, rejudgings)?;
+        Ok(Standing { rounds, members })
     }
 
     fn candidate(&self, submission: &Submission) -> Candidate
-        ensures { result ≡ candidate_by self.now.rounds self.now.again (of_submission submission.now) }
+        ensures { result ≡ candidate_by self.now.rounds self.now.members (of_submission submission.now) }
     {
         let (team, number) = (submission.team, submission.number);
         Candidate {
             team,
             number,
             is_released: count_of(&self.rounds, team, number) > 0,
-            is_rejudged: self.again.contains(&(team, number)),
+            is_rejudged: self.members.contains(&(team, number)),
         }
     }
 }
@@ -85,31 +86,31 @@ pub(crate) fn candidates_of(
 ) -> Result<Rows<Candidate>, AllocError>
     ensures { IfOk result (λ candidates. candidates ≡ map (candidate_of releases.now rejudgings.now) (map (λ s. of_submission s.now) named.now)) }
 {
-    let judged = Judged::new(alloc, releases, rejudgings)?;
+    let standing = Standing::new(alloc, releases, rejudgings)?;
     let mut candidates = Rows::new(alloc);
     for submission in named {
-        candidates.push(judged.candidate(submission))?;
+        candidates.push(standing.candidate(submission))?;
     }
     Ok(candidates)
 }
 
 // The members of all open rejudgings.
-fn judged_again(alloc: Global, rejudgings: &[Rejudging]) -> Result<Members, AllocError>
-    ensures { IfOk result (λ again. (team number : ℕ) → is_in again team number ≡ is_rejudged team number rejudgings.now) }
+fn open_members(alloc: Global, rejudgings: &[Rejudging]) -> Result<Members, AllocError>
+    ensures { IfOk result (λ members. (team number : ℕ) → is_in members team number ≡ is_rejudged team number rejudgings.now) }
 {
-    let mut again = HashSet::new(alloc);
+    let mut members = HashSet::new(alloc);
     for rejudging in rejudgings {
-        let more = with_members(again, members_if_open(rejudging))?;
-        again = more;
+        let more = with_members(members, members_if_open(rejudging))?;
+        members = more;
     }
-    Ok(again)
+    Ok(members)
 }
 
 // With these members too.
-fn with_members(again: Members, members: &[Member]) -> Result<Members, AllocError>
-    ensures { IfOk result (λ more. (team number : ℕ) → is_in more team number ≡ (is_in again team number || list_any (λ m. names team number (of_member m)) members.now)) }
+fn with_members(first: Members, members: &[Member]) -> Result<Members, AllocError>
+    ensures { IfOk result (λ more. (team number : ℕ) → is_in more team number ≡ (is_in first team number || list_any (λ m. names team number (of_member m)) members.now)) }
 {
-    let mut more = again;
+    let mut more = first;
     for member in members {
         more.insert((member.team, member.number))?;
     }

@@ -20,7 +20,7 @@ pub use clarifying::{
 };
 pub use decision::Decision;
 pub use opening::{WantedRejudging, decide_opening};
-pub use proposing::{NewVerdict, decide_proposal};
+pub use proposing::{NewVerdict, decide_proposal, release_at_once};
 pub use rejudging::{MemberChange, decide_apply, decide_cancel, decide_member};
 pub use rule_refusal::RuleRefusal;
 pub use submitting::{OwnSoFar, Standing, WantedSubmission, decide_submission, has_key};

@@ -84,8 +84,8 @@ fn proposals_made(proposals: &[Proposal], team: usize, number: usize) -> usize
         .count()
 }
 
-// The first release on it, unless somebody has to verify it.
-fn release_at_once(fixed: &Fixed, now: Moment, named: NamedVerdict) -> Option<Release>
+/// The first release of a verdict that is proposed now, where nobody has to verify it (own).
+pub fn release_at_once(fixed: &Fixed, now: Moment, named: NamedVerdict) -> Option<Release>
     ensures { result ≡ release_at_once fixed.now now named }
 {
     if fixed.settings.head().verification {

@@ -13,6 +13,7 @@ pub mod Rows
 pub mod SetupAdditions
 pub mod TeamPlaces
 pub mod Order
+pub mod Options
 pub mod ProblemPlaces
 pub mod SettingsNames
 pub mod ProblemKeys

@@ -15,13 +15,22 @@ pub enum SettingsKind {
     Teams,
 }
 
-/// What a file holds, and in which form.
+/// What a file of the contest's fixed part holds, and in which form.
 #[derive(Clone, Copy, PartialEq, Eq)]
-pub enum ImportKind {
+pub enum FixedKind {
     /// Settings, as JSON.
     Settings(SettingsKind),
     /// Teams, as CSV.
     TeamsCsv,
     /// Accounts, as CSV.
     AccountsCsv,
+}
+
+/// What a file holds, and in which form.
+#[derive(Clone, Copy, PartialEq, Eq)]
+pub enum ImportKind {
+    /// Rows of the fixed part: settings or accounts.
+    Fixed(FixedKind),
+    /// Verdicts, as CSV.
+    VerdictsCsv,
 }

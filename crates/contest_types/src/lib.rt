@@ -47,7 +47,7 @@ pub use entry::Entry;
 pub use fixed::Fixed;
 pub use id::{Id, ids_are_ascii, is_id};
 pub use id_list::Identified;
-pub use import_kind::{ImportKind, SettingsKind};
+pub use import_kind::{FixedKind, ImportKind, SettingsKind};
 pub use marks::Marks;
 pub use minute::Minute;
 pub use moment::{Moment, one_moment, one_text, print_time, text_is_counted};

@@ -1,7 +1,8 @@
 //! The demo contest in both stores.
-ghost use Rattle.std.specs.Prelude.{◌≡◌, IfOk, IsTrue};
+ghost use Rattle.std.specs.Prelude.{◌≡◌, [], IfOk, IsTrue};
 ghost use Rattle.contest_types.specs.State.{new_contest};
 ghost use Rattle.contest_types.specs.declared.contest.Contest.{Contest as TheContest};
+ghost use Rattle.contest_lists.specs.Lists.{with_submissions};
 ghost use Rattle.contest_demo.specs.Filling.{IsJustCreated};
 ghost use Rattle.contest_store.specs.InMemory.{committed_of, contest_of};
 
@@ -23,8 +24,9 @@ static CASES: [(usize, usize, [usize; 9]); 4] = [
     (0, 1, [3, 2, 1, 0, 0, 3, 0, 0, 0]),
 ];
 
-fn in_memory(alloc: Global) -> Result<MemoryStore, Fail>
-    ensures { IfOk result (λ store. (c : TheContest) × (contest_of store ≡ new_contest c) × (committed_of store ≡ new_contest c)) }
+/// The contest, in which nothing stands.
+pub fn demo_fixed(alloc: Global) -> Result<Rc<Fixed>, Fail>
+    ensures { IfOk result (λ fixed. (c : TheContest) × (with_submissions fixed.value [] ≡ new_contest c)) }
 {
     let Contest { head, start } = demo::contest(alloc, false)?;
     let fixed = Fixed {
@@ -36,7 +38,14 @@ fn in_memory(alloc: Global) -> Result<MemoryStore, Fail>
             finalized: None,
         },
     };
-    Ok(MemoryStore::new(alloc, Rc::new(alloc, fixed)?))
+    Ok(Rc::new(alloc, fixed)?)
+}
+
+fn in_memory(alloc: Global) -> Result<MemoryStore, Fail>
+    ensures { IfOk result (λ store. (c : TheContest) × (contest_of store ≡ new_contest c) × (committed_of store ≡ new_contest c)) }
+{
+    let fixed = demo_fixed(alloc)?;
+    Ok(MemoryStore::new(alloc, fixed))
 }
 
 /// Fills any store in which nothing stands, and counts what stands then.
@@ -57,6 +66,13 @@ fn filled<S: ContestStore>(
 fn filled_memory(alloc: Global, teams: usize, problems: usize) -> Result<[usize; 9], Fail> {
     let mut store = in_memory(alloc)?;
     filled(alloc, &mut store, teams, problems)
+}
+
+/// The whole contest in memory, as the library fills it.
+pub fn whole_demo(alloc: Global) -> Result<MemoryStore, Fail> {
+    let mut store = in_memory(alloc)?;
+    demo::fill(alloc, &mut store, 4, 2)?;
+    Ok(store)
 }
 
 fn filled_tables(alloc: Global, teams: usize, problems: usize) -> Result<[usize; 9], Fail> {

@@ -5,6 +5,8 @@
 #[cfg(test)]
 mod demo_contest;
 #[cfg(test)]
+mod demo_imports;
+#[cfg(test)]
 mod first_changes;
 #[cfg(test)]
 mod memory_changes;

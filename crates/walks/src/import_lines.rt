@@ -2,7 +2,7 @@
 //! `teams-csv id,name,group_ids,hidden | t1,Alpha,,`, where ` | ` ends a line of the file.
 
 use contest_desk::{ImportItem, Item};
-use contest_types::{ImportKind, Moment, Refusal, Rows, SettingsKind};
+use contest_types::{FixedKind, ImportKind, Moment, Refusal, Rows, SettingsKind};
 use std::alloc::{AllocError, Global};
 use std::test::Fail;
 
@@ -18,15 +18,20 @@ pub fn import_at(alloc: Global, now: Moment, line: &str) -> Result<Item, Fail> {
 
 fn kind_named(name: &str) -> Option<ImportKind> {
     match name {
-        "judgement-types" => Some(ImportKind::Settings(SettingsKind::JudgementTypes)),
-        "languages" => Some(ImportKind::Settings(SettingsKind::Languages)),
-        "problems" => Some(ImportKind::Settings(SettingsKind::Problems)),
-        "groups" => Some(ImportKind::Settings(SettingsKind::Groups)),
-        "teams" => Some(ImportKind::Settings(SettingsKind::Teams)),
-        "teams-csv" => Some(ImportKind::TeamsCsv),
-        "accounts-csv" => Some(ImportKind::AccountsCsv),
+        "judgement-types" => Some(settings(SettingsKind::JudgementTypes)),
+        "languages" => Some(settings(SettingsKind::Languages)),
+        "problems" => Some(settings(SettingsKind::Problems)),
+        "groups" => Some(settings(SettingsKind::Groups)),
+        "teams" => Some(settings(SettingsKind::Teams)),
+        "teams-csv" => Some(ImportKind::Fixed(FixedKind::TeamsCsv)),
+        "accounts-csv" => Some(ImportKind::Fixed(FixedKind::AccountsCsv)),
+        "verdicts-csv" => Some(ImportKind::VerdictsCsv),
         _ => None,
     }
+}
+
+fn settings(kind: SettingsKind) -> ImportKind {
+    ImportKind::Fixed(FixedKind::Settings(kind))
 }
 
 /// The file, in which `<500 teams>` stands for the records of so many teams.

@@ -1,7 +1,8 @@
 use Rattle.std.proofs.Common.{◌≡◌, ◌++◌, ℕ, List, drop, map}
 use Rattle.std.specs.Option.{option_map}
 use Rattle.serde_json.specs.View.{view}
-use Rattle.contest_files.specs.IdArrays.{all_some, id_item}
+use Rattle.contest_types.specs.Options.{all_some}
+use Rattle.contest_files.specs.IdArrays.{id_item}
 use Rattle.contest_files.proofs.id_arrays.ids_of.Given as goal
 
 abbrev pub invariant-loop-item : goal.invariant-loop-item

@@ -1,6 +1,6 @@
 use Rattle.std.proofs.Common.{◌≡◌, ◌+◌, ◌++◌, ℕ, List, [], length, map}
 use Rattle.std.specs.Option.{option_map, option_map_or}
-use Rattle.contest_files.specs.IdArrays.{all_some}
+use Rattle.contest_types.specs.Options.{all_some}
 use Rattle.contest_types.specs.IdText.{id_of}
 use Rattle.contest_import.specs.Words.{words}
 use Rattle.contest_import.proofs.team_record.ids_named.Given as goal
