@@ -12,6 +12,7 @@ pub mod FileReadLemmas
 mod ExamplesReads
 pub mod BoardObjectLemmas
 pub mod BoardLaws
+pub mod AwardReads
 mod ExamplesBoards
 pub mod LastRowLemmas
 pub mod JudgementLemmas
