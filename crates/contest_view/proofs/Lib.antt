@@ -14,6 +14,7 @@ pub mod BoardObjectLemmas
 pub mod BoardLaws
 pub mod AwardReads
 mod ExamplesBoards
+mod ExamplesAwards
 pub mod LastRowLemmas
 pub mod JudgementLemmas
 pub mod JudgementIds
