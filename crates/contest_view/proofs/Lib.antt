@@ -13,6 +13,7 @@ mod ExamplesReads
 pub mod BoardObjectLemmas
 pub mod BoardLaws
 pub mod AwardReads
+pub mod AwardIds
 mod ExamplesBoards
 mod ExamplesAwards
 pub mod LastRowLemmas

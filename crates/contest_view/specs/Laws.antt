@@ -13,9 +13,12 @@ use Rattle.contest_types.specs.declared.audience.Audience.{Audience}
 use Rattle.contest_types.specs.declared.audience.Audience.TheVariants.{Jury}
 use Rattle.contest_types.specs.declared.submission.Submission.{Submission}
 use Rattle.contest_types.specs.VisibleIds.{submission_id}
+use Rattle.contest_score.specs.Awards.{shown_awards}
+use Rattle.contest_score.specs.declared.award.Award.{Award}
 use Rattle.contest_view.specs.Awards.{awards_data, award_found}
 use Rattle.contest_view.specs.Clarifications.{clarifications_data, clarification_found}
 use Rattle.contest_view.specs.FileReads.{file_found, file_place}
+use Rattle.contest_objects.specs.AwardObjects.{award_data}
 use Rattle.contest_objects.specs.Items.{array_of}
 use Rattle.contest_objects.specs.Objects.{submission_object}
 use Rattle.contest_view.specs.Reads.{submissions_data, submission_found}
@@ -97,3 +100,9 @@ abbrev pub NoAwardIsReadBeforeTheThaw : Type 0
 NoAwardIsReadBeforeTheThaw =
     (a : Audience) (now freeze : ℕ) (x : ContestState) → MayBeHeld a now x → freeze_of x.fixed.settings x.fixed.marks ≡ Some freeze
     → (awards_data a now x ≡ array_of []) × ((id : List ℕ) → award_found a now x id ≡ None)
+
+-- in a valid contest an award that is shown is found by its id, which no other has
+abbrev pub ShownAwardIsFound : Type 0
+ShownAwardIsFound =
+    (a : Audience) (now : ℕ) (x : ContestState) → is_valid x ≡ true → (w : Award) → Has (shown_awards a now x) w
+    → award_found a now x w.id ≡ Some (award_data x.fixed.settings w.id w.citation w.teams)
