@@ -2,6 +2,7 @@ pub mod ObjectLemmas
 pub mod ProposalObjectLemmas
 pub mod CollectionLemmas
 pub mod SettingsObjectLemmas
+pub mod AwardObjectLemmas
 pub mod ContestObjectLemmas
 pub mod Sorting
 pub mod ListingLemmas

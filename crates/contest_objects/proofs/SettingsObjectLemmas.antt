@@ -8,7 +8,7 @@ use Rattle.contest_types.specs.declared.objects.Team.{Team}
 use Rattle.contest_types.specs.SettingsNames.{group_id_at}
 use Rattle.contest_objects.specs.SettingsObjects.{team_item}
 
-texts_have_none : (f : ℕ → List ℕ) (gs : List ℕ) → has_float (array (items_of (map (λ g. string (f g)) gs))) ≡ false
+pub texts_have_none : (f : ℕ → List ℕ) (gs : List ℕ) → has_float (array (items_of (map (λ g. string (f g)) gs))) ≡ false
 texts_have_none f [] = refl
 texts_have_none f (g ∷ gs) = texts_have_none f gs
 

@@ -9,3 +9,4 @@ pub mod ContestObjects
 pub mod ClarificationObjects
 pub mod JudgementObjects
 pub mod RejudgingObjects
+pub mod AwardObjects

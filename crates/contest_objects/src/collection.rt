@@ -49,8 +49,8 @@ pub trait Ordered: Collection {
     ghost total: { (c : Self) → IsTotalOrder (cmp c) };
 }
 
-/// A collection that everybody is served all of, in the order in which it was imported.
-pub(crate) trait Whole: Collection {
+/// A collection that is served whole, in the order in which its rows stand.
+pub trait Whole: Collection {
     /// A row as it is served.
     ghost whole: { Self → Self.Row → Item };
 
@@ -76,7 +76,7 @@ pub fn list<C: Ordered>(alloc: Global, collection: &C, rows: &[C::Row]) -> Resul
 /// # Errors
 ///
 /// Want of memory alone.
-pub(crate) fn whole_value<C: Whole>(
+pub fn list_whole<C: Whole>(
     alloc: Global,
     collection: &C,
     rows: &[C::Row],
@@ -113,7 +113,7 @@ pub(crate) fn value_at<C: Whole>(
 /// # Errors
 ///
 /// Want of memory alone.
-pub(crate) fn whole_by_id<C: Whole>(
+pub fn get_whole<C: Whole>(
     alloc: Global,
     collection: &C,
     rows: &[C::Row],

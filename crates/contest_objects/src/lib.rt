@@ -2,6 +2,7 @@
 //! and looked up by id.
 #![tactic(auto)]
 
+mod award_object;
 mod clarification_object;
 mod collection;
 mod contest_objects;
@@ -15,8 +16,9 @@ mod state_object;
 mod submission_object;
 mod visible_ids;
 
+pub use award_object::award_value;
 pub use clarification_object::clarification_value;
-pub use collection::{Collection, Ordered, get, list};
+pub use collection::{Collection, Ordered, Whole, get, get_whole, list, list_whole};
 pub use contest_objects::{ContestEndpoint, whole_value};
 pub use id_numbers::{rejudging_number, submission_numbers};
 pub use judgement_object::judgement_value;

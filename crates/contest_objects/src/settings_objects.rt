@@ -6,7 +6,7 @@ ghost use Rattle.serde_json.specs.Written.{has_float};
 ghost use Rattle.contest_types.specs.SettingsNames.{group_id_at};
 ghost use Rattle.contest_objects.specs.SettingsObjects.{problems_data, setting_found, settings_data, team_item};
 
-use crate::collection::{Collection, Whole, value_at, whole_by_id, whole_value};
+use crate::collection::{Collection, Whole, get_whole, list_whole, value_at};
 use crate::members::{Member, object_of, put_all};
 use contest_types::{Group, JudgementType, Language, Problem, Settings, Team, problem_order};
 use serde_json::{Map, Value, put};
@@ -41,15 +41,15 @@ pub fn settings_value(
     ensures no_floats { IfOk result (λ v. has_float (view v) ≡ false) }
 {
     match endpoint {
-        SettingsEndpoint::Languages => whole_value(alloc, &Languages, settings.languages()),
-        SettingsEndpoint::JudgementTypes => whole_value(
+        SettingsEndpoint::Languages => list_whole(alloc, &Languages, settings.languages()),
+        SettingsEndpoint::JudgementTypes => list_whole(
             alloc,
             &JudgementTypes,
             settings.judgement_types(),
         ),
-        SettingsEndpoint::Groups => whole_value(alloc, &Groups, settings.groups()),
+        SettingsEndpoint::Groups => list_whole(alloc, &Groups, settings.groups()),
         SettingsEndpoint::Problems => problems_value(alloc, settings),
-        SettingsEndpoint::Teams => whole_value(alloc, &Teams { settings }, settings.teams()),
+        SettingsEndpoint::Teams => list_whole(alloc, &Teams { settings }, settings.teams()),
     }
 }
 
@@ -68,16 +68,16 @@ pub fn setting_by_id(
     ensures no_floats { IfOk result (λ found. IfSome found (λ v. has_float (view v) ≡ false)) }
 {
     match endpoint {
-        SettingsEndpoint::Languages => whole_by_id(alloc, &Languages, settings.languages(), id),
-        SettingsEndpoint::JudgementTypes => whole_by_id(
+        SettingsEndpoint::Languages => get_whole(alloc, &Languages, settings.languages(), id),
+        SettingsEndpoint::JudgementTypes => get_whole(
             alloc,
             &JudgementTypes,
             settings.judgement_types(),
             id,
         ),
-        SettingsEndpoint::Groups => whole_by_id(alloc, &Groups, settings.groups(), id),
-        SettingsEndpoint::Problems => whole_by_id(alloc, &Problems, settings.problems(), id),
-        SettingsEndpoint::Teams => whole_by_id(alloc, &Teams { settings }, settings.teams(), id),
+        SettingsEndpoint::Groups => get_whole(alloc, &Groups, settings.groups(), id),
+        SettingsEndpoint::Problems => get_whole(alloc, &Problems, settings.problems(), id),
+        SettingsEndpoint::Teams => get_whole(alloc, &Teams { settings }, settings.teams(), id),
     }
 }
 

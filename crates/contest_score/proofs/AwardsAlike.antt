@@ -1,11 +1,11 @@
 -- Until the thaw, alike contests show an audience the same awards.
 use Rattle.std.proofs.Common.{◌≡◌, ℕ, Bool, true, false, List, [], ◌∷◌, map, filter, Option, Some, None, refl, sym, ap, ◌∙◌}
-use Rattle.std.specs.Prelude.{◌==◌, ◌&&◌, ◌||◌, find, is_none, if◌then◌else◌}
+use Rattle.std.specs.Prelude.{◌==◌, ◌&&◌, ◌||◌, find, if◌then◌else◌}
 use Rattle.std.specs.List.{flat_map, filter_map}
 use Rattle.std.specs.Option.{option_map}
 use Rattle.std.proofs.Math.Path.{fun_ext}
 use Rattle.contest_types.specs.Setup.{Setup}
-use Rattle.contest_types.specs.Clock.{freeze_of, is_thawed, is_finalized}
+use Rattle.contest_types.specs.Clock.{freeze_of, is_finalized}
 use Rattle.contest_types.specs.TeamPlaces.{team_places, is_public}
 use Rattle.contest_types.specs.Masks.{is_jury, mask_for}
 use Rattle.contest_types.specs.State.{FixedPart, ContestState}
@@ -25,6 +25,7 @@ use Rattle.contest_score.specs.Ranking.{board_rows, problem_order}
 use Rattle.contest_score.specs.MaskedCells.{attempt_under, attempts_under, is_by, start_of}
 use Rattle.contest_score.specs.Contest.{judged_submissions, contest_cell, board_for, solve_of, solves_of}
 use Rattle.contest_score.specs.Awards.{Award, awards_of, shows_awards, shown_awards}
+use Rattle.contest_score.specs.Results.{holds_nothing}
 use Rattle.contest_score.specs.ScoringLaws.{seen_attempt}
 use Rattle.contest_score.proofs.MaskLemmas.{map_same, never_frozen, attempts_seen}
 use Rattle.contest_score.proofs.BoardAlike.{board_same, seen_of_public}
@@ -80,7 +81,7 @@ jury_alike a now x y m h none =
     ∙ ap (λ (f : FixedPart). board_rows f.settings (is_public f.settings) (contest_cell Full y)) h.fixed
 
 shows_same : (a : Audience) (now : ℕ) (x y : ContestState) → Alike a x y → shows_awards a now x ≡ shows_awards a now y
-shows_same a now x y h = ap (λ (f : FixedPart). is_finalized f.marks now && (is_jury a || is_none (freeze_of f.settings f.marks) || is_thawed f.marks now)) h.fixed
+shows_same a now x y h = ap (λ (f : FixedPart). is_finalized f.marks now && (is_jury a || holds_nothing f.settings f.marks now)) h.fixed
 
 -- where there is a freeze moment, none are shown before the thaw
 shows_none : (a : Audience) (now : ℕ) (x : ContestState) (freeze : ℕ) → MayBeHeld a now x → freeze_of x.fixed.settings x.fixed.marks ≡ Some freeze → shows_awards a now x ≡ false
@@ -107,3 +108,9 @@ awards_alike a now x y m h =
           none (shows_awards a now x) _ no ∙ sym (none (shows_awards a now y) _ no_too))
     ] in
     held (freeze_of x.fixed.settings x.fixed.marks) refl
+
+-- and none where there is a freeze moment
+pub none_held : (a : Audience) (now : ℕ) (x : ContestState) (freeze : ℕ) → MayBeHeld a now x → freeze_of x.fixed.settings x.fixed.marks ≡ Some freeze → shown_awards a now x ≡ []
+none_held a now x freeze m e =
+    let none : (b : Bool) (w : List Award) → b ≡ false → (if b then w else []) ≡ [] = λ b w i. rw i refl in
+    none (shows_awards a now x) (awards_of x.fixed.settings (board_for Jury now x) (solves_of x)) (shows_none a now x freeze m e)

@@ -12,6 +12,7 @@ pub mod MaskLemmas
 pub mod LastTypes
 pub mod ListsLemmas
 pub mod ValidLists
+pub mod SolveLemmas
 mod Examples
 mod ExamplesBoard
 mod ExamplesAwards

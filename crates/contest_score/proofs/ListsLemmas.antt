@@ -31,7 +31,7 @@ cells_of_lists : (a : Audience) (now : ℕ) (f : FixedPart) (submissions : List 
 cells_of_lists a now f submissions releases us x h fixed sent released = rw (h, ← fixed, ← sent, ← released) refl
 
 -- and files aren't read
-files_unread : (types : ℕ → ℕ → Option ℕ) (submissions : List Submission) → map (judged_by types) (map without_file submissions) ≡ map (judged_by types) submissions
+pub files_unread : (types : ℕ → ℕ → Option ℕ) (submissions : List Submission) → map (judged_by types) (map without_file submissions) ≡ map (judged_by types) submissions
 files_unread types submissions = map-map (judged_by types) without_file submissions
 
 pub cells_of_loads : (a : Audience) (now : ℕ) (f : FixedPart) (submissions : List Submission) (releases : List Release) (us : List JudgedSubmission) (x : ContestState)

@@ -49,12 +49,12 @@ all_read_the_jurys_board a now x h =
     let s = x.fixed.settings in
     board_same s (is_public s) (seen_cell a now x) (seen_cell Jury now x) (λ u p e. all_read_the_jurys_cells a now x u p h)
 
-last_true : (b c : Bool) → (b || c || true) ≡ true
+last_true : (b c : Bool) → (b || (c || true)) ≡ true
 last_true true c = refl
 last_true false true = refl
 last_true false false = refl
 
-middle_true : (b c : Bool) → (b || true || c) ≡ true
+middle_true : (b c : Bool) → (b || (true || c)) ≡ true
 middle_true true c = refl
 middle_true false c = refl
 
@@ -62,8 +62,8 @@ shown_to_all : (a : Audience) (now : ℕ) (x : ContestState) → HoldsNothing no
 shown_to_all a now x h =
     let none = is_none (freeze_of x.fixed.settings x.fixed.marks) in
     let thawed = is_thawed x.fixed.marks now in
-    let same : (b c : Bool) → c ≡ true → (is_jury a || b || c) ≡ true = λ b c e. rw e (last_true (is_jury a) b) in
-    let any : (is_jury a || none || thawed) ≡ true = elim h [
+    let same : (b c : Bool) → c ≡ true → (is_jury a || (b || c)) ≡ true = λ b c e. rw e (last_true (is_jury a) b) in
+    let any : (is_jury a || (none || thawed)) ≡ true = elim h [
       | inl e ↦ same none thawed e
       | inr e ↦ (rw e (middle_true (is_jury a) thawed))
     ] in

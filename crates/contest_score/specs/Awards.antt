@@ -1,8 +1,8 @@
 -- Awards (Contest API 2023-06, awards): who won what, and when it is shown.
-use Rattle.std.specs.Prelude.{ℕ, ◌+◌, Bool, ◌&&◌, ◌||◌, ◌==◌, nat_lt, nat_le, List, [], ◌∷◌, ◌++◌, length, map, filter, is_none, if◌then◌else◌, codes}
+use Rattle.std.specs.Prelude.{ℕ, ◌+◌, Bool, ◌&&◌, ◌||◌, ◌==◌, nat_lt, nat_le, List, [], ◌∷◌, ◌++◌, length, map, filter, if◌then◌else◌, codes}
 use Rattle.std.specs.List.{list_any, list_all, range_with_len}
 use Rattle.contest_types.specs.Setup.{Setup}
-use Rattle.contest_types.specs.Clock.{freeze_of, is_thawed, is_finalized}
+use Rattle.contest_types.specs.Clock.{is_finalized}
 use Rattle.contest_types.specs.ProblemPlaces.{label_at}
 use Rattle.contest_types.specs.SettingsNames.{group_id_at, group_name_at}
 use Rattle.contest_types.specs.TeamPlaces.{is_of_group}
@@ -15,6 +15,7 @@ use Rattle.contest_score.specs.declared.row.Row.{Row}
 use Rattle.contest_score.specs.declared.solve.Solve.{Solve}
 use Rattle.contest_score.specs.Ranking.{by_text, in_order, problem_order, problem_id_at}
 use Rattle.contest_score.specs.Contest.{board_for, solves_of}
+use Rattle.contest_score.specs.Results.{holds_nothing}
 
 -- only a team that solved a problem wins anything
 abbrev pub winners : List Row → List Row
@@ -79,9 +80,7 @@ awards_of s rows solves =
 -- the jury is shown the awards once the contest is finalized, all others once it is thawed too, or where
 -- there is no freeze moment
 abbrev pub shows_awards : Audience → ℕ → ContestState → Bool
-shows_awards a now x =
-    is_finalized x.fixed.marks now
-    && (is_jury a || is_none (freeze_of x.fixed.settings x.fixed.marks) || is_thawed x.fixed.marks now)
+shows_awards a now x = is_finalized x.fixed.marks now && (is_jury a || holds_nothing x.fixed.settings x.fixed.marks now)
 
 -- the awards that an audience is shown: those of the jury's board
 abbrev pub shown_awards : Audience → ℕ → ContestState → List Award

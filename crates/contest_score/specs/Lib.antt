@@ -7,8 +7,10 @@ pub mod Counting
 pub mod Contest
 pub mod LastVerdicts
 pub mod Lists
+pub mod Results
 pub mod Awards
 pub mod AwardSteps
+pub mod SolveSteps
 pub mod Laws
 pub mod ScoringLaws
 pub mod BoardLaws

@@ -1,12 +1,12 @@
--- Worked examples of the text board: cells, and texts in columns.
-use Rattle.std.proofs.Common.{◌≡◌, ℕ, [], ◌∷◌, true, false, Option, Some, None, refl}
-use Rattle.std.specs.Char.{encode_utf8}
+-- Worked examples of boards and awards as text: cells, words, records and lines.
+use Rattle.std.proofs.Common.{◌≡◌, ℕ, List, [], ◌∷◌, true, false, Option, Some, None, refl}
 use Rattle.std.specs.Prelude.{codes}
-use Rattle.std.specs.Str.{chars}
 use Rattle.std.specs.Fmt.{digits}
+use Rattle.contest_score.specs.declared.award.Award.{Award}
 use Rattle.contest_score.specs.declared.cell.Cell.{Cell}
 use Rattle.contest_score.specs.Ranking.{Scoreboard}
 use Rattle.contest_types.proofs.ExampleContest.{settings}
+use Rattle.contest_text.specs.AwardsText.{awards_text}
 use Rattle.contest_text.specs.BoardCsv.{board_csv}
 use Rattle.contest_text.specs.CellText.{cell_text}
 use Rattle.csv.specs.Writing.{default_writer, escaped, field_text, fields_text, is_blank}
@@ -74,3 +74,16 @@ board = record {
 two_teams : board_csv settings board ≡ codes "rank,team_id,team,solved,time,last,A\n1,t1,Alpha,1,30,10,+3/10\n2,t2,Beta,0,0,,-1?1\n"
 unfolding digits fields_text is_blank
 two_teams = refl
+
+-- a line for each award, its teams by their names
+abbrev awards : List Award
+awards =
+    record { id = codes "winner"; citation = codes "Contest winner"; teams = 0 ∷ [] }
+    ∷ record { id = codes "gold-medal"; citation = codes "Gold medal"; teams = 0 ∷ 1 ∷ [] }
+    ∷ record { id = codes "first-to-solve-a"; citation = codes "First to solve problem A"; teams = 0 ∷ [] } ∷ []
+
+three_awards : awards_text settings awards ≡ codes "winner: Contest winner: Alpha\ngold-medal: Gold medal: Alpha, Beta\nfirst-to-solve-a: First to solve problem A: Alpha\n"
+three_awards = refl
+
+no_awards : awards_text settings [] ≡ []
+no_awards = refl

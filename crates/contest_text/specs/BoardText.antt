@@ -1,10 +1,10 @@
 -- The text board, line by line.
-use Rattle.std.specs.Prelude.{ℕ, pos, ◌-◌, ◌-ℤ◌, ◌==◌, ◌&&◌, ◌||◌, not, is_some, Bool, List, [], ◌++◌, map, fold, max, Option, Some, None, if◌then◌else◌, codes}
+use Rattle.std.specs.Prelude.{ℕ, pos, ◌-◌, ◌-ℤ◌, ◌==◌, Bool, List, [], ◌++◌, map, fold, max, Option, Some, None, if◌then◌else◌, codes}
 use Rattle.std.specs.List.{flat_map}
 use Rattle.std.specs.Fmt.{decimal}
 use Rattle.contest_types.specs.Setup.{Setup}
 use Rattle.contest_types.specs.ProblemPlaces.{label_at}
-use Rattle.contest_types.specs.Clock.{freeze_of, phase_at, is_finalized, is_freezing, is_thawed}
+use Rattle.contest_types.specs.Clock.{phase_at, is_freezing}
 use Rattle.contest_types.specs.RelTimeText.{rel_time_text}
 use Rattle.contest_types.specs.declared.audience.Audience.{Audience}
 use Rattle.contest_types.specs.declared.audience.Audience.TheVariants as audience
@@ -12,6 +12,7 @@ use Rattle.contest_types.specs.declared.audience.Phase.{Phase}
 use Rattle.contest_types.specs.declared.audience.Phase.TheVariants as phase
 use Rattle.contest_types.specs.declared.marks.Marks.{Marks}
 use Rattle.contest_score.specs.Ranking.{Scoreboard, name_at, team_id_at}
+use Rattle.contest_score.specs.Results.{is_final}
 use Rattle.contest_score.specs.declared.row.Row.{Row}
 use Rattle.contest_text.specs.Padding.{columns_of, left, right}
 use Rattle.contest_text.specs.CellText.{cell_text}
@@ -30,10 +31,6 @@ who_text s audience.Jury = codes "Jury"
 abbrev pub contest_time : Option ℕ → ℕ → List ℕ
 contest_time None now = codes "-"
 contest_time (Some start) now = rel_time_text (pos now -ℤ pos start)
-
--- results are final: made so, and nothing is held back
-abbrev pub is_final : Setup → Marks → ℕ → Bool
-is_final s marks now = is_finalized marks now && (not (is_some (freeze_of s marks)) || is_thawed marks now)
 
 -- the first that holds of `before`, `final`, `frozen`, `ended` and `running`
 abbrev pub word_of : Phase → (final freezing : Bool) → List ℕ

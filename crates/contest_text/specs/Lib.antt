@@ -2,3 +2,4 @@ pub mod Padding
 pub mod CellText
 pub mod BoardText
 pub mod BoardCsv
+pub mod AwardsText

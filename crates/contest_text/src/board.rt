@@ -5,14 +5,13 @@ ghost use Rattle.std.specs.List.{flat_map};
 ghost use Rattle.contest_types.specs.RelTimeText.{rel_time_text};
 ghost use Rattle.contest_text.specs.CellText.{cell_text};
 ghost use Rattle.contest_types.specs.ProblemPlaces.{label_at};
-ghost use Rattle.contest_text.specs.BoardText.{numbered_id, who_text, contest_time, is_final, word_of, word_at, title_end, title_line, name_width, right_field, front, heading_line, row_line, board_text};
+ghost use Rattle.contest_text.specs.BoardText.{numbered_id, who_text, contest_time, word_of, word_at, title_end, title_line, name_width, right_field, front, heading_line, row_line, board_text};
 
 use crate::cell_text::write_cell;
 use crate::padding::{push_left, push_right};
-use contest_score::{Board, Cell, Row};
+use contest_score::{Board, Cell, Row, is_final};
 use contest_types::{
-    Audience, Marks, Moment, Phase, Refusal, RelTime, Settings, freeze_of, is_finalized,
-    is_freezing, is_thawed, phase, print_reltime,
+    Audience, Marks, Moment, Phase, Refusal, RelTime, Settings, is_freezing, phase, print_reltime,
 };
 use std::alloc::{AllocError, Global};
 use unicode_width::UnicodeWidthStr;
@@ -141,13 +140,6 @@ fn word_of(phase: Phase, final_now: bool, freezing: bool) -> &'static str
         Phase::Running => "running",
         Phase::Ended => "ended",
     }
-}
-
-/// Whether the results are final, and nothing is held back.
-fn is_final(settings: &Settings, marks: &Marks, now: Moment) -> bool
-    ensures { result ≡ is_final settings.now marks.now now }
-{
-    is_finalized(marks, now) && (freeze_of(settings, marks).is_none() || is_thawed(marks, now))
 }
 
 /// The columns of the widest name in the rows, at least four.

@@ -12,7 +12,10 @@ pub mod FileReadLemmas
 mod ExamplesReads
 pub mod BoardObjectLemmas
 pub mod BoardLaws
+pub mod AwardReads
+pub mod AwardIds
 mod ExamplesBoards
+mod ExamplesAwards
 pub mod LastRowLemmas
 pub mod JudgementLemmas
 pub mod JudgementIds

@@ -2,6 +2,7 @@
 use Rattle.std.specs.Prelude.{◌≡◌, ◌≢◌, ℕ, true, List, [], Some, None, if◌then◌else◌}
 use Rattle.std.specs.Option.{option_and_then}
 use Rattle.contest_types.specs.Alike.{Alike, MayBeHeld}
+use Rattle.contest_types.specs.Clock.{freeze_of}
 use Rattle.contest_types.specs.Loads.{file_of, loaded_submissions}
 use Rattle.contest_types.specs.Masks.{knows_all_of}
 use Rattle.contest_types.specs.Order.{Has}
@@ -12,8 +13,12 @@ use Rattle.contest_types.specs.declared.audience.Audience.{Audience}
 use Rattle.contest_types.specs.declared.audience.Audience.TheVariants.{Jury}
 use Rattle.contest_types.specs.declared.submission.Submission.{Submission}
 use Rattle.contest_types.specs.VisibleIds.{submission_id}
+use Rattle.contest_score.specs.Awards.{shown_awards}
+use Rattle.contest_score.specs.declared.award.Award.{Award}
+use Rattle.contest_view.specs.Awards.{awards_data, award_found}
 use Rattle.contest_view.specs.Clarifications.{clarifications_data, clarification_found}
 use Rattle.contest_view.specs.FileReads.{file_found, file_place}
+use Rattle.contest_objects.specs.AwardObjects.{award_data}
 use Rattle.contest_objects.specs.Items.{array_of}
 use Rattle.contest_objects.specs.Objects.{submission_object}
 use Rattle.contest_view.specs.Reads.{submissions_data, submission_found}
@@ -83,3 +88,21 @@ AlikeReadTheSameClarifications =
 abbrev pub AlikeShowTheSameScoreboard : Type 0
 AlikeShowTheSameScoreboard =
     (a : Audience) (now : ℕ) (x y : ContestState) → MayBeHeld a now x → Alike a x y → scoreboard_data a now x ≡ scoreboard_data a now y
+
+-- and the same awards, all of them and by any id
+abbrev pub AlikeReadTheSameAwards : Type 0
+AlikeReadTheSameAwards =
+    (a : Audience) (now : ℕ) (x y : ContestState) → MayBeHeld a now x → Alike a x y
+    → (awards_data a now x ≡ awards_data a now y) × ((id : List ℕ) → award_found a now x id ≡ award_found a now y id)
+
+-- where there is a freeze moment, nobody but the jury reads an award before the thaw, and by no id
+abbrev pub NoAwardIsReadBeforeTheThaw : Type 0
+NoAwardIsReadBeforeTheThaw =
+    (a : Audience) (now freeze : ℕ) (x : ContestState) → MayBeHeld a now x → freeze_of x.fixed.settings x.fixed.marks ≡ Some freeze
+    → (awards_data a now x ≡ array_of []) × ((id : List ℕ) → award_found a now x id ≡ None)
+
+-- in a valid contest an award that is shown is found by its id, which no other has
+abbrev pub ShownAwardIsFound : Type 0
+ShownAwardIsFound =
+    (a : Audience) (now : ℕ) (x : ContestState) → is_valid x ≡ true → (w : Award) → Has (shown_awards a now x) w
+    → award_found a now x w.id ≡ Some (award_data x.fixed.settings w.id w.citation w.teams)

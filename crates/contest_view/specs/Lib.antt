@@ -8,4 +8,5 @@ pub mod LastRows
 pub mod Judgements
 pub mod Proposals
 pub mod Rejudgings
+pub mod Awards
 pub mod Laws

@@ -1,6 +1,6 @@
 //! Laws of what is shown: functions that do nothing, and whose contracts say what holds of every
 //! contest.
-ghost use Rattle.contest_view.specs.Laws.{AlikeReadTheSame, AlikeReadTheSameFiles, SeenIsFound, NothingElseIsFound, FilesAreForTheirTeams, PlacedFileIsFound, AlikeReadTheSameJudgements, AlikeReadTheSameProposals, AlikeReadTheSameClarifications, AlikeShowTheSameScoreboard, OnlyTheJuryReadsRejudgings};
+ghost use Rattle.contest_view.specs.Laws.{AlikeReadTheSame, AlikeReadTheSameFiles, SeenIsFound, NothingElseIsFound, FilesAreForTheirTeams, PlacedFileIsFound, AlikeReadTheSameJudgements, AlikeReadTheSameProposals, AlikeReadTheSameClarifications, AlikeShowTheSameScoreboard, AlikeReadTheSameAwards, NoAwardIsReadBeforeTheThaw, ShownAwardIsFound, OnlyTheJuryReadsRejudgings};
 
 /// Until the thaw, contests that are alike for an audience give it the same submissions to read, all
 /// of them and by any id.
@@ -60,4 +60,19 @@ pub fn clarifications_alike()
 /// Until the thaw, contests that are alike for an audience show it the same scoreboard.
 pub fn scoreboard_alike()
     ensures { AlikeShowTheSameScoreboard }
+{}
+
+/// And the same awards, all of them and by any id.
+pub fn awards_alike()
+    ensures { AlikeReadTheSameAwards }
+{}
+
+/// Where there is a freeze moment, nobody but the jury reads an award before the thaw, nor by any id.
+pub fn no_award_is_read_before_the_thaw()
+    ensures { NoAwardIsReadBeforeTheThaw }
+{}
+
+/// In a valid contest an award that is shown is found by its id, which no other award has.
+pub fn shown_award_is_found()
+    ensures { ShownAwardIsFound }
 {}

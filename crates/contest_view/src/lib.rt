@@ -1,7 +1,8 @@
 //! What an audience is shown of a contest, and in which order: submissions and their verdicts,
-//! clarifications, rejudgings, the scoreboard.
+//! clarifications, rejudgings, the scoreboard, the awards.
 #![tactic(auto)]
 
+mod awards;
 mod cells;
 mod clarifications;
 mod judgements;
@@ -14,6 +15,7 @@ mod scoreboard;
 mod seen;
 mod submissions;
 
+pub use awards::{award_by_id, awards_for, awards_value};
 pub use cells::{board_for, board_found, cells_for};
 pub use clarifications::{clarification_by_id, clarifications_value};
 pub use judgements::{judgement_by_id, judgements_value};

@@ -1,7 +1,7 @@
 use Rattle.std.proofs.Common.{◌∙◌, ap}
 use Rattle.contest_objects.specs.Items.{found_in}
 use Rattle.contest_objects.proofs.ListingLemmas.{each_served}
-use Rattle.contest_objects.proofs.collection.whole_by_id.Goals as goal
+use Rattle.contest_objects.proofs.collection.get_whole.Goals as goal
 
 pub returns-clause-value : goal.returns-clause-value
 returns-clause-value g c =

@@ -1,7 +1,7 @@
 use Rattle.std.proofs.Common.{◌∙◌, ap}
 use Rattle.contest_objects.specs.Items.{array_of}
 use Rattle.contest_objects.proofs.ListingLemmas.{each_served}
-use Rattle.contest_objects.proofs.collection.whole_value.Goals as goal
+use Rattle.contest_objects.proofs.collection.list_whole.Goals as goal
 
 pub returns-clause-value : goal.returns-clause-value
 returns-clause-value g c =
