@@ -2,6 +2,7 @@
 #![tactic(auto)]
 
 mod added_count;
+mod awards;
 mod board;
 mod desk;
 mod import;

@@ -13,6 +13,7 @@ use Rattle.contest_view.proofs.BoardLaws.{scoreboard_alike}
 use Rattle.contest_view.proofs.JudgementLaws.{judgements_alike, proposals_alike}
 use Rattle.contest_view.proofs.FileReadLemmas.{files_alike}
 use Rattle.contest_view.proofs.RejudgingLaws.{only_the_jury}
+use Rattle.contest_view.proofs.AwardReads.{read_alike as awards_alike}
 use Rattle.contest_view.proofs.ReadLaws.{alike_read, clarifications_alike}
 use Rattle.contest_operations.specs.Callers.{Caller, caller_of, audience_of}
 use Rattle.contest_operations.specs.Laws.{StayAlike, ReadsAlike, StepAlike, StepsKeepValid}
@@ -22,7 +23,7 @@ use Rattle.contest_operations.specs.Commands.{post_outcome}
 use Rattle.contest_operations.specs.Readings.{file_told, read, told}
 use Rattle.contest_operations.specs.Step.{wish_or_reply, outcome_of, outcome}
 use Rattle.contest_operations.specs.Wishes.{wish_outcome, IsSound}
-use Rattle.contest_operations.specs.declared.operation.Endpoint.TheVariants.{Settings, Submissions, Judgements, Clarifications}
+use Rattle.contest_operations.specs.declared.operation.Endpoint.TheVariants.{Settings, Submissions, Judgements, Clarifications, Awards}
 use Rattle.contest_operations.specs.declared.operation.JuryReading.TheVariants.{Proposals, Rejudgings, Rejudging}
 use Rattle.contest_operations.specs.declared.operation.Reading.TheVariants.{Whole, List as AllOf, Object, File, Scoreboard, Jury as ForJury}
 use Rattle.contest_operations.specs.declared.reply.Reply.{Reply}
@@ -39,10 +40,12 @@ reads_alike a now x y (AllOf (Settings endpoint)) path held h = ap (λ (f : Fixe
 reads_alike a now x y (AllOf Submissions) path held h = ap (λ d. told (Some d)) (alike_read a now x y held h).0
 reads_alike a now x y (AllOf Judgements) path held h = ap (λ d. told (Some d)) (judgements_alike a now x y held h).0
 reads_alike a now x y (AllOf Clarifications) path held h = ap (λ d. told (Some d)) (clarifications_alike a x y h).0
+reads_alike a now x y (AllOf Awards) path held h = ap (λ d. told (Some d)) (awards_alike a now x y held h).0
 reads_alike a now x y (Object (Settings endpoint)) path held h = ap (λ (f : FixedPart). told (setting_found endpoint f.settings (object_piece path))) h.fixed
 reads_alike a now x y (Object Submissions) path held h = ap told ((alike_read a now x y held h).1 (object_piece path))
 reads_alike a now x y (Object Judgements) path held h = ap told ((judgements_alike a now x y held h).1 (object_piece path))
 reads_alike a now x y (Object Clarifications) path held h = ap told ((clarifications_alike a x y h).1 (object_piece path))
+reads_alike a now x y (Object Awards) path held h = ap told ((awards_alike a now x y held h).1 (object_piece path))
 reads_alike a now x y File path held h = ap file_told (files_alike a now x y (object_piece path) held h)
 reads_alike a now x y Scoreboard path held h = ap (λ d. told (Some d)) (scoreboard_alike a now x y held h)
 reads_alike a now x y (ForJury Proposals) path held h = ap (λ d. told (Some d)) (proposals_alike a now x y held h)

@@ -5,6 +5,7 @@ use Rattle.contest_types.specs.State.{ContestState}
 use Rattle.contest_types.specs.declared.audience.Audience.{Audience}
 use Rattle.contest_types.specs.declared.refusal.Refusal.TheVariants.{NotFound}
 use Rattle.contest_view.specs.Scoreboards.{scoreboard_data}
+use Rattle.contest_view.specs.Awards.{awards_data, award_found}
 use Rattle.contest_view.specs.Clarifications.{clarifications_data, clarification_found}
 use Rattle.contest_view.specs.Judgements.{judgements_data, judgement_found}
 use Rattle.contest_view.specs.Proposals.{proposals_data}
@@ -16,7 +17,7 @@ use Rattle.contest_objects.specs.SettingsObjects.{settings_data, setting_found}
 use Rattle.contest_operations.specs.Paths.{jury_piece, object_piece}
 use Rattle.contest_operations.specs.Replies.{refused, answer, file_answer}
 use Rattle.contest_operations.specs.declared.operation.Endpoint.{Endpoint}
-use Rattle.contest_operations.specs.declared.operation.Endpoint.TheVariants.{Settings, Submissions, Judgements, Clarifications}
+use Rattle.contest_operations.specs.declared.operation.Endpoint.TheVariants.{Settings, Submissions, Judgements, Clarifications, Awards}
 use Rattle.contest_operations.specs.declared.operation.JuryReading.{JuryReading}
 use Rattle.contest_operations.specs.declared.operation.JuryReading.TheVariants.{Proposals, Rejudgings, Rejudging}
 use Rattle.contest_operations.specs.declared.operation.Reading.{Reading}
@@ -29,6 +30,7 @@ all_data a now x (Settings endpoint) = settings_data endpoint x.fixed.settings
 all_data a now x Submissions = submissions_data a now x
 all_data a now x Judgements = judgements_data a now x
 all_data a now x Clarifications = clarifications_data a x
+all_data a now x Awards = awards_data a now x
 
 -- the one with this id, if the audience sees one
 abbrev pub object_found : Audience → ℕ → ContestState → Endpoint → (id : List ℕ) → Option Data
@@ -36,6 +38,7 @@ object_found a now x (Settings endpoint) id = setting_found endpoint x.fixed.set
 object_found a now x Submissions id = submission_found a now x id
 object_found a now x Judgements id = judgement_found a now x id
 object_found a now x Clarifications id = clarification_found a x id
+object_found a now x Awards id = award_found a now x id
 
 -- what only the jury reads, if it is there; who isn't of it finds nothing
 abbrev pub jury_found : Audience → ℕ → ContestState → JuryReading → (id : List ℕ) → Option Data

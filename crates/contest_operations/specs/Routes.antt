@@ -14,7 +14,7 @@ use Rattle.contest_objects.specs.declared.settings_objects.SettingsEndpoint.TheV
 use Rattle.contest_operations.specs.Offers.{nothing, reads}
 use Rattle.contest_operations.specs.declared.offer.Offer.{Offer}
 use Rattle.contest_operations.specs.declared.command.Command.TheVariants.{Submit, Clarify, Propose, Verify, OpenRejudging, JudgeRejudging, ApplyRejudging, CancelRejudging}
-use Rattle.contest_operations.specs.declared.operation.Endpoint.TheVariants.{Settings, Submissions, Judgements, Clarifications}
+use Rattle.contest_operations.specs.declared.operation.Endpoint.TheVariants.{Settings, Submissions, Judgements, Clarifications, Awards}
 use Rattle.contest_operations.specs.declared.operation.JuryReading.TheVariants.{Proposals, Rejudgings, Rejudging}
 use Rattle.contest_operations.specs.declared.operation.Reading.TheVariants.{Whole, List as AllOf, Object, File, Scoreboard, Jury as ForJury}
 
@@ -37,8 +37,8 @@ route_rows =
     ∷ (codes "/contests/{contest}/teams/{id}", reads (Object (Settings Teams)))
     ∷ (codes "/contests/{contest}/judgements", reads (AllOf Judgements))
     ∷ (codes "/contests/{contest}/judgements/{id}", reads (Object Judgements))
-    ∷ (codes "/contests/{contest}/awards", nothing)
-    ∷ (codes "/contests/{contest}/awards/{id}", nothing)
+    ∷ (codes "/contests/{contest}/awards", reads (AllOf Awards))
+    ∷ (codes "/contests/{contest}/awards/{id}", reads (Object Awards))
     ∷ (codes "/contests/{contest}/submissions", record (reads (AllOf Submissions)) { post = Some Submit })
     ∷ (codes "/contests/{contest}/submissions/{id}", reads (Object Submissions))
     ∷ (codes "/contests/{contest}/submissions/{id}/files", reads File)

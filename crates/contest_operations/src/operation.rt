@@ -13,6 +13,8 @@ pub enum Endpoint {
     Judgements,
     /// The clarifications that the caller hears, by time and id.
     Clarifications,
+    /// The awards that the caller is shown, in their order.
+    Awards,
 }
 
 /// What is read.

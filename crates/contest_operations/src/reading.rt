@@ -18,9 +18,9 @@ use contest_lists::Lists;
 use contest_objects::{setting_by_id, settings_value, whole_value};
 use contest_types::{Audience, Refusal, Rows};
 use contest_view::{
-    Seen, clarification_by_id, clarifications_value, file_place, judgement_by_id, judgements_value,
-    named_submission, proposals_value, rejudging_by_id, rejudgings_value, scoreboard_value,
-    submission_by_id, submissions_value,
+    Seen, award_by_id, awards_value, clarification_by_id, clarifications_value, file_place,
+    judgement_by_id, judgements_value, named_submission, proposals_value, rejudging_by_id,
+    rejudgings_value, scoreboard_value, submission_by_id, submissions_value,
 };
 use serde_json::Value;
 use std::alloc::{AllocError, Global};
@@ -100,6 +100,7 @@ fn array(alloc: Global, seen: &Seen<'_>, endpoint: Endpoint) -> Result<Value, Al
         Endpoint::Submissions => submissions_value(alloc, seen),
         Endpoint::Judgements => judgements_value(alloc, seen),
         Endpoint::Clarifications => clarifications_value(alloc, seen),
+        Endpoint::Awards => awards_value(alloc, seen),
     }
 }
 
@@ -120,6 +121,7 @@ fn object(
         Endpoint::Submissions => submission_by_id(alloc, seen, id),
         Endpoint::Judgements => judgement_by_id(alloc, seen, id),
         Endpoint::Clarifications => clarification_by_id(alloc, seen, id),
+        Endpoint::Awards => award_by_id(alloc, seen, id),
     }
 }
 

@@ -131,8 +131,20 @@ static ROUTES: [(&str, Offer); 31] = [
             ..NOTHING
         },
     ),
-    ("/contests/{contest}/awards", NOTHING),
-    ("/contests/{contest}/awards/{id}", NOTHING),
+    (
+        "/contests/{contest}/awards",
+        Offer {
+            get: Some(Reading::List(Endpoint::Awards)),
+            ..NOTHING
+        },
+    ),
+    (
+        "/contests/{contest}/awards/{id}",
+        Offer {
+            get: Some(Reading::Object(Endpoint::Awards)),
+            ..NOTHING
+        },
+    ),
     (
         "/contests/{contest}/submissions",
         Offer {
