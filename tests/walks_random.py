@@ -21,6 +21,7 @@ from lib.desk_opinion import moment
 from lib.import_opinion import HEADERS, compact
 from lib.program import Program, ran
 from lib.rejudger import JURY, Rejudger
+from lib.timekeeper import Timekeeper
 
 SETTINGS = ["judgement-types", "languages", "groups", "problems", "teams"]
 NAMES = ["Alpha", "Beta", "Gamma, the third", 'The "Deltas"', "Łódź", "東京", ""]
@@ -31,7 +32,7 @@ KEYS = [None, None, "k1", "k2", "k3", "?"]
 FILES = [b"abc", b"", b"abd", bytes(7)]
 
 
-class Asker(Clarifier, Rejudger):
+class Asker(Clarifier, Rejudger, Timekeeper):
     """What is asked next, by a seed."""
 
     def settings_row(self, kind):
@@ -130,6 +131,8 @@ class Asker(Clarifier, Rejudger):
 def next_request(chance, contest):
     """Who asks, a key, a method, a path and a body."""
     what = chance.random.random()
+    if what > 0.95:
+        return chance.about_clock(contest, ACCOUNTS)
     if what < 0.5:
         return (chance.about_clarifications if what < 0.25 else chance.about_rejudgings)(contest, ACCOUNTS)
     who = chance.often(f"token-{chance.one(ACCOUNTS)}", ["public", "bad token", "token-none"], 0.85)

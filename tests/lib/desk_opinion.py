@@ -2,7 +2,8 @@
 
 docs/FORMATS.md says what is asked and answered. It is written to be read beside that page and to share nothing with the
 program: whole lists, filtered and counted for each answer, and nothing kept up to date along the way. What imports add to a
-contest is told by import_opinion.py, and what is answered about rejudgings by rejudging_opinion.py.
+contest is told by import_opinion.py, what is answered about rejudgings by rejudging_opinion.py, and how the clock is set by
+clock_opinion.py.
 """
 
 import base64
@@ -12,7 +13,7 @@ import datetime
 import hashlib
 import json
 
-from . import rejudging_opinion
+from . import clock_opinion, rejudging_opinion
 from .import_opinion import COLLECTIONS, Refused, compact, has_come, is_id, is_name, member
 from .replay_opinion import Fault, reltime_text
 
@@ -26,7 +27,7 @@ STATUSES = {
     "Malformed": 400, "UnknownToken": 401, "RoleForbids": 403, "NotFound": 404, "Method": 405, "BodyTooLarge": 413,
     "NotOpen": 409, "UnknownReference": 400, "EntryPointMissing": 400, "TeamLimit": 409, "KeyReused": 409, "AlreadyReleased": 409,
     "NothingToVerify": 409, "SameJudge": 403, "TypeDiffers": 409, "RejudgingIncomplete": 409, "InRejudging": 409,
-    "RejudgingClosed": 409,
+    "RejudgingClosed": 409, "ClockRefused": 409,
 }  # fmt: skip
 
 
@@ -405,8 +406,12 @@ def offered(contest, path):
         return ["GET", "HEAD", "POST"] if pieces[2] == "proposals" else ["POST"], pieces[2], None
     if pieces in (["", "contests", contest["id"], "state"], ["", "contests", contest["id"], "scoreboard"]):
         return ["GET", "HEAD"], pieces[3], None
-    if path == "/contests" or pieces == ["", "contests", contest["id"]]:
-        return ["GET", "HEAD"], {2: "contests", 3: "contest"}[len(pieces)], None
+    if path == "/jury/finalize":
+        return ["POST"], "finalize", None
+    if path == "/contests":
+        return ["GET", "HEAD"], "contests", None
+    if pieces == ["", "contests", contest["id"]]:
+        return ["GET", "HEAD", "PATCH"], "contest", None
     if len(pieces) == 6 and all(pieces[1:]) and pieces[:4] + pieces[5:] == ["", "contests", contest["id"], "submissions", "files"]:
         return ["GET", "HEAD"], "files", pieces[4]
     names = ["submissions", "judgements", "clarifications", *COLLECTIONS]
@@ -436,6 +441,17 @@ def caller_of(contest, who):
     raise Refused("UnknownToken")
 
 
+def set_clock(contest, now, caller, method, body):
+    """What an administrator is answered that sets the start or the thaw, by PATCH, or makes the results final."""
+    if caller is None or caller["role"] != "admin":
+        raise Refused("RoleForbids")
+    if method == "PATCH":
+        clock_opinion.set_clock(contest, now, body)
+        return contest_object(contest)
+    clock_opinion.finalize(contest, now, [submission_id(contest, one) for one in contest["submissions"]])
+    return state_object(contest, now)
+
+
 def value_of(contest, now, who, key, method, path, body):
     methods, name, which = offered(contest, path)
     if method not in methods:
@@ -446,6 +462,8 @@ def value_of(contest, now, who, key, method, path, body):
             raise Refused("RoleForbids")
         known = [submission_id(contest, one) for one in contest["submissions"]]
         return rejudging_opinion.answered(contest, now, caller, known, method, name, which, body)
+    if method == "PATCH" or name == "finalize":
+        return set_clock(contest, now, caller, method, body)
     if method == "POST" and name in ("proposals", "verifications"):
         return {"proposals": propose, "verifications": verify}[name](contest, now, caller, body)
     if method == "POST" and name == "clarifications":

@@ -12,6 +12,7 @@ pub mod ImportedAgain
 pub mod ItemLemmas
 pub mod RunLemmas
 pub mod SettingsAlike
+pub mod ClockAlike
 pub mod MovesAlike
 pub mod TwoRunLemmas
 pub mod RepeatLemmas

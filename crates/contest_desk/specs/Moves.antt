@@ -7,7 +7,7 @@ use Rattle.contest_types.specs.TeamPlaces.{is_public}
 use Rattle.contest_types.specs.State.{ContestState, add, add_all}
 use Rattle.contest_types.specs.Valid.{is_valid}
 use Rattle.contest_types.specs.declared.entry.Entry.{Entry}
-use Rattle.contest_types.specs.declared.entry.Entry.TheVariants.{NewClarification, NewRelease, NewSubmission, NewType, NewLanguage, NewProblem, NewGroup, NewTeam, NewAccount}
+use Rattle.contest_types.specs.declared.entry.Entry.TheVariants.{NewClarification, NewRelease, NewSubmission, NewType, NewLanguage, NewProblem, NewGroup, NewTeam, NewAccount, SetStart, SetThaw, SetFinalized}
 use Rattle.contest_types.specs.declared.audience.Audience.{Audience}
 use Rattle.contest_types.specs.declared.clarification.Clarification.{Clarification}
 use Rattle.contest_types.specs.declared.submission.Release.{Release}
@@ -44,8 +44,8 @@ abbrev pub TellsLike : Audience → ContestState → Clarification → Entry →
 TellsLike a x c (NewClarification d) = TellTheSame a x c d
 TellsLike a x c _ = ⊥
 
--- two entries that show an audience the same: of the settings and the accounts, which the promise takes as equal,
--- the same row. Nothing adds other entries that are seen yet
+-- two entries that show an audience the same: of the settings, the accounts and the marks, which the promise takes as
+-- equal, the same. Nothing else that is added is seen
 abbrev pub AreSame : Audience → ContestState → Entry → Entry → Type 0
 AreSame a x (NewSubmission s) f = ShowsLike a x s f
 AreSame a x (NewRelease v) f = ReleasesLike v f
@@ -56,6 +56,9 @@ AreSame a x (NewProblem p) f = f ≡ NewProblem p
 AreSame a x (NewGroup g) f = f ≡ NewGroup g
 AreSame a x (NewTeam t) f = f ≡ NewTeam t
 AreSame a x (NewAccount account) f = f ≡ NewAccount account
+AreSame a x (SetStart start) f = f ≡ SetStart start
+AreSame a x (SetThaw thaw) f = f ≡ SetThaw thaw
+AreSame a x (SetFinalized finalized) f = f ≡ SetFinalized finalized
 AreSame a x _ f = ⊥
 
 -- an entry that is added to the first of two contests, to the second, or one to each

@@ -3,10 +3,11 @@ ghost use Rattle.std.specs.Prelude.{◌≡◌, false, IfOk};
 ghost use Rattle.serde_json.specs.View.{view};
 ghost use Rattle.serde_json.specs.Written.{has_float};
 ghost use Rattle.contest_objects.specs.ContestObjects.{contest_data, state_data, whole_data};
+ghost use Rattle.contest_objects.specs.StateObject.{state_times};
 
 use crate::members::{Member, object_of};
 use crate::state_object::{StateTimes, state_times};
-use contest_types::{Fixed, Moment};
+use contest_types::{Fixed, Marks, Moment, Settings};
 use serde_json::Value;
 use std::alloc::{AllocError, Global};
 
@@ -38,25 +39,30 @@ pub fn whole_value(
     match endpoint {
         ContestEndpoint::Contests => {
             let mut contests = Vec::new(alloc);
-            contests.push(contest_value(alloc, fixed)?)?;
+            contests.push(contest_value(alloc, &fixed.settings, &fixed.marks)?)?;
             Ok(Value::Array(contests))
         }
-        ContestEndpoint::Contest => contest_value(alloc, fixed),
-        ContestEndpoint::State => {
-            let times = state_times(&fixed.settings, &fixed.marks, now);
-            state_value(alloc, &times)
-        }
+        ContestEndpoint::Contest => contest_value(alloc, &fixed.settings, &fixed.marks),
+        ContestEndpoint::State => state_value(alloc, &fixed.settings, &fixed.marks, now),
     }
 }
 
-// The contest: `duration`, `id`, `name`, `penalty_time` in minutes, `scoreboard_freeze_duration`,
-// `scoreboard_thaw_time`, `scoreboard_type` and `start_time`.
+/// The contest with these marks of its clock: `duration`, `id`, `name`, `penalty_time` in minutes,
+/// `scoreboard_freeze_duration`, `scoreboard_thaw_time`, `scoreboard_type` and `start_time`.
+///
+/// # Errors
+///
+/// Want of memory alone.
 #[tactic(auto, using(crate::proofs::ContestObjectLemmas::contest_has_none))]
-fn contest_value(alloc: Global, fixed: &Fixed) -> Result<Value, AllocError>
-    ensures value { IfOk result (λ v. view v ≡ contest_data fixed.now.settings.head fixed.now.marks) }
+pub fn contest_value<'a>(
+    alloc: Global,
+    settings: &'a Settings,
+    marks: &'a Marks,
+) -> Result<Value, AllocError>
+    ensures value { IfOk result (λ v. view v ≡ contest_data settings.now.head marks.now) }
     ensures no_floats { IfOk result (λ v. has_float (view v) ≡ false) }
 {
-    let head = fixed.settings.head();
+    let head = settings.head();
     object_of(
         alloc,
         &[
@@ -68,19 +74,35 @@ fn contest_value(alloc: Global, fixed: &Fixed) -> Result<Value, AllocError>
                 "scoreboard_freeze_duration",
                 Member::SpanOrNull(&head.freeze),
             ),
-            (
-                "scoreboard_thaw_time",
-                Member::TimeOrNull(&fixed.marks.thaw),
-            ),
+            ("scoreboard_thaw_time", Member::TimeOrNull(&marks.thaw)),
             ("scoreboard_type", Member::Text("pass-fail")),
-            ("start_time", Member::TimeOrNull(&fixed.marks.start)),
+            ("start_time", Member::TimeOrNull(&marks.start)),
         ],
     )
 }
 
-// The state: `end_of_updates`, `ended`, `finalized`, `frozen`, `started` and `thawed`.
+/// The state of its clock with these marks, at a moment: `end_of_updates`, `ended`, `finalized`, `frozen`,
+/// `started` and `thawed`.
+///
+/// # Errors
+///
+/// Want of memory alone.
+pub fn state_value(
+    alloc: Global,
+    settings: &Settings,
+    marks: &Marks,
+    now: Moment,
+) -> Result<Value, AllocError>
+    ensures value { IfOk result (λ v. view v ≡ state_data (state_times settings.now marks.now now)) }
+    ensures no_floats { IfOk result (λ v. has_float (view v) ≡ false) }
+{
+    let times = state_times(settings, marks, now);
+    times_value(alloc, &times)
+}
+
+// The state with these moments.
 #[tactic(auto, using(crate::proofs::ContestObjectLemmas::state_has_none))]
-fn state_value(alloc: Global, times: &StateTimes) -> Result<Value, AllocError>
+fn times_value(alloc: Global, times: &StateTimes) -> Result<Value, AllocError>
     ensures value { IfOk result (λ v. view v ≡ state_data times.now) }
     ensures no_floats { IfOk result (λ v. has_float (view v) ≡ false) }
 {

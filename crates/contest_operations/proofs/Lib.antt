@@ -9,6 +9,7 @@ pub mod CallerLemmas
 pub mod PostedFacts
 pub mod VerdictFacts
 pub mod RejudgingFacts
+pub mod ClockFacts
 pub mod DoneLemmas
 pub mod SubmitLaws
 pub mod Fronts

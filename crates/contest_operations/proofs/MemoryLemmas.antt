@@ -3,8 +3,9 @@ use Rattle.std.proofs.Common.{◌≡◌, Bool, true, false, List, ℕ, Option, S
 use Rattle.std.specs.Prelude.{is_some, if◌then◌else◌}
 use Rattle.contest_types.specs.State.{FixedPart}
 use Rattle.contest_types.specs.declared.refusal.Refusal.TheVariants.{RoleForbids}
-use Rattle.contest_operations.specs.Callers.{Caller, audience_of, caller_of, judge_of, team_of}
-use Rattle.contest_operations.specs.Commands.{if_judge, post_takes_memory, posted_as, posted_by}
+use Rattle.contest_operations.specs.Callers.{Caller, audience_of, caller_of, is_admin, judge_of, team_of}
+use Rattle.contest_operations.specs.Commands.{if_admin, if_judge, post_takes_memory, posted_as, posted_by}
+use Rattle.contest_requests.specs.ClockBodies.{posted_clock}
 use Rattle.contest_requests.specs.JuryVerdicts.{posted_verdict}
 use Rattle.contest_requests.specs.RejudgingBodies.{posted_rejudging}
 use Rattle.contest_operations.specs.PostedClarifications.{posted_clarification}
@@ -12,9 +13,9 @@ use Rattle.contest_operations.specs.PostedSubmissions.{posted_submission}
 use Rattle.contest_operations.specs.Step.{asked, may_take_memory, or_refused, takes_memory_by, wish_or_reply, wish_or_reply_by}
 use Rattle.contest_operations.specs.Wishes.{may_read, wish_to_do}
 use Rattle.contest_operations.specs.declared.command.Command.{Command}
-use Rattle.contest_operations.specs.declared.command.Command.TheVariants.{Submit, Clarify, Propose, Verify, OpenRejudging, JudgeRejudging, ApplyRejudging, CancelRejudging}
+use Rattle.contest_operations.specs.declared.command.Command.TheVariants.{Submit, Clarify, Propose, Verify, OpenRejudging, JudgeRejudging, ApplyRejudging, CancelRejudging, SetClock, Finalize}
 use Rattle.contest_operations.specs.declared.command.Posted.{Posted}
-use Rattle.contest_operations.specs.declared.command.Posted.TheVariants.{Clarification, Opening}
+use Rattle.contest_operations.specs.declared.command.Posted.TheVariants.{Clarification, Clock, Final, Opening}
 use Rattle.contest_requests.specs.declared.jury_verdict.JuryVerdict.{JuryVerdict}
 use Rattle.contest_operations.specs.declared.operation.Operation.{Operation}
 use Rattle.contest_operations.specs.declared.operation.Operation.TheVariants.{Read as ToRead, Do as ToDo}
@@ -40,6 +41,14 @@ judge_takes : (posted : Posted) (wish : Wish) (judge : Option (List ℕ)) → or
 judge_takes posted wish None h = absurd (cc h)
 judge_takes posted wish (Some account) h = refl
 
+clock_takes : (contest body : List ℕ) (wish : Wish) (admin : Bool) → or_refused (wish_to_do (posted_as Clock (posted_clock admin contest body))) ≡ Ok wish → admin ≡ true
+clock_takes contest body wish false h = absurd (cc h)
+clock_takes contest body wish true h = refl
+
+final_takes : (wish : Wish) (admin : Bool) → or_refused (wish_to_do (if_admin admin Final)) ≡ Ok wish → admin ≡ true
+final_takes wish false h = absurd (cc h)
+final_takes wish true h = refl
+
 clarification_takes : (f : FixedPart) (request : Request) (wish : Wish) (who : Caller) → or_refused (wish_to_do (posted_as Clarification (posted_clarification f who request))) ≡ Ok wish → is_some who ≡ true
 clarification_takes f request wish None h = absurd (cc h)
 clarification_takes f request wish (Some account) h = refl
@@ -54,6 +63,8 @@ post_takes f who OpenRejudging request wish h = opening_takes request.body wish 
 post_takes f who JudgeRejudging request wish h = verdict_takes _ request.body wish (judge_of who) h
 post_takes f who ApplyRejudging request wish h = judge_takes _ wish (judge_of who) h
 post_takes f who CancelRejudging request wish h = judge_takes _ wish (judge_of who) h
+post_takes f who SetClock request wish h = clock_takes f.settings.head.id request.body wish (is_admin who) h
+post_takes f who Finalize request wish h = final_takes wish (is_admin who) h
 
 read_takes : (r wish : Wish) (b : Bool) → or_refused (if b then Ok r else Err RoleForbids) ≡ Ok wish → b ≡ true
 read_takes r wish true h = refl

@@ -8,7 +8,7 @@ use Rattle.contest_types.specs.declared.account.Role.{Role}
 use Rattle.contest_types.specs.declared.account.Role.TheVariants as role
 use Rattle.contest_types.specs.declared.audience.Audience.TheVariants as audience
 use Rattle.contest_types.specs.declared.refusal.Refusal.{Refusal}
-use Rattle.contest_operations.specs.Callers.{Caller, audience_for, audience_of, judge_of, judging_id, team_for, team_of}
+use Rattle.contest_operations.specs.Callers.{Caller, audience_for, audience_of, is_admin, is_admin_by, judge_of, judging_id, team_for, team_of}
 use Rattle.contest_operations.specs.Commands.{IsSoundPost, poster}
 use Rattle.contest_operations.specs.Outcomes.{Outcome}
 use Rattle.contest_operations.specs.declared.command.Posted.{Posted}
@@ -49,6 +49,15 @@ judging_sight role.Admin id account is = refl
 pub jury_sight : (who : Caller) (account : List ℕ) → judge_of who ≡ Some account → audience_of who ≡ audience.Jury
 jury_sight None account is = absurd (cc is)
 jury_sight (Some a) account is = judging_sight a.role a.id account is
+
+admin_by_sight : (r : Role) → is_admin_by r ≡ true → audience_for r ≡ audience.Jury
+admin_by_sight (role.Team team) is = absurd (cc is)
+admin_by_sight role.Judge is = absurd (cc is)
+admin_by_sight role.Admin is = refl
+
+pub admin_sight : (who : Caller) → is_admin who ≡ true → audience_of who ≡ audience.Jury
+admin_sight None is = absurd (cc is)
+admin_sight (Some a) is = admin_by_sight a.role is
 
 -- a caller speaks for a team that is there, or judges by an account that is; the account that it holds is found by its id
 pub record IsThere (f : FixedPart) (who : Caller) : Type 0 where

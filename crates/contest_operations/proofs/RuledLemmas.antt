@@ -21,6 +21,7 @@ ruled_ordinary rule.NotFound = refl
 ruled_ordinary rule.InRejudging = refl
 ruled_ordinary rule.RejudgingIncomplete = refl
 ruled_ordinary rule.RejudgingClosed = refl
+ruled_ordinary rule.ClockRefused = refl
 
 -- nor is it answered as done
 ruled_status : (r : RuleRefusal) → ((ruled r).reply.status == 200) ≡ false
@@ -37,6 +38,7 @@ ruled_status rule.NotFound = refl
 ruled_status rule.InRejudging = refl
 ruled_status rule.RejudgingIncomplete = refl
 ruled_status rule.RejudgingClosed = refl
+ruled_status rule.ClockRefused = refl
 
 pub ruled_refuses : (r : RuleRefusal) → (ruled r).reply.status ≡ 200 → ⊥
 ruled_refuses r h = false≢true (sym (ruled_status r) ∙ ap (λ n. n == 200) h)

@@ -1,6 +1,6 @@
 -- Who asks, and what each role may do (Contest Control System Requirements, "Users and Roles"; RFC 6750).
-use Rattle.std.specs.Prelude.{ℕ, List, Option, Some, None, find}
-use Rattle.std.specs.Option.{option_map, option_and_then}
+use Rattle.std.specs.Prelude.{ℕ, Bool, true, false, List, Option, Some, None, find}
+use Rattle.std.specs.Option.{option_map, option_map_or, option_and_then}
 use Rattle.std.specs.Str.{bytes_eq}
 use Rattle.sha2.specs.Sha256.{sha256}
 use Rattle.contest_types.specs.State.{FixedPart}
@@ -55,3 +55,12 @@ judge_of who = option_and_then (λ (a : Account). judging_id a.role a.id) who
 -- the team that the caller speaks for
 abbrev pub team_of : Caller → Option ℕ
 team_of who = option_and_then (λ (a : Account). team_for a.role) who
+
+abbrev pub is_admin_by : Role → Bool
+is_admin_by (role.Team team) = false
+is_admin_by role.Judge = false
+is_admin_by role.Admin = true
+
+-- the caller is an administrator
+abbrev pub is_admin : Caller → Bool
+is_admin who = option_map_or (λ (a : Account). is_admin_by a.role) who false

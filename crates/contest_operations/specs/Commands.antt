@@ -1,6 +1,6 @@
 -- The commands: who may give each, what its body says, and what becomes of it (own). One line of each
 -- definition is a command's.
-use Rattle.std.specs.Prelude.{ℕ, Bool, false, ◌==◌, List, Option, Some, None, Result, Ok, Err, is_some}
+use Rattle.std.specs.Prelude.{ℕ, Bool, false, ◌==◌, List, Option, Some, None, Result, Ok, Err, is_some, if◌then◌else◌}
 use Rattle.contest_types.specs.Masks.{audience_at}
 use Rattle.contest_types.specs.State.{FixedPart, ContestState}
 use Rattle.contest_types.specs.declared.audience.Audience.{Audience}
@@ -12,14 +12,16 @@ use Rattle.contest_rules.specs.Clarifying.{audience_of, named_clarification, sco
 use Rattle.contest_rules.specs.Laws.{IsWriter}
 use Rattle.contest_rules.specs.Submitting.{have_equal_content, is_complete}
 use Rattle.contest_rules.specs.declared.rule_refusal.RuleRefusal.{RuleRefusal}
-use Rattle.contest_operations.specs.Callers.{Caller, judge_of, team_of}
+use Rattle.contest_operations.specs.Callers.{Caller, is_admin, judge_of, team_of}
 use Rattle.contest_postings.specs.DoneThings.{Done}
 use Rattle.contest_operations.specs.Outcomes.{Outcome, told}
 use Rattle.contest_operations.specs.Paths.{jury_piece}
+use Rattle.contest_requests.specs.ClockBodies.{posted_clock}
 use Rattle.contest_requests.specs.JuryVerdicts.{IsSoundVerdict, posted_verdict}
 use Rattle.contest_requests.specs.RejudgingBodies.{IsSoundRejudging, posted_rejudging}
 use Rattle.contest_operations.specs.PostedClarifications.{posted_clarification}
 use Rattle.contest_postings.specs.PostClarification.{clarification_done}
+use Rattle.contest_postings.specs.PostClock.{clock_done, final_done}
 use Rattle.contest_postings.specs.PostProposal.{proposal_done}
 use Rattle.contest_postings.specs.PostRejudgings.{IsSoundStep, opening_done, rejudging_done}
 use Rattle.contest_postings.specs.declared.rejudging.RejudgingStep.TheVariants.{Judge, Apply, Cancel}
@@ -27,9 +29,9 @@ use Rattle.contest_operations.specs.PostedSubmissions.{IsSoundSubmission, posted
 use Rattle.contest_postings.specs.PostSubmission.{submission_done}
 use Rattle.contest_postings.specs.PostVerification.{verification_done}
 use Rattle.contest_operations.specs.declared.command.Command.{Command}
-use Rattle.contest_operations.specs.declared.command.Command.TheVariants.{Submit, Clarify, Propose, Verify, OpenRejudging, JudgeRejudging, ApplyRejudging, CancelRejudging}
+use Rattle.contest_operations.specs.declared.command.Command.TheVariants.{Submit, Clarify, Propose, Verify, OpenRejudging, JudgeRejudging, ApplyRejudging, CancelRejudging, SetClock, Finalize}
 use Rattle.contest_operations.specs.declared.command.Posted.{Posted}
-use Rattle.contest_operations.specs.declared.command.Posted.TheVariants.{Submission, Clarification, Proposal, Verification, Opening, Rejudging}
+use Rattle.contest_operations.specs.declared.command.Posted.TheVariants.{Submission, Clarification, Proposal, Verification, Opening, Rejudging, Clock, Final}
 use Rattle.contest_requests.specs.declared.request.Request.{Request}
 use Rattle.contest_postings.specs.OwnSubmissions.{keyed_row}
 
@@ -42,6 +44,10 @@ abbrev pub if_judge : (judge : Option (List ℕ)) → Posted → Result Posted R
 if_judge None posted = Err RoleForbids
 if_judge (Some account) posted = Ok posted
 
+-- what only an administrator posts
+abbrev pub if_admin : (is_admin : Bool) → Posted → Result Posted Refusal
+if_admin is_admin posted = if is_admin then Ok posted else Err RoleForbids
+
 -- what a caller posts by a command: its role first, then its body
 abbrev pub posted_by : FixedPart → Caller → Command → Request → Result Posted Refusal
 posted_by f who Submit request = posted_submission f (team_of who) request
@@ -52,6 +58,8 @@ posted_by f who OpenRejudging request = posted_as Opening (posted_rejudging (jud
 posted_by f who JudgeRejudging request = posted_as (λ v. Rejudging request.path (Judge v)) (posted_verdict (judge_of who) request.body)
 posted_by f who ApplyRejudging request = if_judge (judge_of who) (Rejudging request.path Apply)
 posted_by f who CancelRejudging request = if_judge (judge_of who) (Rejudging request.path Cancel)
+posted_by f who SetClock request = posted_as Clock (posted_clock (is_admin who) f.settings.head.id request.body)
+posted_by f who Finalize request = if_admin (is_admin who) Final
 
 -- what is known of it once it is read
 abbrev pub IsSoundPost : FixedPart → Posted → Type 0
@@ -61,6 +69,8 @@ IsSoundPost f (Proposal v) = IsSoundVerdict f v
 IsSoundPost f (Verification v) = IsSoundVerdict f v
 IsSoundPost f (Opening w) = IsSoundRejudging w
 IsSoundPost f (Rejudging path step) = IsSoundStep f step
+IsSoundPost f (Clock w) = Unit {0}
+IsSoundPost f Final = Unit {0}
 
 -- who posts it
 abbrev pub poster : Posted → Audience
@@ -70,6 +80,8 @@ poster (Proposal v) = Jury
 poster (Verification v) = Jury
 poster (Opening w) = Jury
 poster (Rejudging path step) = Jury
+poster (Clock w) = Jury
+poster Final = Jury
 
 -- what is done at a moment, or why not
 abbrev pub post_done : (now : ℕ) → Posted → ContestState → Result Done RuleRefusal
@@ -79,6 +91,8 @@ post_done now (Proposal v) x = proposal_done now v x
 post_done now (Verification v) x = verification_done now v x
 post_done now (Opening w) x = opening_done w x
 post_done now (Rejudging path step) x = rejudging_done now (jury_piece path) step x
+post_done now (Clock w) x = clock_done now w x
+post_done now Final x = final_done now x
 
 -- what becomes of it
 abbrev pub post_outcome : (now : ℕ) → Posted → ContestState → Outcome
@@ -94,6 +108,8 @@ post_takes_memory who OpenRejudging = is_some (judge_of who)
 post_takes_memory who JudgeRejudging = is_some (judge_of who)
 post_takes_memory who ApplyRejudging = is_some (judge_of who)
 post_takes_memory who CancelRejudging = is_some (judge_of who)
+post_takes_memory who SetClock = is_admin who
+post_takes_memory who Finalize = is_admin who
 
 -- whose file is looked at, by its team and its number: files are large, and no more than one is
 abbrev pub post_file : Posted → ContestState → Option (ℕ × ℕ)
@@ -103,6 +119,8 @@ post_file (Proposal v) x = None
 post_file (Verification v) x = None
 post_file (Opening w) x = None
 post_file (Rejudging path step) x = None
+post_file (Clock w) x = None
+post_file Final x = None
 
 -- the idempotency key that it comes with, if there is one
 abbrev pub key_of : Posted → Option (List ℕ)
@@ -112,6 +130,8 @@ key_of (Proposal v) = None
 key_of (Verification v) = None
 key_of (Opening w) = None
 key_of (Rejudging path step) = None
+key_of (Clock w) = None
+key_of Final = None
 
 -- two are of one sender, and ask for rows of one kind
 abbrev pub are_in_one_scope : Posted → Posted → Bool
@@ -133,3 +153,5 @@ reaches_key x (Proposal v) = false
 reaches_key x (Verification v) = false
 reaches_key x (Opening w) = false
 reaches_key x (Rejudging path step) = false
+reaches_key x (Clock w) = false
+reaches_key x Final = false

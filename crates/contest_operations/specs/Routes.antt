@@ -13,7 +13,7 @@ use Rattle.contest_objects.specs.declared.contest_objects.ContestEndpoint.TheVar
 use Rattle.contest_objects.specs.declared.settings_objects.SettingsEndpoint.TheVariants.{Groups, JudgementTypes, Languages, Problems, Teams}
 use Rattle.contest_operations.specs.Offers.{nothing, reads}
 use Rattle.contest_operations.specs.declared.offer.Offer.{Offer}
-use Rattle.contest_operations.specs.declared.command.Command.TheVariants.{Submit, Clarify, Propose, Verify, OpenRejudging, JudgeRejudging, ApplyRejudging, CancelRejudging}
+use Rattle.contest_operations.specs.declared.command.Command.TheVariants.{Submit, Clarify, Propose, Verify, OpenRejudging, JudgeRejudging, ApplyRejudging, CancelRejudging, SetClock, Finalize}
 use Rattle.contest_operations.specs.declared.operation.Endpoint.TheVariants.{Settings, Submissions, Judgements, Clarifications, Awards}
 use Rattle.contest_operations.specs.declared.operation.JuryReading.TheVariants.{Proposals, Rejudgings, Rejudging}
 use Rattle.contest_operations.specs.declared.operation.Reading.TheVariants.{Whole, List as AllOf, Object, File, Scoreboard, Jury as ForJury}
@@ -22,7 +22,7 @@ use Rattle.contest_operations.specs.declared.operation.Reading.TheVariants.{Whol
 abbrev pub route_rows : List (List ℕ × Offer)
 route_rows =
     (codes "/contests", reads (Whole Contests))
-    ∷ (codes "/contests/{contest}", reads (Whole Contest))
+    ∷ (codes "/contests/{contest}", record (reads (Whole Contest)) { patch = Some SetClock })
     ∷ (codes "/contests/{contest}/state", reads (Whole State))
     ∷ (codes "/contests/{contest}/scoreboard", reads Scoreboard)
     ∷ (codes "/contests/{contest}/judgement-types", reads (AllOf (Settings JudgementTypes)))
@@ -46,7 +46,7 @@ route_rows =
     ∷ (codes "/contests/{contest}/clarifications/{id}", reads (Object Clarifications))
     ∷ (codes "/jury/proposals", record (reads (ForJury Proposals)) { post = Some Propose })
     ∷ (codes "/jury/verifications", record nothing { post = Some Verify })
-    ∷ (codes "/jury/finalize", nothing)
+    ∷ (codes "/jury/finalize", record nothing { post = Some Finalize })
     ∷ (codes "/jury/rejudgings", record (reads (ForJury Rejudgings)) { post = Some OpenRejudging })
     ∷ (codes "/jury/rejudgings/{n}", reads (ForJury Rejudging))
     ∷ (codes "/jury/rejudgings/{n}/verdicts", record nothing { post = Some JudgeRejudging })

@@ -3,7 +3,7 @@ ghost use Rattle.std.specs.Prelude.{◌≡◌, ◌<◌, ◌+◌, ◌^◌, Option
 ghost use Rattle.std.specs.Option.{option_map};
 ghost use Rattle.contest_types.specs.declared.account.Account.{Account as TheAccount};
 ghost use Rattle.contest_types.specs.Masks.{audience_at};
-ghost use Rattle.contest_operations.specs.Callers.{audience_of, audience_for, caller_of, holder_of, judge_of, team_for, team_of};
+ghost use Rattle.contest_operations.specs.Callers.{audience_of, audience_for, caller_of, holder_of, is_admin, is_admin_by, judge_of, team_for, team_of};
 
 use contest_requests::Credential;
 use contest_types::{Account, Audience, Fixed, Id, Role};
@@ -106,5 +106,24 @@ pub fn judge_of<'a>(caller: &Caller<'a>) -> Option<&'a Id>
     match account.role {
         Role::Team(_) => None,
         Role::Judge | Role::Admin => Some(&account.id),
+    }
+}
+
+/// Whether a caller is an administrator.
+pub fn is_admin(caller: &Caller<'_>) -> bool
+    ensures { result ≡ is_admin caller.now }
+{
+    match caller.account {
+        Some(account) => is_admin_by(account.role),
+        None => false,
+    }
+}
+
+fn is_admin_by(role: Role) -> bool
+    ensures { result ≡ is_admin_by role }
+{
+    match role {
+        Role::Admin => true,
+        Role::Team(_) | Role::Judge => false,
     }
 }

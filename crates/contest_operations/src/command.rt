@@ -4,22 +4,22 @@ ghost use Rattle.contest_types.specs.State.{ContestState};
 ghost use Rattle.contest_types.specs.Valid.{is_valid};
 ghost use Rattle.contest_lists.specs.Lists.{loaded};
 ghost use Rattle.contest_postings.specs.OwnSubmissions.{file_at};
-ghost use Rattle.contest_operations.specs.Commands.{IsSoundPost, if_judge, post_done, post_file, post_outcome, post_takes_memory, posted_by};
-ghost use Rattle.contest_operations.specs.Callers.{judge_of};
+ghost use Rattle.contest_operations.specs.Commands.{IsSoundPost, if_admin, if_judge, post_done, post_file, post_outcome, post_takes_memory, posted_by};
+ghost use Rattle.contest_operations.specs.Callers.{is_admin, judge_of};
 ghost use Rattle.contest_operations.specs.Replies.{IsOrdinary};
 
-use crate::caller::{Caller, judge_of, team_of};
+use crate::caller::{Caller, is_admin, judge_of, team_of};
 use crate::clarify::post_clarification;
 use crate::outcome::Outcome;
 use crate::path::jury_piece;
 use crate::submit::post_submission;
 use contest_lists::Lists;
 use contest_postings::{
-    Clarifying, Done, Opening, Proposing, Rejudge, RejudgingStep, Submitting, Verifying, carry_out,
-    keyed_row,
+    Clarifying, Done, Finalize, Opening, Proposing, Rejudge, RejudgingStep, SetClock, Submitting,
+    Verifying, carry_out, keyed_row,
 };
-use contest_requests::{JuryVerdict, Request, post_rejudging, post_verdict};
-use contest_rules::{RuleRefusal, WantedRejudging, WantedSubmission};
+use contest_requests::{JuryVerdict, Request, post_clock, post_rejudging, post_verdict};
+use contest_rules::{RuleRefusal, WantedClock, WantedRejudging, WantedSubmission};
 use contest_types::{Fixed, Moment, Refusal, Rows};
 use std::alloc::{AllocError, Global};
 
@@ -42,6 +42,10 @@ pub enum Command {
     ApplyRejudging,
     /// The jury cancels one.
     CancelRejudging,
+    /// An administrator sets the start or the thaw (Contest API 2023-06, contests: PATCH).
+    SetClock,
+    /// An administrator makes the results final.
+    Finalize,
 }
 
 /// What a caller whose role allows it posts, once its body is read.
@@ -59,6 +63,10 @@ pub enum Posted {
     Opening(WantedRejudging),
     /// What the jury does with the rejudging that a path names.
     Rejudging(Rows<u8>, RejudgingStep),
+    /// An administrator sets the start or the thaw.
+    Clock(WantedClock),
+    /// An administrator makes the results final.
+    Final,
 }
 
 /// What a caller posts by a command: its role is looked at first, then its body.
@@ -101,6 +109,12 @@ pub fn post(
         }
         Command::ApplyRejudging => rejudge(caller, request.path, RejudgingStep::Apply),
         Command::CancelRejudging => rejudge(caller, request.path, RejudgingStep::Cancel),
+        Command::SetClock => {
+            let contest = &fixed.settings.head().id;
+            let wanted = post_clock(alloc, is_admin(caller), contest, request.body.as_slice())?;
+            Ok(Posted::Clock(wanted))
+        }
+        Command::Finalize => finalize(caller),
     }
 }
 
@@ -111,6 +125,17 @@ fn rejudge(caller: &Caller<'_>, path: Rows<u8>, step: RejudgingStep) -> Result<P
     match judge_of(caller) {
         Some(_) => Ok(Posted::Rejudging(path, step)),
         None => Err(Refusal::RoleForbids),
+    }
+}
+
+// What only an administrator posts; its body isn't read.
+fn finalize(caller: &Caller<'_>) -> Result<Posted, Refusal>
+    ensures { result ≡ if_admin (is_admin caller.now) Posted.Final }
+{
+    if is_admin(caller) {
+        Ok(Posted::Final)
+    } else {
+        Err(Refusal::RoleForbids)
     }
 }
 
@@ -125,7 +150,9 @@ pub fn post_file(posted: &Posted, lists: &Lists) -> Option<(usize, usize)>
         | Posted::Proposal(_)
         | Posted::Verification(_)
         | Posted::Opening(_)
-        | Posted::Rejudging(_, _) => None,
+        | Posted::Rejudging(_, _)
+        | Posted::Clock(_)
+        | Posted::Final => None,
     }
 }
 
@@ -169,5 +196,7 @@ fn done_by(
             let id = jury_piece(path.as_slice());
             carry_out(alloc, lists, now, Rejudge { id, step })
         }
+        Posted::Clock(wanted) => carry_out(alloc, lists, now, SetClock { wanted }),
+        Posted::Final => carry_out(alloc, lists, now, Finalize),
     }
 }

@@ -30,6 +30,7 @@ static ROUTES: [(&str, Offer); 31] = [
         "/contests/{contest}",
         Offer {
             get: Some(Reading::Whole(ContestEndpoint::Contest)),
+            patch: Some(Command::SetClock),
             ..NOTHING
         },
     ),
@@ -197,7 +198,13 @@ static ROUTES: [(&str, Offer); 31] = [
             ..NOTHING
         },
     ),
-    ("/jury/finalize", NOTHING),
+    (
+        "/jury/finalize",
+        Offer {
+            post: Some(Command::Finalize),
+            ..NOTHING
+        },
+    ),
     (
         "/jury/rejudgings",
         Offer {

@@ -3,3 +3,4 @@ pub mod OwnLemmas
 pub mod FileLemmas
 pub mod PostLemmas
 pub mod NamedVerdictLemmas
+pub mod LoadedClock

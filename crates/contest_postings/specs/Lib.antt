@@ -5,3 +5,4 @@ pub mod PostSubmission
 pub mod OwnSubmissions
 pub mod PostClarification
 pub mod PostRejudgings
+pub mod PostClock

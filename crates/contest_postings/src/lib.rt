@@ -3,6 +3,7 @@
 #![tactic(auto)]
 
 mod clarification;
+mod clock;
 mod named;
 mod opening;
 mod own_so_far;
@@ -13,6 +14,7 @@ mod submission;
 mod verification;
 
 pub use clarification::Clarifying;
+pub use clock::{FinalResults, Finalize, SetClock};
 pub use named::named_verdict;
 pub use opening::{OpenedRejudging, Opening};
 pub use own_so_far::keyed_row;

@@ -1,3 +1,5 @@
 pub mod BodyLemmas
 pub mod RejudgingLemmas
+pub mod MomentTexts
 mod ExamplesRejudgingBodies
+mod ExamplesClockBodies

@@ -2,3 +2,4 @@ pub mod SubmissionBodies
 pub mod ClarificationBodies
 pub mod JuryVerdicts
 pub mod RejudgingBodies
+pub mod ClockBodies

@@ -2,12 +2,14 @@
 #![tactic(auto)]
 
 mod clarification_body;
+mod clock_body;
 mod jury_verdict;
 mod rejudging_body;
 mod request;
 mod submission_body;
 
 pub use clarification_body::read_clarification;
+pub use clock_body::{post_clock, read_clock};
 pub use jury_verdict::{JuryVerdict, post_verdict};
 pub use rejudging_body::{post_rejudging, read_rejudging};
 pub use request::{Credential, KeyField, Method, Request};

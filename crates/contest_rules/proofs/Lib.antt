@@ -7,9 +7,12 @@ mod ExamplesSubmitting
 mod ExamplesClarifying
 mod ExamplesProposing
 mod ExamplesRejudging
+mod ExamplesClock
 pub mod VerifiedLemmas
 pub mod RoundLemmas
 pub mod CandidateLemmas
 pub mod OpenedLemmas
 pub mod AppliedLemmas
 pub mod RejudgedLemmas
+pub mod ReleasedLemmas
+pub mod ClockLemmas

@@ -29,6 +29,11 @@ use Rattle.contest_rules.specs.declared.submitting.WantedSubmission.{WantedSubmi
 use Rattle.contest_rules.specs.declared.proposing.NewVerdict.{NewVerdict}
 use Rattle.contest_rules.specs.declared.verdicts.WantedVerdict.{WantedVerdict}
 use Rattle.contest_rules.specs.Clarifying.{clarify}
+use Rattle.contest_types.specs.Clock.{reached}
+use Rattle.contest_types.specs.State.{add, with_marks}
+use Rattle.contest_rules.specs.declared.clock_changes.ClockChange.{ClockChange}
+use Rattle.contest_rules.specs.declared.clock_changes.WantedClock.{WantedClock}
+use Rattle.contest_rules.specs.ClockChanges.{finalize, set_clock}
 use Rattle.contest_rules.specs.declared.opening.WantedRejudging.{WantedRejudging}
 use Rattle.contest_rules.specs.Opening.{open_rejudging}
 use Rattle.contest_rules.specs.Rejudging.{applied_entries, apply_on, rejudge_on}
@@ -108,3 +113,23 @@ abbrev pub AppliedIsAddable : Type 0
 AppliedIsAddable =
     (x : ContestState) (now number : ℕ) (r : Rejudging) (releases : List Release) → is_valid x ≡ true → Has x.rejudgings r
     → apply_on x.releases now r ≡ Ok releases → are_addable x (applied_entries number releases) ≡ true
+
+-- a change of the clock may be made, and its marks are those of the contest then
+abbrev pub IsMade : ContestState → ClockChange → Type 0
+IsMade x c = (is_addable x c.entry ≡ true) × (add x c.entry ≡ with_marks x c.marks)
+
+-- a start or a thaw that is taken is made
+abbrev pub ClockIsAddable : Type 0
+ClockIsAddable =
+    (x : ContestState) (now : ℕ) (w : WantedClock) (c : ClockChange) → set_clock x.fixed x.submissions x.clarifications now w ≡ Ok c → IsMade x c
+
+-- and so are results that are final from now on
+abbrev pub FinalIsAddable : Type 0
+FinalIsAddable =
+    (x : ContestState) (now : ℕ) (c : ClockChange) → finalize x.fixed x.submissions x.releases x.rejudgings now ≡ Ok c → IsMade x c
+
+-- a start that has come stays, whatever is taken, and so does a thaw
+abbrev pub ComeStays : Type 0
+ComeStays =
+    (x : ContestState) (now : ℕ) (w : WantedClock) (c : ClockChange) → set_clock x.fixed x.submissions x.clarifications now w ≡ Ok c
+    → (reached x.fixed.marks.start now ≡ true → c.marks.start ≡ x.fixed.marks.start) × (reached x.fixed.marks.thaw now ≡ true → c.marks.thaw ≡ x.fixed.marks.thaw)

@@ -8,4 +8,6 @@ pub mod Opening
 pub mod Rounds
 pub mod Candidates
 pub mod Rejudging
+pub mod ClockChanges
+pub mod ReleasedSubmissions
 pub mod Laws

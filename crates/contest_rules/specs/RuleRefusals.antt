@@ -19,3 +19,4 @@ refusal_of rule.NotFound = refusal.NotFound
 refusal_of rule.InRejudging = refusal.InRejudging
 refusal_of rule.RejudgingIncomplete = refusal.RejudgingIncomplete
 refusal_of rule.RejudgingClosed = refusal.RejudgingClosed
+refusal_of rule.ClockRefused = refusal.ClockRefused

@@ -1,6 +1,6 @@
 //! Laws of the decisions: functions that do nothing, and whose contracts say what holds of every
 //! contest.
-ghost use Rattle.contest_rules.specs.Laws.{AlikeClarifyAlike, AlikeSubmitAlike, AppliedIsAddable, ClarifiedIsAddable, OpenedIsAddable, ProposedIsAddable, RejudgedIsAddable, SubmittedIsAddable, VerifiedIsAddable};
+ghost use Rattle.contest_rules.specs.Laws.{AlikeClarifyAlike, AlikeSubmitAlike, AppliedIsAddable, ClarifiedIsAddable, ClockIsAddable, ComeStays, FinalIsAddable, OpenedIsAddable, ProposedIsAddable, RejudgedIsAddable, SubmittedIsAddable, VerifiedIsAddable};
 
 /// A submission that is taken keeps a valid contest valid.
 pub fn submitted_is_addable()
@@ -46,4 +46,20 @@ pub fn rejudged_is_addable()
 /// And so do the releases of one that is applied.
 pub fn applied_is_addable()
     ensures { AppliedIsAddable }
+{}
+
+/// A change of the clock that is taken keeps a valid contest valid, and its marks are those of the
+/// contest then.
+pub fn clock_is_addable()
+    ensures { ClockIsAddable }
+{}
+
+/// So it is with results that are made final.
+pub fn final_is_addable()
+    ensures { FinalIsAddable }
+{}
+
+/// Nobody moves a start or a thaw that has come.
+pub fn come_stays()
+    ensures { ComeStays }
 {}

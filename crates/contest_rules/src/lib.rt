@@ -3,11 +3,13 @@
 
 mod candidates;
 mod clarifying;
+mod clock_changes;
 mod decision;
 pub mod laws;
 mod opening;
 mod proposing;
 mod rejudging;
+mod released_submissions;
 mod rounds;
 mod rule_refusal;
 mod submitting;
@@ -18,6 +20,7 @@ pub use clarifying::{
     NamedClarification, SaidBefore, Sender, WantedClarification, clarification_on,
     decide_clarification,
 };
+pub use clock_changes::{ClockChange, WantedClock, decide_clock, decide_final};
 pub use decision::Decision;
 pub use opening::{WantedRejudging, decide_opening};
 pub use proposing::{NewVerdict, decide_proposal, release_at_once};

@@ -20,6 +20,7 @@ pub enum RuleRefusal {
     InRejudging,
     RejudgingIncomplete,
     RejudgingClosed,
+    ClockRefused,
 }
 
 impl RuleRefusal {
@@ -41,6 +42,7 @@ impl RuleRefusal {
             RuleRefusal::InRejudging => Refusal::InRejudging,
             RuleRefusal::RejudgingIncomplete => Refusal::RejudgingIncomplete,
             RuleRefusal::RejudgingClosed => Refusal::RejudgingClosed,
+            RuleRefusal::ClockRefused => Refusal::ClockRefused,
         }
     }
 }
