@@ -113,9 +113,11 @@ class Asker(Clarifier, Rejudger, Timekeeper):
             path = self.often("/jury/proposals", ["/jury/verifications"], 0.6)
             return self.often("POST", ["GET", "HEAD", "PATCH"], 0.9), path, self.proposal(contest)
         if self.random.random() < 0.4:
-            path = self.often(f"{AT_REHEARSAL}/scoreboard", [f"{AT_REHEARSAL}/judgements"], 0.5)
+            path = self.often(f"{AT_REHEARSAL}/scoreboard", [f"{AT_REHEARSAL}/judgements", f"{AT_REHEARSAL}/awards"], 0.4)
             ids = [f"/s{team}-{number}.{n}" for team in (1, 2, 3) for number in (1, 2) for n in (1, 1, 2)]
-            path += self.often("", ids, 0.6) if path.endswith("judgements") else self.often("", ["/", "/x"], 0.95)
+            if path.endswith("awards"):
+                ids = ["/winner", "/gold-medal", "/first-to-solve-a", "/first-to-solve-b", "/group-winner-north", "/x"]
+            path += self.often("", ids, 0.6) if not path.endswith("scoreboard") else self.often("", ["/", "/x"], 0.95)
             return self.often("GET", ["HEAD", "POST"], 0.95), path, ""
         if self.random.random() < 0.4:
             which = f"s{self.often(1, [2, 3, 4])}-{self.often('1', ['2', '3', '01'], 0.6)}"

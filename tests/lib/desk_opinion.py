@@ -2,8 +2,8 @@
 
 docs/FORMATS.md says what is asked and answered. It is written to be read beside that page and to share nothing with the
 program: whole lists, filtered and counted for each answer, and nothing kept up to date along the way. What imports add to a
-contest is told by import_opinion.py, what is answered about rejudgings by rejudging_opinion.py, and how the clock is set by
-clock_opinion.py.
+contest is told by import_opinion.py, what is answered about rejudgings by rejudging_opinion.py, how the clock is set by
+clock_opinion.py, and who wins what by awards_opinion.py.
 """
 
 import base64
@@ -13,7 +13,7 @@ import datetime
 import hashlib
 import json
 
-from . import clock_opinion, rejudging_opinion
+from . import awards_opinion, clock_opinion, rejudging_opinion
 from .import_opinion import COLLECTIONS, Refused, compact, has_come, is_id, is_name, member
 from .replay_opinion import Fault, reltime_text
 
@@ -229,6 +229,25 @@ def scoreboard(contest, now, caller):
     return {"contest_time": time, "rows": shown, "state": state_object(contest, now), "time": moment(now)}
 
 
+def solves(contest):
+    """Each team that isn't hidden with a problem that it solved, and the time of its first submission that solves it."""
+    solving = {row["id"] for row in contest["types"] if row["solved"]}
+    last = {release["submission"]: release["type"] for release in contest["releases"]}
+    hidden = {team["id"] for team in contest["teams"] if team["hidden"]}
+    found = {}
+    for one in sorted(contest["submissions"], key=lambda one: (one["time"], one["number"])):
+        if last.get(submission_id(contest, one)) in solving and one["team"] not in hidden:
+            found.setdefault((one["team"], one["problem"]), one["time"])
+    return [(team, problem, time) for (team, problem), time in found.items()]
+
+
+def awards(contest, now, caller):
+    """Those of the jury's board, once the caller is shown them."""
+    if not awards_opinion.are_shown(contest, now, is_jury(caller)):
+        return []
+    return awards_opinion.made(contest, scoreboard(contest, now, {"role": "judge", "team": None})["rows"], solves(contest))
+
+
 def signed(milliseconds):
     return reltime_text(milliseconds) if milliseconds >= 0 else "-" + reltime_text(-milliseconds)
 
@@ -240,6 +259,8 @@ def collection(contest, now, name, caller):
         return judgements(contest, now, caller)
     if name == "clarifications":
         return [clarification_object(contest, one, caller) for one in heard_clarifications(contest, caller)]
+    if name == "awards":
+        return awards(contest, now, caller)
     rows = contest[COLLECTIONS[name]]
     return sorted(rows, key=lambda row: (row["ordinal"], row["id"].encode())) if name == "problems" else rows
 
@@ -414,7 +435,7 @@ def offered(contest, path):
         return ["GET", "HEAD", "PATCH"], "contest", None
     if len(pieces) == 6 and all(pieces[1:]) and pieces[:4] + pieces[5:] == ["", "contests", contest["id"], "submissions", "files"]:
         return ["GET", "HEAD"], "files", pieces[4]
-    names = ["submissions", "judgements", "clarifications", *COLLECTIONS]
+    names = ["submissions", "judgements", "clarifications", "awards", *COLLECTIONS]
     if len(pieces) not in (4, 5) or pieces[:3] != ["", "contests", contest["id"]] or pieces[3] not in names or not all(pieces[1:]):
         raise Refused("NotFound")
     methods = ["GET", "HEAD"] + (["POST"] if pieces[3:] in (["submissions"], ["clarifications"]) else [])
