@@ -84,7 +84,7 @@ def try_released(desk):
         desk.note(after == before or wanted == added(2), f"{what}: {before!r}, then {after!r}")
     board = ("board", "cup.db", "--at", "2024-03-02T10:00:00Z", "--format", "csv")
     first = desk.run(folder, *board)[1].split("\n")[1]
-    desk.same("the board", first, "1,t1,Alpha,1,10,10,+1/10,")
+    desk.same("the board", first, "1,t1,Alpha,1,10,10,+1/10,.")
     server = served(desk, folder)
     shown = [(one["id"], one["judgement_type_id"]) for one in server.answer("public", "GET", f"{DEMO}/judgements")[1]]
     desk.same("what anyone sees", shown, [("s1-1.1", "AC"), ("s2-1.1", "WA")])
@@ -134,15 +134,15 @@ def begun(desk, verification):
         for place, team in enumerate(TEAMS, 1):
             for number in (1, 2, 3):
                 contest["submissions"].append({"team": team, "number": number})
-                row = (3 * place + number, place, number, START + number, "a", "cpp", None, b"abc", None)
+                row = (3 * (place - 1) + number, place, number, START + number, "a", "cpp", None, b"abc", None)
                 insert(database, "submissions", row)
         for seq, (place, number, verdict, account) in enumerate([(1, 1, "AC", "import"), (2, 1, "WA", "j1"), (3, 2, "AC", "j1")], 1):
             which = f"s{place}-{number}"
             insert(database, "proposals", (seq, place, number, verdict, account, START + 9))
             contest["proposals"].append({"account": account, "submission": which, "type": verdict, "time": START + 9})
             if not verification or seq == 2:
-                insert(database, "releases", (seq, place, number, 1, verdict, START + 9))
                 contest["releases"].append(desk_opinion.first_release(START + 9, which, verdict))
+                insert(database, "releases", (len(contest["releases"]), place, number, 1, verdict, START + 9))
     return folder, contest
 
 
@@ -214,7 +214,8 @@ def killed(desk, base, number, delay):
     folder = desk.new_folder()
     copy_contest(base, folder)
     shutil.copy(base / "verdicts.csv", folder)
-    words = [*clock.at(TEN), desk.path, "import", "cup.db", "verdicts-csv", "verdicts.csv"]
+    # By the clock of the machine, after the end: a kill would reach faketime alone, and not what it runs.
+    words = [desk.path, "import", "cup.db", "verdicts-csv", "verdicts.csv"]
     with subprocess.Popen(words, cwd=folder, stdout=subprocess.PIPE, stderr=subprocess.PIPE) as running:
         time.sleep(delay)
         running.kill()
