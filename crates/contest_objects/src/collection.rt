@@ -140,7 +140,12 @@ fn sorted<'r, C: Ordered>(
     Ok(refs)
 }
 
-fn refs<T>(alloc: Global, rows: &[T]) -> Result<Vec<&T>, AllocError>
+/// References to all rows, in their order.
+///
+/// # Errors
+///
+/// Want of memory alone.
+pub fn refs<T>(alloc: Global, rows: &[T]) -> Result<Vec<&T>, AllocError>
     ensures { IfOk result (λ refs. map (λ r. r.now) refs.items ≡ rows.now) }
 {
     let mut refs = Vec::new(alloc);

@@ -18,7 +18,7 @@ mod visible_ids;
 
 pub use award_object::award_value;
 pub use clarification_object::clarification_value;
-pub use collection::{Collection, Ordered, Whole, get, get_whole, list, list_whole};
+pub use collection::{Collection, Ordered, Whole, get, get_whole, list, list_whole, refs};
 pub use contest_objects::{ContestEndpoint, contest_value, state_value, whole_value};
 pub use id_numbers::{rejudging_number, submission_numbers};
 pub use judgement_object::judgement_value;

@@ -11,7 +11,7 @@ use std::alloc::{AllocError, Global};
 /// # Errors
 ///
 /// Want of memory alone.
-pub(crate) fn push_fields(fields: &mut ByteRecord, texts: &[&str]) -> Result<(), AllocError>
+pub fn push_fields(fields: &mut ByteRecord, texts: &[&str]) -> Result<(), AllocError>
     requires { partial_of fields.old ≡ [] }
     ensures fields { OnOk result (fields_of fields.new ≡ fields_of fields.old ++ map (λ t. t.now) texts.now) }
     ensures whole { OnOk result (partial_of fields.new ≡ []) }
@@ -28,7 +28,7 @@ pub(crate) fn push_fields(fields: &mut ByteRecord, texts: &[&str]) -> Result<(),
 /// # Errors
 ///
 /// Want of memory alone: a vector takes all that there is memory for.
-pub(crate) fn record_text(alloc: Global, fields: &ByteRecord) -> Result<Vec<u8>, AllocError>
+pub fn record_text(alloc: Global, fields: &ByteRecord) -> Result<Vec<u8>, AllocError>
     ensures { IfOk result (λ text. text.items ≡ row_text default_writer (fields_of fields.now)) }
 {
     match written(alloc, fields) {

@@ -1,4 +1,4 @@
-//! A contest's results as text: the board that a terminal shows, and as CSV; the awards.
+//! A contest's results as text: the board that a terminal shows, and as CSV; the awards; records of CSV.
 #![tactic(auto)]
 
 mod awards;
@@ -11,3 +11,4 @@ mod padding;
 pub use awards::awards_text;
 pub use board::board_text;
 pub use csv_board::board_csv;
+pub use csv_record::{push_fields, record_text};

@@ -44,7 +44,7 @@ below : (a k m : ℕ) → a ≡ k → m < k → (a == m) ≡ false
 below a k m e l = grind (arith, nat_tests, e, l)
 
 -- where rows are numbered one after another, the one with a number stands so far behind the first
-numbered : (ss : List Submission) (first n k : ℕ) → map number_of ss ≡ range_with_len first n → find (λ t. t.number == first + k) ss ≡ slice_get ss k
+pub numbered : (ss : List Submission) (first n k : ℕ) → map number_of ss ≡ range_with_len first n → find (λ t. t.number == first + k) ss ≡ slice_get ss k
 numbered [] first n k all = refl
 numbered (t ∷ ss) first zero k all = absurd (cc all)
 numbered (t ∷ ss) first (suc n) zero all =
@@ -55,7 +55,7 @@ numbered (t ∷ ss) first (suc n) (suc k) all =
     rw (differs t.number first k (first_is _ first n _ all)) (rw e at (numbered ss (first + 1) n k (rest_is _ first n _ all)))
 
 -- and there is none with a number below the first
-none_below : (ss : List Submission) (first n m : ℕ) → m < first → map number_of ss ≡ range_with_len first n → find (λ t. t.number == m) ss ≡ None
+pub none_below : (ss : List Submission) (first n m : ℕ) → m < first → map number_of ss ≡ range_with_len first n → find (λ t. t.number == m) ss ≡ None
 none_below [] first n m l all = refl
 none_below (t ∷ ss) first zero m l all = absurd (cc all)
 none_below (t ∷ ss) first (suc n) m l all =

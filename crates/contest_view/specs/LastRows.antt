@@ -1,5 +1,4 @@
 -- The last of the rows that are on a submission.
--- Words of private functions: nothing public is said with them.
 use Rattle.std.specs.Prelude.{ℕ, Bool, ◌&&◌, ◌==◌, List, Option, None, Some, filter, slice_get, if◌then◌else◌}
 use Rattle.std.specs.HashMap.{HashMap, get}
 use Rattle.std.specs.List.{last_or}

@@ -9,7 +9,7 @@ use std::alloc::{AllocError, Global};
 use std::collections::HashMap;
 
 /// A row that is on a submission.
-pub(crate) trait OnSubmission {
+pub trait OnSubmission {
     /// Which submission it is on.
     ghost of: { Self → SubmissionRef };
 
@@ -39,7 +39,7 @@ impl OnSubmission for Proposal {
 }
 
 /// Where the last row on each submission stands, by the place of its team and its number.
-pub(crate) type LastPlaces = HashMap<(usize, usize), usize>;
+pub type LastPlaces = HashMap<(usize, usize), usize>;
 
 /// The places of the last rows, in one pass over the rows, which stand in the order in which they were
 /// made.
@@ -47,7 +47,7 @@ pub(crate) type LastPlaces = HashMap<(usize, usize), usize>;
 /// # Errors
 ///
 /// Want of memory alone.
-pub(crate) fn last_places<R: OnSubmission>(
+pub fn last_places<R: OnSubmission>(
     alloc: Global,
     rows: &[R],
 ) -> Result<LastPlaces, AllocError>
@@ -73,7 +73,7 @@ fn take_place(
 }
 
 /// The last row on a team's submission with this number, if there is one.
-pub(crate) fn last_on<'a, R: OnSubmission>(
+pub fn last_on<'a, R: OnSubmission>(
     rows: &'a [R],
     last: &LastPlaces,
     team: usize,

@@ -19,6 +19,7 @@ pub use awards::{award_by_id, awards_for, awards_value};
 pub use cells::{board_for, board_found, cells_for};
 pub use clarifications::{clarification_by_id, clarifications_value};
 pub use judgements::{judgement_by_id, judgements_value};
+pub use last_rows::{LastPlaces, OnSubmission, last_on, last_places};
 pub use named::{NumberedRejudging, named_rejudging, named_submission};
 pub use proposals::proposals_value;
 pub use rejudgings::{rejudging_by_id, rejudgings_value};

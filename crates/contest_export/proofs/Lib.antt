@@ -1,0 +1,4 @@
+pub mod ExportOrder
+pub mod ExportRows
+pub mod ExportReads
+pub mod ExportWritten

@@ -1,0 +1,2 @@
+pub mod SubmissionsCsv
+pub mod Exports
