@@ -20,7 +20,7 @@ pub out_of_memory : {S : Type 0} (g : Ghosts S) (Found : Held S → Type 0) (All
 out_of_memory g Found All Replay words in_old in_new out err_old err_new status is told =
     stopped words in_old in_new out err_old err_new (Refused Memory) status (inl refl) is told
 out_of_memory g Found All Init words in_old in_new out err_old err_new status is told =
-    (inl (Refused Memory, inr (inl refl), is, told), keeps_same out.bytes)
+    inl ((Refused Memory, inr (inl refl), is, told), keeps_same out.bytes)
 out_of_memory g Found All Import words in_old in_new out err_old err_new status is told =
     inl ((Refused Memory, inr (inl refl), is, told), keeps_same out.bytes)
 out_of_memory g Found All Board words in_old in_new out err_old err_new status is told =

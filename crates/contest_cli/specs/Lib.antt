@@ -1,5 +1,4 @@
 pub mod Commands
+pub mod FileCommand
 pub mod FileCommands
-pub mod ServeCommand
-pub mod BoardCommand
 pub mod Runs

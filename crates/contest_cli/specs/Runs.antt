@@ -1,28 +1,31 @@
 -- How each command ends, by its words.
 use Rattle.std.specs.Prelude.{ℕ, List}
-use Rattle.std.specs.Io.KnownBytes.{Keeps}
 use Rattle.clap.specs.Walk.{Text}
 use Rattle.sqlite_trees.specs.declared.store.Store.{Ghosts}
 use Rattle.sqlite.specs.Held.{Held}
 use Rattle.contest_streams.specs.Streams.{Stream}
-use Rattle.contest_cli.specs.BoardCommand.{BoardsByWords}
-use Rattle.contest_cli.specs.FileCommands.{ImportsByWords, InitsByWords}
-use Rattle.contest_cli.specs.ServeCommand.{ServesByWords}
 use Rattle.contest_cli_replay.specs.Replay.{Replays}
+use Rattle.contest_cli_machine.specs.Unopened.{IsNoFile}
+use Rattle.contest_cli_words.specs.BoardWords.{NamesBoard, board_app}
+use Rattle.contest_cli_words.specs.ImportWords.{NamesImport, import_app}
+use Rattle.contest_cli_words.specs.InitWords.{NamesInit, init_app}
+use Rattle.contest_cli_words.specs.ServeWords.{NamesServe, serve_app}
+use Rattle.contest_cli.specs.FileCommand.{RunsByWords}
+use Rattle.contest_cli.specs.FileCommands.{BoardLooks, BoardsOn, ImportsOn, LooksNever, InitsOn, LacksNothing, LooksAlways, ServesOnce}
 use Rattle.contest_cli.specs.declared.invocation.CommandName.{CommandName}
 use Rattle.contest_cli.specs.declared.invocation.CommandName.TheVariants.{Replay, Init, Import, Board, Serve}
 
 -- on a machine whose stores are of some type S, of which this is known of one that was opened, and on which it is this to
 -- serve so many clients
-abbrev pub Runs : {S : Type 0} → Ghosts S → (Held S → Type 0) → ((asked requests : ℕ) → (out_old out_new : Stream) → (old new : Held S) → Type 0) → CommandName → List Text
-    → (in_old in_new out_old out_new err_old err_new : Stream) → (status : ℕ) → Type 0
-Runs g Found All Replay words in_old in_new out_old out_new err_old err_new status =
-    Replays words in_old in_new out_old out_new err_old err_new status
-Runs g Found All Init words in_old in_new out_old out_new err_old err_new status =
-    InitsByWords g Found words err_old err_new status × Keeps out_old.bytes out_new.bytes
-Runs g Found All Import words in_old in_new out_old out_new err_old err_new status =
-    ImportsByWords g Found words out_old out_new err_old err_new status
-Runs g Found All Board words in_old in_new out_old out_new err_old err_new status =
-    BoardsByWords g Found words out_old out_new err_old err_new status
-Runs g Found All Serve words in_old in_new out_old out_new err_old err_new status =
-    ServesByWords g Found All words out_old out_new err_old err_new status
+module _ {S : Type 0} (g : Ghosts S) (Found : Held S → Type 0) (All : (asked requests : ℕ) → (out_old out_new : Stream) → (old new : Held S) → Type 0) where
+  abbrev pub Runs : CommandName → List Text → (in_old in_new out_old out_new err_old err_new : Stream) → (status : ℕ) → Type 0
+  Runs Replay words in_old in_new out_old out_new err_old err_new status =
+      Replays words in_old in_new out_old out_new err_old err_new status
+  Runs Init words in_old in_new out_old out_new err_old err_new status =
+      RunsByWords init_app NamesInit LooksNever IsNoFile g Found (InitsOn g) words out_old out_new err_old err_new status
+  Runs Import words in_old in_new out_old out_new err_old err_new status =
+      RunsByWords import_app NamesImport LooksAlways IsNoFile g Found (ImportsOn g) words out_old out_new err_old err_new status
+  Runs Board words in_old in_new out_old out_new err_old err_new status =
+      RunsByWords board_app NamesBoard BoardLooks LacksNothing g Found (BoardsOn g) words out_old out_new err_old err_new status
+  Runs Serve words in_old in_new out_old out_new err_old err_new status =
+      RunsByWords serve_app NamesServe LooksAlways LacksNothing g Found (ServesOnce g All) words out_old out_new err_old err_new status

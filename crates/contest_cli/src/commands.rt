@@ -8,12 +8,15 @@ ghost use Rattle.contest_cli.specs.Runs.{Runs};
 ghost use Rattle.contest_cli_commands.specs.Serve.{ServesOn};
 ghost use Rattle.contest_cli.specs.declared.invocation.CommandName.{CommandName};
 
-use crate::file_commands::{board_by_words, import_by_words, init_by_words, serve_by_words};
+use crate::file_command::run_by_words;
 use crate::help::{HELP, show_help_of};
 use crate::invocation::{CommandName, Invocation, invocation_of};
 use contest_cli_machine::{Host, HostListener, HostNetwork, Listen, Machine, Network};
 use contest_cli_replay::replay;
-use contest_cli_words::{CommandError, borrowed, refuse_arguments, show, tell};
+use contest_cli_words::{
+    BoardWords, CommandError, ImportWords, InitWords, ServeWords, borrowed, refuse_arguments, show,
+    tell,
+};
 use contest_streams::Counted;
 use contest_types::Refusal;
 use sqlite::{Start, Unknown};
@@ -76,7 +79,7 @@ fn run_owned<M: Machine, R: Read, O: Write, E: Write>(
 ) -> u8
     ensures statuses { result ≤ 2 }
     ensures command { (command : CommandName) → invocation_of (map string_bytes words.now) ≡ Invocation.To command
-        → Runs M.Disk.Store M.found (ServesOn M.Disk.Store M.Network.Listener.port_of M.Network.Listener.gives M.Network.Listener.parts M.Network.shows M.Network.Listener.Reader.remaining M.Network.Listener.Writer.contents) command (map string_bytes words.now)
+        → Runs M.Disk.Store M.found (ServesOn M.Disk.Store M.Outside.Listener.port_of M.Outside.Listener.gives M.Outside.Listener.parts M.Outside.shows M.Outside.Listener.Reader.remaining M.Outside.Listener.Writer.contents) command (map string_bytes words.now)
         (stream R.remaining reader.old) (stream R.remaining reader.new)
         (stream O.contents out.old) (stream O.contents out.new)
         (stream E.contents err.old) (stream E.contents err.new) result }
@@ -101,7 +104,7 @@ pub fn run<M: Machine, R: Read, O: Write, E: Write>(
 ) -> u8
     ensures statuses { result ≤ 2 }
     ensures command { (command : CommandName) → invocation_of (map (λ s. s.now) words.now) ≡ Invocation.To command
-        → Runs M.Disk.Store M.found (ServesOn M.Disk.Store M.Network.Listener.port_of M.Network.Listener.gives M.Network.Listener.parts M.Network.shows M.Network.Listener.Reader.remaining M.Network.Listener.Writer.contents) command (map (λ s. s.now) words.now)
+        → Runs M.Disk.Store M.found (ServesOn M.Disk.Store M.Outside.Listener.port_of M.Outside.Listener.gives M.Outside.Listener.parts M.Outside.shows M.Outside.Listener.Reader.remaining M.Outside.Listener.Writer.contents) command (map (λ s. s.now) words.now)
         (stream R.remaining reader.old) (stream R.remaining reader.new)
         (stream O.contents out.old) (stream O.contents out.new)
         (stream E.contents err.old) (stream E.contents err.new) result }
@@ -139,17 +142,19 @@ fn run_command<M: Machine, R: Read, O: Write, E: Write>(
     err: &mut Counted<E>,
 ) -> u8
     ensures statuses { result ≤ 2 }
-    ensures runs { Runs M.Disk.Store M.found (ServesOn M.Disk.Store M.Network.Listener.port_of M.Network.Listener.gives M.Network.Listener.parts M.Network.shows M.Network.Listener.Reader.remaining M.Network.Listener.Writer.contents) command (map (λ s. s.now) words.now)
+    ensures runs { Runs M.Disk.Store M.found (ServesOn M.Disk.Store M.Outside.Listener.port_of M.Outside.Listener.gives M.Outside.Listener.parts M.Outside.shows M.Outside.Listener.Reader.remaining M.Outside.Listener.Writer.contents) command (map (λ s. s.now) words.now)
         (stream R.remaining reader.old) (stream R.remaining reader.new)
         (stream O.contents out.old) (stream O.contents out.new)
         (stream E.contents err.old) (stream E.contents err.new) result }
 {
     match command {
         CommandName::Replay => replay(alloc, words, reader, out, err),
-        CommandName::Init => init_by_words(alloc, machine, words, err),
-        CommandName::Import => import_by_words(alloc, machine, words, out, err),
-        CommandName::Board => board_by_words(alloc, machine, words, out, err),
-        CommandName::Serve => serve_by_words(alloc, machine, words, out, err),
+        CommandName::Init => run_by_words::<M, InitWords, O, E>(alloc, machine, words, out, err),
+        CommandName::Import => run_by_words::<M, ImportWords, O, E>(
+            alloc, machine, words, out, err,
+        ),
+        CommandName::Board => run_by_words::<M, BoardWords, O, E>(alloc, machine, words, out, err),
+        CommandName::Serve => run_by_words::<M, ServeWords, O, E>(alloc, machine, words, out, err),
     }
 }
 

@@ -5,7 +5,10 @@ ghost use Rattle.contest_cli_words.specs.Endings.{ShowsSome};
 use crate::invocation::CommandName;
 use clap::Command;
 use contest_cli_replay::replay_app;
-use contest_cli_words::{CommandError, board_app, import_app, init_app, serve_app, show_help};
+use contest_cli_words::{
+    BoardWords, CommandError, CommandWords, ImportWords, InitWords, ServeWords, command_of,
+    show_help,
+};
 use contest_streams::Counted;
 use contest_types::Refusal;
 use std::alloc::{AllocError, Global};
@@ -58,9 +61,9 @@ pub(crate) fn show_help_of<O: Write, E: Write>(
 fn app_of<'a>(alloc: Global, command: CommandName) -> Result<Command<'a>, AllocError> {
     match command {
         CommandName::Replay => replay_app(alloc),
-        CommandName::Init => init_app(alloc),
-        CommandName::Import => import_app(alloc),
-        CommandName::Board => board_app(alloc),
-        CommandName::Serve => serve_app(alloc),
+        CommandName::Init => command_of(alloc, &InitWords::command()),
+        CommandName::Import => command_of(alloc, &ImportWords::command()),
+        CommandName::Board => command_of(alloc, &BoardWords::command()),
+        CommandName::Serve => command_of(alloc, &ServeWords::command()),
     }
 }

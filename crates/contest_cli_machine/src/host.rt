@@ -11,7 +11,7 @@ ghost use Rattle.contest_store_tables.specs.Numbered.{IsNumbered};
 ghost use Rattle.contest_cli_machine.specs.Unopened.{IsNoFile, IsNoStore};
 
 use crate::host_network::HostNetwork;
-use crate::machine::{Machine, Opened, ServedFile};
+use crate::machine::{Machine, MachineClock, Opened};
 use contest_cli_words::CommandError;
 use contest_streams::Counted;
 use contest_types::{Moment, Refusal};
@@ -27,6 +27,12 @@ pub struct Host<'a, D: Start> {
     pub disk: D,
 }
 
+impl<D: Start> MachineClock for Host<'_, D> {
+    fn now(&self) -> Result<Moment, CommandError> {
+        moment_now(self.rt)
+    }
+}
+
 impl<'a, D: Start> Machine for Host<'a, D> {
     ghost use Rattle.sqlite.specs.Files.{AreFoundIn, file_state};
     ghost use Rattle.sqlite.specs.State.{HasCleanDisk};
@@ -34,37 +40,17 @@ impl<'a, D: Start> Machine for Host<'a, D> {
 
     type Disk = FileStore<FileFrom<D>>;
 
-    type File = File;
-
-    type Network = HostNetwork<'a>;
+    type Outside = HostNetwork<'a>;
 
     ghost found = { λ conn. HasCleanDisk (file_state conn) → AreFoundIn (image_at D.Start) (file_state conn).now.trees };
-
-    fn now(&self) -> Result<Moment, CommandError> {
-        moment_now(self.rt)
-    }
 
     fn open(
         self,
         file: &str,
-        path: &str,
-    ) -> Result<Opened<FileStore<FileFrom<D>>, File>, CommandError> {
+    ) -> Result<Opened<FileStore<FileFrom<D>>, HostNetwork<'a>>, CommandError> {
         let conn = open_store(self.rt, file, self.disk)?;
-        let reader = open_file(self.rt, path)?;
-        Ok(Opened { conn, reader })
-    }
-
-    fn open_store(self, file: &str) -> Result<Connection<FileStore<FileFrom<D>>>, CommandError> {
-        open_store(self.rt, file, self.disk)
-    }
-
-    fn open_to_serve(
-        self,
-        file: &str,
-    ) -> Result<ServedFile<FileStore<FileFrom<D>>, HostNetwork<'a>>, CommandError> {
-        let conn = open_store(self.rt, file, self.disk)?;
-        let network = HostNetwork { rt: self.rt };
-        Ok(ServedFile { conn, network })
+        let outside = HostNetwork { rt: self.rt };
+        Ok(Opened { conn, outside })
     }
 
     fn close(mut store: FileStore<FileFrom<D>>) {
@@ -126,7 +112,7 @@ fn no_store(error: &Error) -> CommandError
 }
 
 // The file at a path, to be read.
-fn open_file<F: Files>(files: &F, path: &str) -> Result<Counted<F::File>, CommandError>
+pub(crate) fn open_file<F: Files>(files: &F, path: &str) -> Result<Counted<F::File>, CommandError>
     ensures { IfErr result IsNoFile }
 {
     match File::open(files, path) {

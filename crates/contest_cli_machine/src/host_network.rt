@@ -1,13 +1,16 @@
-//! The network of the program's machine: its loopback address alone.
+//! What is outside of the file that keeps a contest, on the program's machine: its clock, its other files,
+//! and its loopback address alone.
 ghost use Rattle.std.specs.Prelude.{◌≡◌, IfErr, IfOk};
 ghost use Rattle.contest_cli_machine.specs.Ports.{IsPort};
 ghost use Rattle.contest_streams.specs.Streams.{one_more};
 
-use crate::host::moment_now;
+use crate::host::{moment_now, open_file};
+use crate::machine::Outside;
 use crate::network::{Connected, Listen, Network};
 use contest_cli_words::CommandError;
 use contest_streams::Counted;
 use contest_types::Moment;
+use std::fs::File;
 use std::io::{self, ErrorKind, Read};
 use std::net::{Ipv4Addr, Shutdown, TcpListener, TcpStream};
 use std::time::Duration;
@@ -24,10 +27,18 @@ const LEFTOVERS: u32 = 64;
 
 const PIECE: usize = 65_536;
 
-/// The clock, and the loopback address.
+/// The clock, the files that are read, and the loopback address.
 #[derive(Drop)]
 pub struct HostNetwork<'a> {
     pub(crate) rt: &'a HostRuntime,
+}
+
+impl Outside for HostNetwork<'_> {
+    type File = File;
+
+    fn read(&self, path: &str) -> Result<Counted<File>, CommandError> {
+        open_file(self.rt, path)
+    }
 }
 
 impl Network for HostNetwork<'_> {

@@ -9,5 +9,5 @@ mod network;
 
 pub use host::Host;
 pub use host_network::{HostListener, HostNetwork};
-pub use machine::{Machine, Opened, ServedFile};
+pub use machine::{Machine, MachineClock, Opened, Outside};
 pub use network::{Connected, Listen, Network};

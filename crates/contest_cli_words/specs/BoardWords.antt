@@ -1,20 +1,20 @@
--- What the words of `board` name, and when they have a fault.
-use Rattle.std.specs.Prelude.{◌≡◌, ◌≢◌, ◌⊎◌, ℕ, List, [], Option, Some, None, codes}
-use Rattle.clap.specs.Simple.{App, new_app, with_rule}
-use Rattle.clap.specs.Walk.{Text}
+-- What the words of `board` name.
+use Rattle.std.specs.Prelude.{◌≡◌, ◌≢◌, ◌⊎◌, ◌∷◌, ℕ, List, [], Option, Some, None, codes}
+use Rattle.clap.specs.Simple.{App}
+use Rattle.clap.specs.Walk.{Row, Text, first_of}
 use Rattle.contest_types.specs.MomentText.{IsMomentText}
-use Rattle.contest_cli_words.specs.declared.asked_board.AskedBoard.{AskedBoard}
 use Rattle.contest_cli_words.specs.declared.asked_board.BoardFormat.{BoardFormat}
 use Rattle.contest_cli_words.specs.declared.asked_board.BoardFormat.TheVariants as format
 use Rattle.contest_cli_words.specs.declared.asked_board.Who.{Who}
 use Rattle.contest_cli_words.specs.declared.asked_board.Who.TheVariants as who
-use Rattle.contest_cli_words.specs.Arguments.{word, option, faults_in, value_of}
+use Rattle.contest_cli_words.specs.Arguments.{word, option}
+use Rattle.contest_cli_words.specs.CommandTable.{command_with}
+use Rattle.contest_cli_words.specs.declared.board_words.BoardWords.{BoardWords}
 
 -- the command
 unfoldable pub board_app : App
 board_app =
-    with_rule (with_rule (with_rule (with_rule (new_app (codes "board")) (word (codes "FILE")))
-    (option (codes "audience"))) (option (codes "at"))) (option (codes "format"))
+    command_with (codes "board") (word (codes "FILE") ∷ option (codes "audience") ∷ option (codes "at") ∷ option (codes "format") ∷ [])
 
 -- who is named, anyone where nobody is; the words win over a team's id
 abbrev pub NamesWho : Option Text → Who → Type 0
@@ -38,14 +38,9 @@ NamesMoment (Some text) (Some moment) = IsMomentText text moment
 abbrev pub NamesNoMoment : Option Text → Type 0
 NamesNoMoment text = (at : Option ℕ) → NamesMoment text at → ⊥
 
--- the words have no fault, and name the file that keeps a contest, a board and, if they do, its moment
-pub record NamesBoard (words : List Text) (file : Text) (asked : AskedBoard) (at : Option ℕ) : Type 0 where
-  pub faultless : faults_in board_app words ≡ []
-  pub file_is : value_of board_app (codes "FILE") words ≡ Some file
-  pub who_is : NamesWho (value_of board_app (codes "audience") words) asked.who
-  pub format_is : NamesFormat (value_of board_app (codes "format") words) asked.format
-  pub moment_is : NamesMoment (value_of board_app (codes "at") words) at
-
--- the words name nothing for `board`
-abbrev pub HasBoardFault : List Text → Type 0
-HasBoardFault words = (file : Text) (asked : AskedBoard) (at : Option ℕ) → NamesBoard words file asked at → ⊥
+-- the file that keeps the contest, a board and, if they do, its moment
+pub record NamesBoard (values : List Row) (named : BoardWords) : Type 0 where
+  pub file_is : first_of (codes "FILE") values ≡ Some named.file.now
+  pub who_is : NamesWho (first_of (codes "audience") values) named.asked.who
+  pub format_is : NamesFormat (first_of (codes "format") values) named.asked.format
+  pub moment_is : NamesMoment (first_of (codes "at") values) named.at

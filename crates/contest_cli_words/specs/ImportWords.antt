@@ -1,19 +1,23 @@
--- What the words of `import` name, and when they have a fault.
-use Rattle.std.specs.Prelude.{◌≡◌, List, [], Option, Some, None, codes, if◌then◌else◌}
+-- What the words of `import` name.
+use Rattle.std.specs.Prelude.{◌≡◌, ◌∷◌, List, [], Option, Some, None, codes, if◌then◌else◌}
 use Rattle.std.specs.Str.{bytes_eq}
-use Rattle.clap.specs.Simple.{App, new_app, with_rule}
-use Rattle.clap.specs.Walk.{Text}
+use Rattle.clap.specs.Simple.{App}
+use Rattle.clap.specs.Walk.{Row, Text, first_of}
 use Rattle.contest_types.specs.declared.import_kind.ImportKind.{ImportKind}
 use Rattle.contest_types.specs.declared.import_kind.ImportKind.TheVariants.{Fixed, VerdictsCsv}
 use Rattle.contest_types.specs.declared.import_kind.FixedKind.TheVariants.{Settings, TeamsCsv, AccountsCsv}
 use Rattle.contest_types.specs.declared.import_kind.SettingsKind.TheVariants.{JudgementTypes, Languages, Problems, Groups, Teams}
-use Rattle.contest_cli_words.specs.Arguments.{word, faults_in, value_of}
+use Rattle.contest_cli_words.specs.Arguments.{word}
+use Rattle.contest_cli_words.specs.CommandTable.{command_with}
+use Rattle.contest_cli_words.specs.declared.import_words.ImportWords.{ImportWords}
 
 -- the command
 unfoldable pub import_app : App
-import_app =
-    with_rule (with_rule (with_rule (new_app (codes "import")) (word (codes "FILE")))
-    (word (codes "KIND"))) (word (codes "PATH"))
+import_app = command_with (codes "import") (word (codes "FILE") ∷ word (codes "KIND") ∷ word (codes "PATH") ∷ [])
+
+-- the words that have to be there
+abbrev pub import_wanted : List Text
+import_wanted = codes "FILE" ∷ codes "KIND" ∷ codes "PATH" ∷ []
 
 -- the kind of file that a word names
 abbrev pub kind_named : Text → Option ImportKind
@@ -28,15 +32,10 @@ kind_named name =
     else (if bytes_eq name (codes "verdicts-csv") then Some VerdictsCsv
     else None)))))))
 
--- the words have no fault, and name the file that keeps a contest, a kind, and a file of that kind
-pub record NamesImport (words : List Text) (file : Text) (kind : ImportKind) (path : Text) : Type 0 where
-  pub faultless : faults_in import_app words ≡ []
-  pub file_is : value_of import_app (codes "FILE") words ≡ Some file
+-- the file that keeps the contest, a kind, and a file of that kind
+pub record NamesImport (values : List Row) (named : ImportWords) : Type 0 where
+  pub file_is : first_of (codes "FILE") values ≡ Some named.file.now
   pub name : Text
-  pub name_is : value_of import_app (codes "KIND") words ≡ Some name
-  pub kind_is : kind_named name ≡ Some kind
-  pub path_is : value_of import_app (codes "PATH") words ≡ Some path
-
--- the words name nothing for `import`
-abbrev pub HasImportFault : List Text → Type 0
-HasImportFault words = (file : Text) (kind : ImportKind) (path : Text) → NamesImport words file kind path → ⊥
+  pub name_is : first_of (codes "KIND") values ≡ Some name
+  pub kind_is : kind_named name ≡ Some named.kind
+  pub path_is : first_of (codes "PATH") values ≡ Some named.path.now

@@ -1,19 +1,20 @@
--- What the words of `init` name, and when they have a fault.
-use Rattle.std.specs.Prelude.{◌≡◌, List, [], Some, codes}
-use Rattle.clap.specs.Simple.{App, new_app, with_rule}
-use Rattle.clap.specs.Walk.{Text}
-use Rattle.contest_cli_words.specs.Arguments.{word, faults_in, value_of}
+-- What the words of `init` name.
+use Rattle.std.specs.Prelude.{◌≡◌, ◌∷◌, List, [], Some, codes}
+use Rattle.clap.specs.Simple.{App}
+use Rattle.clap.specs.Walk.{Row, Text, first_of}
+use Rattle.contest_cli_words.specs.Arguments.{word}
+use Rattle.contest_cli_words.specs.CommandTable.{command_with}
+use Rattle.contest_cli_words.specs.declared.init_words.InitWords.{InitWords}
 
 -- the command
 unfoldable pub init_app : App
-init_app = with_rule (with_rule (new_app (codes "init")) (word (codes "FILE"))) (word (codes "CONTEST"))
+init_app = command_with (codes "init") (word (codes "FILE") ∷ word (codes "CONTEST") ∷ [])
 
--- the words have no fault, and name the file that keeps a contest and the contest's
-pub record NamesInit (words : List Text) (file contest : Text) : Type 0 where
-  pub faultless : faults_in init_app words ≡ []
-  pub file_is : value_of init_app (codes "FILE") words ≡ Some file
-  pub contest_is : value_of init_app (codes "CONTEST") words ≡ Some contest
+-- the words that have to be there
+abbrev pub init_wanted : List Text
+init_wanted = codes "FILE" ∷ codes "CONTEST" ∷ []
 
--- the words name nothing for `init`
-abbrev pub HasInitFault : List Text → Type 0
-HasInitFault words = (file contest : Text) → NamesInit words file contest → ⊥
+-- the file that keeps the contest, and the contest's
+pub record NamesInit (values : List Row) (named : InitWords) : Type 0 where
+  pub file_is : first_of (codes "FILE") values ≡ Some named.file.now
+  pub contest_is : first_of (codes "CONTEST") values ≡ Some named.contest.now

@@ -3,6 +3,7 @@ pub mod ImportWords
 pub mod ServeWords
 pub mod BoardWords
 pub mod Arguments
+pub mod CommandTable
 pub mod Help
 pub mod RefusalLine
 pub mod CommandErrors

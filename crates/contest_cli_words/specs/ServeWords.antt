@@ -1,17 +1,17 @@
--- What the words of `serve` name, and when they have a fault.
-use Rattle.std.specs.Prelude.{◌≡◌, ◌&&◌, ℕ, List, [], Option, Some, None, codes, nat_le, if◌then◌else◌}
+-- What the words of `serve` name.
+use Rattle.std.specs.Prelude.{◌≡◌, ◌&&◌, ◌∷◌, ℕ, List, [], Option, Some, None, codes, nat_le, if◌then◌else◌}
 use Rattle.std.specs.Option.{option_and_then}
 use Rattle.std.specs.Str.Parse.{digits_value}
-use Rattle.clap.specs.Simple.{App, new_app, with_rule}
-use Rattle.clap.specs.Walk.{Text}
+use Rattle.clap.specs.Simple.{App}
+use Rattle.clap.specs.Walk.{Row, Text, first_of}
 use Rattle.contest_types.specs.RelTimeRead.{are_digits}
-use Rattle.contest_cli_words.specs.Arguments.{word, option, faults_in, value_of}
+use Rattle.contest_cli_words.specs.Arguments.{word, option}
+use Rattle.contest_cli_words.specs.CommandTable.{command_with}
+use Rattle.contest_cli_words.specs.declared.serve_words.ServeWords.{ServeWords}
 
 -- the command
 unfoldable pub serve_app : App
-serve_app =
-    with_rule (with_rule (with_rule (new_app (codes "serve")) (word (codes "FILE")))
-    (option (codes "requests"))) (option (codes "port"))
+serve_app = command_with (codes "serve") (word (codes "FILE") ∷ option (codes "requests") ∷ option (codes "port") ∷ [])
 
 -- one or more digits that write a number up to `most`
 abbrev pub number_to : (most : ℕ) → Text → Option ℕ
@@ -26,13 +26,8 @@ abbrev pub port_of : Option Text → Option ℕ
 port_of None = Some 0
 port_of (Some text) = number_to 65_535 text
 
--- the words have no fault, and name the file that keeps a contest, how many requests are served, and a port
-pub record NamesServe (words : List Text) (file : Text) (requests port : ℕ) : Type 0 where
-  pub faultless : faults_in serve_app words ≡ []
-  pub file_is : value_of serve_app (codes "FILE") words ≡ Some file
-  pub requests_is : requests_of (value_of serve_app (codes "requests") words) ≡ Some requests
-  pub port_is : port_of (value_of serve_app (codes "port") words) ≡ Some port
-
--- the words name nothing for `serve`
-abbrev pub HasServeFault : List Text → Type 0
-HasServeFault words = (file : Text) (requests port : ℕ) → NamesServe words file requests port → ⊥
+-- the file that keeps the contest, how many requests are served, and a port
+pub record NamesServe (values : List Row) (named : ServeWords) : Type 0 where
+  pub file_is : first_of (codes "FILE") values ≡ Some named.file.now
+  pub requests_is : requests_of (first_of (codes "requests") values) ≡ Some named.requests
+  pub port_is : port_of (first_of (codes "port") values) ≡ Some named.port

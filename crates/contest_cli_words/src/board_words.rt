@@ -1,14 +1,15 @@
 //! The words of `board`.
-ghost use Rattle.std.specs.Prelude.{◌≡◌, ◌⊎◌, IfErr, IfNone, IfOk, IfSome, map};
+ghost use Rattle.std.specs.Prelude.{◌≡◌, ◌⊎◌, IfErr, IfNone, IfOk, IfSome, true};
 ghost use Rattle.std.specs.Option.{option_map};
-ghost use Rattle.clap.specs.Simple.{app_of};
-ghost use Rattle.contest_cli_words.specs.BoardWords.{HasBoardFault, NamesBoard, NamesFormat, NamesMoment, NamesNoMoment, NamesWho, board_app};
-ghost use Rattle.contest_cli_words.specs.declared.asked_board.BoardFormat.{BoardFormat as TheFormat};
+ghost use Rattle.contest_cli_words.specs.BoardWords.{NamesFormat, NamesMoment, NamesNoMoment, NamesWho, board_app};
 ghost use Rattle.contest_cli_words.specs.CommandErrors.{IsMemory, IsWords, IsWordsOrMemory};
+ghost use Rattle.contest_cli_words.specs.CommandTable.{app_in, only_file, wants_words};
+ghost use Rattle.contest_cli_words.specs.declared.asked_board.BoardFormat.{BoardFormat as TheFormat};
 
 use crate::asked_board::{AskedBoard, BoardFormat, Who};
-use crate::{CommandError, headed, matches_in, option, value_in, with_arg, word, word_in};
-use clap::Command;
+use crate::command_table::{CommandTable, WordKind, WordRow};
+use crate::{CommandError, CommandWords, value_in, word_in};
+use clap::ArgMatches;
 use contest_types::Moment;
 use std::alloc::{AllocError, Global};
 
@@ -23,66 +24,65 @@ pub struct BoardWords<'a> {
     pub at: Option<Moment>,
 }
 
-/// The command `board`, as clap knows it. The error is want of memory.
-pub fn board_app<'a>(alloc: Global) -> Result<Command<'a>, AllocError>
-    ensures { IfOk result (λ c. app_of c ≡ board_app) }
-{
-    let board = headed(
-        alloc,
-        "board",
-        "desk board",
-        "Prints the board of a contest as somebody sees it",
-    );
-    let file = word(alloc, "FILE", "Keeps the contest, as 'desk init' made it");
-    let board = with_arg(board, file);
-    let audience = option(
-        alloc,
-        "audience",
-        "WHO",
-        "Shows what they see: public, jury or a team's id [default: public]",
-    );
-    let board = with_arg(board, audience);
-    let at = option(
-        alloc,
-        "at",
-        "TIME",
-        "Shows it at this moment, as 2024-03-02T10:30:00Z [default: now]",
-    );
-    let board = with_arg(board, at);
-    let format = option(
-        alloc,
-        "format",
-        "FORMAT",
-        "Writes it as text or as csv [default: text]",
-    );
-    with_arg(board, format)
-}
+static ROWS: [WordRow; 4] = [
+    WordRow {
+        name: "FILE",
+        kind: WordKind::Word,
+        help: "Keeps the contest, as 'desk init' made it",
+    },
+    WordRow {
+        name: "audience",
+        kind: WordKind::Option("WHO"),
+        help: "Shows what they see: public, jury or a team's id [default: public]",
+    },
+    WordRow {
+        name: "at",
+        kind: WordKind::Option("TIME"),
+        help: "Shows it at this moment, as 2024-03-02T10:30:00Z [default: now]",
+    },
+    WordRow {
+        name: "format",
+        kind: WordKind::Option("FORMAT"),
+        help: "Writes it as text or as csv [default: text]",
+    },
+];
 
-/// What the words of `board` name; the first word is the command's own. The error is what is said of words
-/// that have a fault, or want of memory. A call for help counts as a fault.
-pub fn read_board_words<'a>(
-    alloc: Global,
-    words: &'a [&'a str],
-) -> Result<BoardWords<'a>, CommandError>
-    ensures ok { IfOk result (λ w. NamesBoard (map (λ s. s.now) words.entry.now) w.file.now w.asked w.at) }
-    ensures refused { IfErr result (λ stop. IsMemory stop ⊎ (IsWords stop × HasBoardFault (map (λ s. s.now) words.entry.now))) }
-{
-    let command = board_app(alloc)?;
-    let matches = matches_in(alloc, command, words)?;
-    let file = word_in(&matches, "FILE");
-    let who = who_in(value_in(&matches, "audience"));
-    let at = value_in(&matches, "at");
-    let format = format_in(value_in(&matches, "format"));
-    drop(matches);
-    let at = moment_in(alloc, at)?;
-    let Some(format) = format else {
-        return Err(no_format(alloc));
-    };
-    Ok(BoardWords {
-        file,
-        asked: AskedBoard { who, format },
-        at,
-    })
+impl<'a> CommandWords<'a> for BoardWords<'a> {
+    ghost use Rattle.contest_cli_words.specs.BoardWords.{NamesBoard, board_app};
+    ghost use Rattle.contest_cli_words.specs.CommandTable.{only_file};
+
+    ghost app = { board_app };
+
+    ghost wanted = { only_file };
+
+    ghost names = { NamesBoard };
+
+    #[tactic(auto, using(crate::proofs::CommandLemmas::board_wants), unfolding(crate::specs::BoardWords::board_app))]
+    fn command() -> CommandTable<'a>
+        ensures table { app_in result ≡ board_app }
+        ensures wants { wants_words only_file board_app ≡ true }
+    {
+        CommandTable {
+            name: "board",
+            called: "desk board",
+            about: "Prints the board of a contest as somebody sees it",
+            rows: &ROWS,
+        }
+    }
+
+    fn named(alloc: Global, values: &ArgMatches<'a>) -> Result<BoardWords<'a>, CommandError> {
+        let file = word_in(values, "FILE");
+        let who = who_in(value_in(values, "audience"));
+        let at = moment_in(alloc, value_in(values, "at"))?;
+        let Some(format) = format_in(value_in(values, "format")) else {
+            return Err(no_format(alloc));
+        };
+        Ok(BoardWords {
+            file,
+            asked: AskedBoard { who, format },
+            at,
+        })
+    }
 }
 
 // Who is named; anyone where nobody is. The words win over a team's id.

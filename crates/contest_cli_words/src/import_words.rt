@@ -1,13 +1,14 @@
 //! The words of `import`.
-ghost use Rattle.std.specs.Prelude.{◌≡◌, ◌⊎◌, IfOk, IfErr, map};
-ghost use Rattle.clap.specs.Simple.{app_of};
-ghost use Rattle.contest_types.specs.declared.import_kind.ImportKind.TheVariants.{Fixed};
+ghost use Rattle.std.specs.Prelude.{◌≡◌, true};
 ghost use Rattle.contest_types.specs.declared.import_kind.FixedKind.TheVariants.{Settings};
-ghost use Rattle.contest_cli_words.specs.ImportWords.{HasImportFault, NamesImport, import_app, kind_named};
-ghost use Rattle.contest_cli_words.specs.CommandErrors.{IsMemory, IsWords, IsWordsOrMemory};
+ghost use Rattle.contest_types.specs.declared.import_kind.ImportKind.TheVariants.{Fixed};
+ghost use Rattle.contest_cli_words.specs.CommandErrors.{IsWordsOrMemory};
+ghost use Rattle.contest_cli_words.specs.CommandTable.{app_in, wants_words};
+ghost use Rattle.contest_cli_words.specs.ImportWords.{import_app, import_wanted, kind_named};
 
-use crate::{CommandError, headed, matches_in, with_arg, word, word_in};
-use clap::Command;
+use crate::command_table::{CommandTable, WordKind, WordRow};
+use crate::{CommandError, CommandWords, word_in};
+use clap::ArgMatches;
 use contest_types::{FixedKind, ImportKind, SettingsKind};
 use std::alloc::{AllocError, Global};
 
@@ -22,47 +23,57 @@ pub struct ImportWords<'a> {
     pub path: &'a str,
 }
 
-/// The command `import`, as clap knows it. The error is want of memory.
-pub fn import_app<'a>(alloc: Global) -> Result<Command<'a>, AllocError>
-    ensures { IfOk result (λ c. app_of c ≡ import_app) }
-{
-    let import = headed(
-        alloc,
-        "import",
-        "desk import",
-        "Adds all rows of a file to a contest, or none, and prints how many they are",
-    );
-    let file = word(alloc, "FILE", "Keeps the contest, as 'desk init' made it");
-    let import = with_arg(import, file);
-    let kind = word(
-        alloc,
-        "KIND",
-        "Says what PATH holds: judgement-types, languages, problems, groups or teams as JSON, \
+static ROWS: [WordRow; 3] = [
+    WordRow {
+        name: "FILE",
+        kind: WordKind::Word,
+        help: "Keeps the contest, as 'desk init' made it",
+    },
+    WordRow {
+        name: "KIND",
+        kind: WordKind::Word,
+        help: "Says what PATH holds: judgement-types, languages, problems, groups or teams as JSON, \
          teams-csv, accounts-csv or verdicts-csv",
-    );
-    let import = with_arg(import, kind);
-    let path = word(alloc, "PATH", "Holds the rows to add");
-    with_arg(import, path)
-}
+    },
+    WordRow {
+        name: "PATH",
+        kind: WordKind::Word,
+        help: "Holds the rows to add",
+    },
+];
 
-/// What the words of `import` name; the first word is the command's own. The error is what is said of
-/// words that have a fault, or want of memory. A call for help counts as a fault.
-pub fn read_import_words<'a>(
-    alloc: Global,
-    words: &'a [&'a str],
-) -> Result<ImportWords<'a>, CommandError>
-    ensures ok { IfOk result (λ w. NamesImport (map (λ s. s.now) words.entry.now) w.file.now w.kind w.path.now) }
-    ensures refused { IfErr result (λ stop. IsMemory stop ⊎ (IsWords stop × HasImportFault (map (λ s. s.now) words.entry.now))) }
-{
-    let command = import_app(alloc)?;
-    let matches = matches_in(alloc, command, words)?;
-    let file = word_in(&matches, "FILE");
-    let name = word_in(&matches, "KIND");
-    let path = word_in(&matches, "PATH");
-    drop(matches);
-    match kind_named(name) {
-        Some(kind) => Ok(ImportWords { file, kind, path }),
-        None => Err(no_kind(alloc, name)),
+impl<'a> CommandWords<'a> for ImportWords<'a> {
+    ghost use Rattle.contest_cli_words.specs.ImportWords.{NamesImport, import_app, import_wanted};
+
+    ghost app = { import_app };
+
+    ghost wanted = { import_wanted };
+
+    ghost names = { NamesImport };
+
+    #[tactic(auto, using(crate::proofs::CommandLemmas::import_wants), unfolding(crate::specs::ImportWords::import_app))]
+    fn command() -> CommandTable<'a>
+        ensures table { app_in result ≡ import_app }
+        ensures wants { wants_words import_wanted import_app ≡ true }
+    {
+        CommandTable {
+            name: "import",
+            called: "desk import",
+            about: "Adds all rows of a file to a contest, or none, and prints how many they are",
+            rows: &ROWS,
+        }
+    }
+
+    fn named(alloc: Global, values: &ArgMatches<'a>) -> Result<ImportWords<'a>, CommandError> {
+        let name = word_in(values, "KIND");
+        match kind_named(name) {
+            Some(kind) => Ok(ImportWords {
+                file: word_in(values, "FILE"),
+                kind,
+                path: word_in(values, "PATH"),
+            }),
+            None => Err(no_kind(alloc, name)),
+        }
     }
 }
 

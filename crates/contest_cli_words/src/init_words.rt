@@ -1,13 +1,12 @@
 //! The words of `init`.
-ghost use Rattle.std.specs.Prelude.{◌≡◌, IfOk, IfErr, map};
-ghost use Rattle.clap.specs.Simple.{app_of};
-ghost use Rattle.contest_cli_words.specs.Arguments.{faults_in};
-ghost use Rattle.contest_cli_words.specs.InitWords.{NamesInit, init_app};
-ghost use Rattle.contest_cli_words.specs.CommandErrors.{RefusesWords};
+ghost use Rattle.std.specs.Prelude.{◌≡◌, true};
+ghost use Rattle.contest_cli_words.specs.CommandTable.{app_in, wants_words};
+ghost use Rattle.contest_cli_words.specs.InitWords.{init_app, init_wanted};
 
-use crate::{CommandError, headed, matches_in, with_arg, word, word_in};
-use clap::Command;
-use std::alloc::{AllocError, Global};
+use crate::command_table::{CommandTable, WordKind, WordRow};
+use crate::{CommandError, CommandWords, word_in};
+use clap::ArgMatches;
+use std::alloc::Global;
 
 /// What the words of `init` name.
 #[derive(Clone, Copy)]
@@ -18,39 +17,45 @@ pub struct InitWords<'a> {
     pub contest: &'a str,
 }
 
-/// The command `init`, as clap knows it. The error is want of memory.
-pub fn init_app<'a>(alloc: Global) -> Result<Command<'a>, AllocError>
-    ensures { IfOk result (λ c. app_of c ≡ init_app) }
-{
-    let init = headed(
-        alloc,
-        "init",
-        "desk init",
-        "Sets up a contest in a file, from its contest object as JSON",
-    );
-    let file = word(
-        alloc,
-        "FILE",
-        "Keeps the contest, as an SQLite file; it is made where there is none",
-    );
-    let init = with_arg(init, file);
-    let contest = word(alloc, "CONTEST", "Holds the contest object, as JSON");
-    with_arg(init, contest)
-}
+static ROWS: [WordRow; 2] = [
+    WordRow {
+        name: "FILE",
+        kind: WordKind::Word,
+        help: "Keeps the contest, as an SQLite file; it is made where there is none",
+    },
+    WordRow {
+        name: "CONTEST",
+        kind: WordKind::Word,
+        help: "Holds the contest object, as JSON",
+    },
+];
 
-/// What the words of `init` name; the first word is the command's own. The error is what clap says of
-/// words that have a fault, or want of memory. A call for help counts as a fault.
-pub fn read_init_words<'a>(
-    alloc: Global,
-    words: &'a [&'a str],
-) -> Result<InitWords<'a>, CommandError>
-    ensures ok { IfOk result (λ w. NamesInit (map (λ s. s.now) words.entry.now) w.file.now w.contest.now) }
-    ensures refused { IfErr result (RefusesWords (faults_in init_app (map (λ s. s.now) words.entry.now))) }
-{
-    let command = init_app(alloc)?;
-    let matches = matches_in(alloc, command, words)?;
-    Ok(InitWords {
-        file: word_in(&matches, "FILE"),
-        contest: word_in(&matches, "CONTEST"),
-    })
+impl<'a> CommandWords<'a> for InitWords<'a> {
+    ghost use Rattle.contest_cli_words.specs.InitWords.{NamesInit, init_app, init_wanted};
+
+    ghost app = { init_app };
+
+    ghost wanted = { init_wanted };
+
+    ghost names = { NamesInit };
+
+    #[tactic(auto, using(crate::proofs::CommandLemmas::init_wants), unfolding(crate::specs::InitWords::init_app))]
+    fn command() -> CommandTable<'a>
+        ensures table { app_in result ≡ init_app }
+        ensures wants { wants_words init_wanted init_app ≡ true }
+    {
+        CommandTable {
+            name: "init",
+            called: "desk init",
+            about: "Sets up a contest in a file, from its contest object as JSON",
+            rows: &ROWS,
+        }
+    }
+
+    fn named(_: Global, values: &ArgMatches<'a>) -> Result<InitWords<'a>, CommandError> {
+        Ok(InitWords {
+            file: word_in(values, "FILE"),
+            contest: word_in(values, "CONTEST"),
+        })
+    }
 }

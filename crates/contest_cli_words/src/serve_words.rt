@@ -1,12 +1,13 @@
 //! The words of `serve`.
-ghost use Rattle.std.specs.Prelude.{◌≡◌, ◌⊎◌, ◌<◌, ◌≤◌, IfErr, IfOk, IfSome, map};
+ghost use Rattle.std.specs.Prelude.{◌≡◌, ◌<◌, ◌≤◌, IfSome, true};
 ghost use Rattle.std.specs.Option.{option_map};
-ghost use Rattle.clap.specs.Simple.{app_of};
-ghost use Rattle.contest_cli_words.specs.ServeWords.{HasServeFault, NamesServe, number_to, port_of, requests_of, serve_app};
-ghost use Rattle.contest_cli_words.specs.CommandErrors.{IsMemory, IsWords, IsWordsOrMemory};
+ghost use Rattle.contest_cli_words.specs.CommandErrors.{IsWordsOrMemory};
+ghost use Rattle.contest_cli_words.specs.CommandTable.{app_in, only_file, wants_words};
+ghost use Rattle.contest_cli_words.specs.ServeWords.{number_to, port_of, requests_of, serve_app};
 
-use crate::{CommandError, headed, matches_in, option, value_in, with_arg, word, word_in};
-use clap::Command;
+use crate::command_table::{CommandTable, WordKind, WordRow};
+use crate::{CommandError, CommandWords, value_in, word_in};
+use clap::ArgMatches;
 use contest_types::decimal_number;
 use std::alloc::{AllocError, Global};
 
@@ -21,60 +22,61 @@ pub struct ServeWords<'a> {
     pub port: u16,
 }
 
-/// The command `serve`, as clap knows it. The error is want of memory.
-pub fn serve_app<'a>(alloc: Global) -> Result<Command<'a>, AllocError>
-    ensures { IfOk result (λ c. app_of c ≡ serve_app) }
-{
-    let serve = headed(
-        alloc,
-        "serve",
-        "desk serve",
-        "Serves a contest over HTTP on 127.0.0.1, one connection after the other",
-    );
-    let file = word(alloc, "FILE", "Keeps the contest, as 'desk init' made it");
-    let serve = with_arg(serve, file);
-    let requests = option(
-        alloc,
-        "requests",
-        "N",
-        "Ends once so many connections were served; there is no usual number",
-    );
-    let serve = with_arg(serve, requests);
-    let port = option(
-        alloc,
-        "port",
-        "P",
-        "Listens on this port [default: one that the system chooses]",
-    );
-    with_arg(serve, port)
-}
+static ROWS: [WordRow; 3] = [
+    WordRow {
+        name: "FILE",
+        kind: WordKind::Word,
+        help: "Keeps the contest, as 'desk init' made it",
+    },
+    WordRow {
+        name: "requests",
+        kind: WordKind::Option("N"),
+        help: "Ends once so many connections were served; there is no usual number",
+    },
+    WordRow {
+        name: "port",
+        kind: WordKind::Option("P"),
+        help: "Listens on this port [default: one that the system chooses]",
+    },
+];
 
-/// What the words of `serve` name; the first word is the command's own. The error is what is said of
-/// words that have a fault, or want of memory. A call for help counts as a fault.
-pub fn read_serve_words<'a>(
-    alloc: Global,
-    words: &'a [&'a str],
-) -> Result<ServeWords<'a>, CommandError>
-    ensures ok { IfOk result (λ w. NamesServe (map (λ s. s.now) words.entry.now) w.file.now w.requests w.port) }
-    ensures refused { IfErr result (λ stop. IsMemory stop ⊎ (IsWords stop × HasServeFault (map (λ s. s.now) words.entry.now))) }
-{
-    let command = serve_app(alloc)?;
-    let matches = matches_in(alloc, command, words)?;
-    let file = word_in(&matches, "FILE");
-    let requests = requests_in(value_in(&matches, "requests"));
-    let port = port_in(value_in(&matches, "port"));
-    drop(matches);
-    let Some(requests) = requests else {
-        return Err(no_number(alloc, "--requests <N>", "4294967295"));
-    };
-    let Some(port) = port else {
-        return Err(no_number(alloc, "--port <P>", "65535"));
-    };
-    Ok(ServeWords {
-        file,
-        requests,
-        port,
-    })
+impl<'a> CommandWords<'a> for ServeWords<'a> {
+    ghost use Rattle.contest_cli_words.specs.CommandTable.{only_file};
+    ghost use Rattle.contest_cli_words.specs.ServeWords.{NamesServe, serve_app};
+
+    ghost app = { serve_app };
+
+    ghost wanted = { only_file };
+
+    ghost names = { NamesServe };
+
+    #[tactic(auto, using(crate::proofs::CommandLemmas::serve_wants), unfolding(crate::specs::ServeWords::serve_app))]
+    fn command() -> CommandTable<'a>
+        ensures table { app_in result ≡ serve_app }
+        ensures wants { wants_words only_file serve_app ≡ true }
+    {
+        CommandTable {
+            name: "serve",
+            called: "desk serve",
+            about: "Serves a contest over HTTP on 127.0.0.1, one connection after the other",
+            rows: &ROWS,
+        }
+    }
+
+    fn named(alloc: Global, values: &ArgMatches<'a>) -> Result<ServeWords<'a>, CommandError> {
+        let file = word_in(values, "FILE");
+        let Some(requests) = requests_in(value_in(values, "requests")) else {
+            return Err(no_number(alloc, "--requests <N>", "4294967295"));
+        };
+        let Some(port) = port_in(value_in(values, "port")) else {
+            return Err(no_number(alloc, "--port <P>", "65535"));
+        };
+        Ok(ServeWords {
+            file,
+            requests,
+            port,
+        })
+    }
 }
 
 // How many requests a text asks for.

@@ -65,8 +65,8 @@ fn open_file<M: Machine>(machine: M, path: &str) -> Result<Connection<M::Disk>, 
     ensures found { IfOk result M.found }
     ensures numbered { IfOk result (λ conn. IsNumbered (state M.Disk.Store conn)) }
 {
-    match machine.open_store(path) {
-        Ok(conn) => Ok(conn),
+    match machine.open(path) {
+        Ok(opened) => Ok(opened.conn),
         Err(stop) => Err(refusal_of(&stop)),
     }
 }
