@@ -4,7 +4,7 @@ ghost use Rattle.contest_cli_words.specs.Endings.{ShowsSome};
 
 use crate::invocation::CommandName;
 use clap::Command;
-use contest_cli_replay::replay_app;
+use contest_cli_replay::ReplayWords;
 use contest_cli_words::{
     BoardWords, CommandError, CommandWords, ImportWords, InitWords, ServeWords, command_of,
     show_help,
@@ -60,7 +60,7 @@ pub(crate) fn show_help_of<O: Write, E: Write>(
 // A command, as clap knows it. The error is want of memory.
 fn app_of<'a>(alloc: Global, command: CommandName) -> Result<Command<'a>, AllocError> {
     match command {
-        CommandName::Replay => replay_app(alloc),
+        CommandName::Replay => command_of(alloc, &ReplayWords::command()),
         CommandName::Init => command_of(alloc, &InitWords::command()),
         CommandName::Import => command_of(alloc, &ImportWords::command()),
         CommandName::Board => command_of(alloc, &BoardWords::command()),

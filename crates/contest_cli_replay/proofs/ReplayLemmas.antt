@@ -1,5 +1,5 @@
 -- What an input that is read to its end, or not, says of the text.
-use Rattle.std.proofs.Common.{◌≡◌, ◌≤◌, ◌<◌, ◌+◌, ◌⊎◌, inl, inr, refl, subst, ℕ, ℤ, List, Bool, true, false, Option, Some, None, IfSome, Result, Ok, Err, length, arith, nat_lt, string_bytes}
+use Rattle.std.proofs.Common.{◌≡◌, ◌≤◌, ◌<◌, ◌+◌, ◌⊎◌, inl, inr, refl, subst, ℕ, List, true, false, Option, Some, None, IfSome, Result, Ok, Err, length, arith, nat_lt, string_bytes}
 use Rattle.std.proofs.lemmas.Bool.Decides.{nat_tests}
 use Rattle.clap.specs.Walk.{Text}
 use Rattle.contest_types.specs.declared.refusal.Refusal.{Refusal}
@@ -16,6 +16,7 @@ use Rattle.contest_cli_words.proofs.StreamLemmas.{is_longer, keeps_same}
 use Rattle.contest_cli_replay.specs.Asked.{Asks}
 use Rattle.contest_cli_replay.specs.Replay.{replay_of, Gives, StopsBy, Replays}
 use Rattle.contest_cli_replay.specs.ReplayText.{board_of}
+use Rattle.contest_cli_replay.specs.declared.replay_words.ReplayWords.{ReplayWords}
 
 not_over : (m n : ℕ) → n ≤ m → nat_lt m n ≡ false
 not_over m n h = grind (arith, nat_tests)
@@ -24,47 +25,47 @@ over : (m n : ℕ) → m < n → nat_lt m n ≡ true
 over m n h = grind (arith, nat_tests)
 
 -- the whole input is a file within the limit
-whole_file : (jury thawed : Bool) (at : Option ℤ) (a b : Option (List ℕ)) (bytes : List ℕ) (given : Result (List ℕ) Refusal)
-    → ReadsAll a b IMPORTED_FILE bytes → board_of jury thawed at bytes ≡ given
-    → IfSome a (λ left. replay_of jury thawed at left ≡ given)
-whole_file jury thawed at None b bytes given r e = tt
-whole_file jury thawed at (Some left) b bytes given r e =
-    let P : List ℕ → Type 0 = λ xs. replay_of jury thawed at xs ≡ given in
+whole_file : (asked : ReplayWords) (a b : Option (List ℕ)) (bytes : List ℕ) (given : Result (List ℕ) Refusal)
+    → ReadsAll a b IMPORTED_FILE bytes → board_of asked.jury asked.thawed asked.at bytes ≡ given
+    → IfSome a (λ left. replay_of asked left ≡ given)
+whole_file asked None b bytes given r e = tt
+whole_file asked (Some left) b bytes given r e =
+    let P : List ℕ → Type 0 = λ xs. replay_of asked xs ≡ given in
     let here : P bytes = rw (not_over IMPORTED_FILE (length bytes) r.within) e in
     subst P r.whole here
 
 -- what the whole input gives
-pub whole_gives : (words : List Text) (jury thawed : Bool) (at : Option ℤ) (a b : Option (List ℕ)) (bytes file : List ℕ) (given : Result (List ℕ) Refusal)
-    → Asks words jury thawed at → ReadsAll a b IMPORTED_FILE bytes → file ≡ bytes
-    → board_of jury thawed at file ≡ given → Gives words a given
-whole_gives words jury thawed at a b bytes file given asks all same e =
-    let P : List ℕ → Type 0 = λ xs. board_of jury thawed at xs ≡ given in
-    (jury, thawed, at, asks, whole_file jury thawed at a b bytes given all (subst P same e))
+pub whole_gives : (words : List Text) (asked : ReplayWords) (a b : Option (List ℕ)) (bytes file : List ℕ) (given : Result (List ℕ) Refusal)
+    → Asks words asked → ReadsAll a b IMPORTED_FILE bytes → file ≡ bytes
+    → board_of asked.jury asked.thawed asked.at file ≡ given → Gives words a given
+whole_gives words asked a b bytes file given asks all same e =
+    let P : List ℕ → Type 0 = λ xs. board_of asked.jury asked.thawed asked.at xs ≡ given in
+    (asked, asks, whole_file asked a b bytes given all (subst P same e))
 
 -- what a refusal of the whole input stops by
-pub refusal_stops : (words : List Text) (jury thawed : Bool) (at : Option ℤ) (a b : Option (List ℕ)) (bytes file : List ℕ) (r : Refusal)
-    → Asks words jury thawed at → ReadsAll a b IMPORTED_FILE bytes → file ≡ bytes
-    → (r ≡ Memory) ⊎ (board_of jury thawed at file ≡ Err r) → (r ≡ Memory) ⊎ Gives words a (Err r)
-refusal_stops words jury thawed at a b bytes file r asks all same (inl e) = inl e
-refusal_stops words jury thawed at a b bytes file r asks all same (inr e) =
-    inr (whole_gives words jury thawed at a b bytes file (Err r) asks all same e)
+pub refusal_stops : (words : List Text) (asked : ReplayWords) (a b : Option (List ℕ)) (bytes file : List ℕ) (r : Refusal)
+    → Asks words asked → ReadsAll a b IMPORTED_FILE bytes → file ≡ bytes
+    → (r ≡ Memory) ⊎ (board_of asked.jury asked.thawed asked.at file ≡ Err r) → (r ≡ Memory) ⊎ Gives words a (Err r)
+refusal_stops words asked a b bytes file r asks all same (inl e) = inl e
+refusal_stops words asked a b bytes file r asks all same (inr e) =
+    inr (whole_gives words asked a b bytes file (Err r) asks all same e)
 
 -- the input is longer than a file may be
-large_file : (jury thawed : Bool) (at : Option ℤ) (a b : Option (List ℕ))
-    → TakesFront a b (IMPORTED_FILE + 1) → IfSome a (λ left. replay_of jury thawed at left ≡ Err BodyTooLarge)
-large_file jury thawed at None b t = tt
-large_file jury thawed at (Some left) None t = absurd t.2
-large_file jury thawed at (Some left) (Some rest) t =
+large_file : (asked : ReplayWords) (a b : Option (List ℕ))
+    → TakesFront a b (IMPORTED_FILE + 1) → IfSome a (λ left. replay_of asked left ≡ Err BodyTooLarge)
+large_file asked None b t = tt
+large_file asked (Some left) None t = absurd t.2
+large_file asked (Some left) (Some rest) t =
     rw (over IMPORTED_FILE (length left) (is_longer left t.0 rest IMPORTED_FILE t.2 t.1)) refl
 
 -- what a fault of the input stops by
-pub fault_stops : (words : List Text) (jury thawed : Bool) (at : Option ℤ) (old new : Stream) (f : InputFault)
-    → Asks words jury thawed at → (f ≡ fault.TooLarge → TakesFront old.bytes new.bytes (IMPORTED_FILE + 1))
+pub fault_stops : (words : List Text) (asked : ReplayWords) (old new : Stream) (f : InputFault)
+    → Asks words asked → (f ≡ fault.TooLarge → TakesFront old.bytes new.bytes (IMPORTED_FILE + 1))
     → (f ≡ fault.File → Fails old new) → StopsBy words old new (stop_of f)
-fault_stops words jury thawed at old new fault.File asks large failed = ((jury, thawed, at, asks), failed refl)
-fault_stops words jury thawed at old new fault.TooLarge asks large failed =
-    inr (jury, thawed, at, asks, large_file jury thawed at old.bytes new.bytes (large refl))
-fault_stops words jury thawed at old new fault.Memory asks large failed = inl refl
+fault_stops words asked old new fault.File asks large failed = ((asked, asks), failed refl)
+fault_stops words asked old new fault.TooLarge asks large failed =
+    inr (asked, asks, large_file asked old.bytes new.bytes (large refl))
+fault_stops words asked old new fault.Memory asks large failed = inl refl
 
 -- where there is no text
 pub stopped : (words : List Text) (in_old in_new out err_old err_new : Stream) (stop : CommandError) (status : ℕ)

@@ -1,5 +1,5 @@
 -- What `replay` answers.
-use Rattle.std.specs.Prelude.{◌≡◌, ◌≤◌, ◌⊎◌, ℕ, ℤ, List, Bool, Option, IfSome, Result, Ok, Err, length, nat_lt, if◌then◌else◌}
+use Rattle.std.specs.Prelude.{◌≡◌, ◌≤◌, ◌⊎◌, ℕ, List, Option, IfSome, Result, Ok, Err, length, nat_lt, if◌then◌else◌}
 use Rattle.std.specs.Io.KnownBytes.{Appends, Keeps}
 use Rattle.clap.specs.Walk.{Text}
 use Rattle.contest_types.specs.declared.refusal.Refusal.{Refusal}
@@ -9,27 +9,27 @@ use Rattle.contest_streams.specs.Streams.{Stream, Fails, Tells, AppendsFront}
 use Rattle.contest_cli_words.specs.CommandErrors.{exit_status_of, line_of}
 use Rattle.contest_cli_words.specs.declared.command_error.CommandError.{CommandError}
 use Rattle.contest_cli_words.specs.declared.command_error.CommandError.TheVariants.{Usage, Refused, File, Clock, Net}
-use Rattle.contest_cli_replay.specs.Asked.{Asks, HasFault}
+use Rattle.contest_cli_replay.specs.Asked.{Asks, AsksNothing}
 use Rattle.contest_cli_replay.specs.ReplayText.{board_of}
+use Rattle.contest_cli_replay.specs.declared.replay_words.ReplayWords.{ReplayWords}
 
 -- the board's text of a whole input, or the first fault
-abbrev pub replay_of : Bool → Bool → Option ℤ → List ℕ → Result (List ℕ) Refusal
-replay_of jury thawed at input =
-    if nat_lt IMPORTED_FILE (length input) then Err BodyTooLarge else board_of jury thawed at input
+abbrev pub replay_of : ReplayWords → List ℕ → Result (List ℕ) Refusal
+replay_of asked input =
+    if nat_lt IMPORTED_FILE (length input) then Err BodyTooLarge else board_of asked.jury asked.thawed asked.at input
 
 -- the words ask for something of which the input, where it is known, gives this
 abbrev pub Gives : List Text → Option (List ℕ) → Result (List ℕ) Refusal → Type 0
 Gives words input given =
-    (jury : Bool) × (thawed : Bool) × (at : Option ℤ)
-    × Asks words jury thawed at × IfSome input (λ bytes. replay_of jury thawed at bytes ≡ given)
+    (asked : ReplayWords) × Asks words asked × IfSome input (λ bytes. replay_of asked bytes ≡ given)
 
 -- the words ask for something
 abbrev pub Faultless : List Text → Type 0
-Faultless words = (jury : Bool) × (thawed : Bool) × (at : Option ℤ) × Asks words jury thawed at
+Faultless words = (asked : ReplayWords) × Asks words asked
 
 -- why there is no text: the words, memory or what the input holds is refused, or the reader failed
 abbrev pub StopsBy : List Text → Stream → Stream → CommandError → Type 0
-StopsBy words old new (Usage text) = HasFault words
+StopsBy words old new (Usage text) = AsksNothing words
 StopsBy words old new (Refused r) = (r ≡ Memory) ⊎ Gives words old.bytes (Err r)
 StopsBy words old new File = Faultless words × Fails old new
 StopsBy words old new Clock = ⊥
@@ -49,5 +49,5 @@ pub record Replays (words : List Text) (in_old in_new out_old out_new err_old er
   pub refused : status ≡ 1 → (stop : CommandError) × (exit_status_of stop ≡ 1) × Tells err_old err_new (line_of stop)
       × ((StopsBy words in_old in_new stop × Keeps out_old.bytes out_new.bytes)
       ⊎ ((stop ≡ File) × CutsOff words in_old.bytes out_old out_new))
-  pub faulty : status ≡ 2 → HasFault words × Keeps out_old.bytes out_new.bytes
+  pub faulty : status ≡ 2 → AsksNothing words × Keeps out_old.bytes out_new.bytes
       × (text : List ℕ) × Tells err_old err_new text

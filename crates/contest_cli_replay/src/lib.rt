@@ -6,4 +6,4 @@ mod replay_text;
 mod replay_words;
 
 pub use replay_command::replay;
-pub use replay_words::replay_app;
+pub use replay_words::ReplayWords;

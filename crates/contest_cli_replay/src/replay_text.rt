@@ -3,34 +3,33 @@ ghost use Rattle.std.specs.Prelude.{◌≡◌, ◌⊎◌, ◌<◌, ◌^◌, Ok, 
 ghost use Rattle.contest_score.specs.MaskedCells.{IsAdmitted};
 ghost use Rattle.contest_cli_replay.specs.ReplayText.{board_of, audience_for, moment_for, board_text_of};
 
-use crate::replay_words::Options;
+use crate::replay_words::ReplayWords;
 use contest_replay::read_replay_csv;
 use contest_score::{JudgedSubmission, board, plain_cells};
 use contest_text::board_text;
 use contest_types::{Audience, Marks, Moment, Refusal, RelTime, Settings, TimeSpan};
 use std::alloc::Global;
 
-/// The text of the board that the options ask for, at a contest time or at the end, of the contest
-/// that the bytes spell. The error is the bytes' first fault, or want of memory.
+/// The text of the board that the words ask for, at a contest time or at the end, of the contest that
+/// the bytes spell. The error is the bytes' first fault, or want of memory.
 pub(crate) fn replay_text(
     alloc: Global,
-    options: &Options<'_>,
-    at: Option<RelTime>,
+    asked: &ReplayWords,
     bytes: &[u8],
 ) -> Result<String, Refusal>
-    ensures ok { IfOk result (λ text. board_of options.now.jury options.now.thawed at bytes.now ≡ Ok (string_bytes text)) }
-    ensures err { IfErr result (λ r. (r ≡ Refusal.Memory) ⊎ (board_of options.now.jury options.now.thawed at bytes.now ≡ Err r)) }
+    ensures ok { IfOk result (λ text. board_of asked.now.jury asked.now.thawed asked.now.at bytes.now ≡ Ok (string_bytes text)) }
+    ensures err { IfErr result (λ r. (r ≡ Refusal.Memory) ⊎ (board_of asked.now.jury asked.now.thawed asked.now.at bytes.now ≡ Err r)) }
 {
     let mut contest = read_replay_csv(alloc, bytes)?;
-    let marks = contest.marks(options.thawed);
-    let now = moment_for(contest.settings(), at);
+    let marks = contest.marks(asked.thawed);
+    let now = moment_for(contest.settings(), asked.at);
     contest.retain_until(now);
     text_of(
         alloc,
         contest.settings(),
         &marks,
         now,
-        audience_for(options.jury),
+        audience_for(asked.jury),
         contest.submissions(),
     )
 }

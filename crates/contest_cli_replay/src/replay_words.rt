@@ -1,71 +1,116 @@
 //! The words of `replay`.
-ghost use Rattle.std.specs.Prelude.{◌≡◌, ◌↔◌, IsTrue, IfOk, IfErr, codes, map, option_map, []};
-ghost use Rattle.clap.specs.Simple.{app_of};
-ghost use Rattle.contest_cli_words.specs.Arguments.{HasFlag, faults_in, value_of};
-ghost use Rattle.contest_cli_replay.specs.Asked.{replay_app};
-ghost use Rattle.contest_cli_words.specs.CommandErrors.{RefusesWords};
+ghost use Rattle.std.specs.Prelude.{◌≡◌, ◌⊎◌, [], ℤ, IfErr, IfNone, IfOk, IfSome, option_map, true};
+ghost use Rattle.contest_cli_replay.specs.Asked.{IsContestTime, ShowsNone, ShowsTime, replay_app};
+ghost use Rattle.contest_cli_words.specs.CommandErrors.{IsMemory, IsWords};
+ghost use Rattle.contest_cli_words.specs.CommandTable.{app_in, wants_words};
 
-use clap::Command;
+use clap::ArgMatches;
 use contest_cli_words::{
-    CommandError, flag, has_flag, headed, matches_in, option, value_in, with_arg,
+    CommandError, CommandTable, CommandWords, WordKind, WordRow, has_flag, value_in,
 };
+use contest_types::RelTime;
 use std::alloc::{AllocError, Global};
 
 /// What the words of `replay` ask for.
 #[derive(Clone, Copy)]
-pub(crate) struct Options<'a> {
+pub struct ReplayWords {
     /// The jury's board, in place of the public's.
-    pub(crate) jury: bool,
+    pub jury: bool,
     /// The board as it is after the thaw.
-    pub(crate) thawed: bool,
-    /// The contest time of the board, as it was written.
-    pub(crate) at: Option<&'a str>,
+    pub thawed: bool,
+    /// The contest time of the board; none is the end.
+    pub at: Option<RelTime>,
 }
 
-/// The command `replay`, as clap knows it. The error is want of memory.
-pub fn replay_app<'a>(alloc: Global) -> Result<Command<'a>, AllocError>
-    ensures { IfOk result (λ c. app_of c ≡ replay_app) }
-{
-    let replay = headed(
-        alloc,
-        "replay",
-        "desk replay",
-        "Reads a contest as CSV on standard input and prints its board",
-    );
-    let jury = flag(
-        alloc,
-        "jury",
-        "Shows the jury's board in place of the public's",
-    );
-    let replay = with_arg(replay, jury);
-    let thawed = flag(alloc, "thawed", "Shows the board as it is after the thaw");
-    let replay = with_arg(replay, thawed);
-    let at = option(
-        alloc,
-        "at",
-        "RELTIME",
-        "Shows the board at this contest time, h:mm:ss or h:mm:ss.uuu [default: the end]",
-    );
-    with_arg(replay, at)
+static ROWS: [WordRow; 3] = [
+    WordRow {
+        name: "jury",
+        kind: WordKind::Flag,
+        help: "Shows the jury's board in place of the public's",
+    },
+    WordRow {
+        name: "thawed",
+        kind: WordKind::Flag,
+        help: "Shows the board as it is after the thaw",
+    },
+    WordRow {
+        name: "at",
+        kind: WordKind::Option("RELTIME"),
+        help: "Shows the board at this contest time, h:mm:ss or h:mm:ss.uuu [default: the end]",
+    },
+];
+
+impl<'a> CommandWords<'a> for ReplayWords {
+    ghost use Rattle.std.specs.Prelude.{[]};
+    ghost use Rattle.contest_cli_replay.specs.Asked.{NamesReplay, replay_app};
+
+    ghost app = { replay_app };
+
+    ghost wanted = { [] };
+
+    ghost names = { NamesReplay };
+
+    #[tactic(auto, using(crate::proofs::ReplayWordLemmas::replay_wants), unfolding(crate::specs::Asked::replay_app))]
+    fn command() -> CommandTable<'a>
+        ensures table { app_in result ≡ replay_app }
+        ensures wants { wants_words [] replay_app ≡ true }
+    {
+        CommandTable {
+            name: "replay",
+            called: "desk replay",
+            about: "Reads a contest as CSV on standard input and prints its board",
+            rows: &ROWS,
+        }
+    }
+
+    fn named(alloc: Global, values: &ArgMatches<'a>) -> Result<ReplayWords, CommandError> {
+        let at = time_in(alloc, value_in(values, "at"))?;
+        Ok(ReplayWords {
+            jury: has_flag(values, "jury"),
+            thawed: has_flag(values, "thawed"),
+            at,
+        })
+    }
 }
 
-/// The options that the words of `replay` give; the first word is the command's own. The error is
-/// what clap says of words that have a fault, or want of memory. A call for help counts as a fault.
-pub(crate) fn read_replay_words<'a>(
-    alloc: Global,
-    words: &'a [&'a str],
-) -> Result<Options<'a>, CommandError>
-    ensures faultless { IfOk result (λ _. faults_in replay_app (map (λ s. s.now) words.entry.now) ≡ []) }
-    ensures jury { IfOk result (λ o. IsTrue o.jury ↔ HasFlag replay_app (codes "jury") (map (λ s. s.now) words.entry.now)) }
-    ensures thawed { IfOk result (λ o. IsTrue o.thawed ↔ HasFlag replay_app (codes "thawed") (map (λ s. s.now) words.entry.now)) }
-    ensures at { IfOk result (λ o. option_map (λ s. s.now) o.at ≡ value_of replay_app (codes "at") (map (λ s. s.now) words.entry.now)) }
-    ensures refused { IfErr result (RefusesWords (faults_in replay_app (map (λ s. s.now) words.entry.now))) }
+// The contest time that the words ask for.
+fn time_in(alloc: Global, text: Option<&str>) -> Result<Option<RelTime>, CommandError>
+    ensures ok { IfOk result (ShowsTime (option_map (λ s. s.now) text.entry)) }
+    ensures err { IfErr result (λ stop. IsMemory stop ⊎ (IsWords stop × ShowsNone (option_map (λ s. s.now) text.entry))) }
 {
-    let command = replay_app(alloc)?;
-    let matches = matches_in(alloc, command, words)?;
-    Ok(Options {
-        jury: has_flag(&matches, "jury"),
-        thawed: has_flag(&matches, "thawed"),
-        at: value_in(&matches, "at"),
-    })
+    let Some(text) = text else {
+        return Ok(None);
+    };
+    match contest_time(text) {
+        Some(time) => Ok(Some(time)),
+        None => Err(no_time(alloc, text)),
+    }
+}
+
+// The contest time that a text shows; none below zero.
+fn contest_time(text: &str) -> Option<RelTime>
+    ensures found { IfSome result (IsContestTime text.now) }
+    ensures none { IfNone result ((time : ℤ) → IsContestTime text.now time → ⊥) }
+{
+    match RelTime::parse(text) {
+        Some(time) => {
+            if time.milliseconds() < 0 {
+                return None;
+            }
+            Some(time)
+        }
+        None => None,
+    }
+}
+
+// What is said of a text that shows no contest time.
+fn no_time(alloc: Global, text: &str) -> CommandError
+    ensures { IsMemory result ⊎ IsWords result }
+{
+    match format!(in alloc;
+        "error: '{text}' of '--at' is no contest time: h:mm:ss or h:mm:ss.uuu, zero or more\n"
+    ) {
+        Ok(message) => CommandError::Usage(message),
+        Err(AllocError) => CommandError::from(AllocError),
+    }
 }

@@ -3,5 +3,5 @@ mod WordLemmas
 mod CommandLemmas
 mod NamingLemmas
 mod RefusalNames
-pub mod ArgumentLemmas
+mod ArgumentLemmas
 pub mod StreamLemmas

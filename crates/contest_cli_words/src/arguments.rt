@@ -13,7 +13,7 @@ use clap::{Arg, ArgAction, ArgMatches, Command};
 use std::alloc::{AllocError, Global};
 
 /// A command's name, as it is called, and its first line of help. The error is want of memory.
-pub fn headed<'a>(
+pub(crate) fn headed<'a>(
     alloc: Global,
     name: &'a str,
     called: &str,
@@ -26,7 +26,7 @@ pub fn headed<'a>(
 }
 
 /// A word that has to be there.
-pub fn word<'a>(alloc: Global, name: &'a str, help: &'a str) -> Arg<'a>
+pub(crate) fn word<'a>(alloc: Global, name: &'a str, help: &'a str) -> Arg<'a>
     ensures rule { rule_of result ≡ word name.entry.now }
     ensures local { result.global ≡ false }
 {
@@ -37,7 +37,7 @@ pub fn word<'a>(alloc: Global, name: &'a str, help: &'a str) -> Arg<'a>
 }
 
 /// An option without a value: `--name`.
-pub fn flag<'a>(alloc: Global, name: &'a str, help: &'a str) -> Arg<'a>
+pub(crate) fn flag<'a>(alloc: Global, name: &'a str, help: &'a str) -> Arg<'a>
     ensures rule { rule_of result ≡ flag name.entry.now }
     ensures local { result.global ≡ false }
 {
@@ -48,7 +48,12 @@ pub fn flag<'a>(alloc: Global, name: &'a str, help: &'a str) -> Arg<'a>
 }
 
 /// An option with a value: `--name VALUE`.
-pub fn option<'a>(alloc: Global, name: &'a str, value_name: &'a str, help: &'a str) -> Arg<'a>
+pub(crate) fn option<'a>(
+    alloc: Global,
+    name: &'a str,
+    value_name: &'a str,
+    help: &'a str,
+) -> Arg<'a>
     ensures rule { rule_of result ≡ option name.entry.now }
     ensures local { result.global ≡ false }
 {
@@ -60,7 +65,7 @@ pub fn option<'a>(alloc: Global, name: &'a str, value_name: &'a str, help: &'a s
 
 /// A command with one more word, flag or option, where there was memory for what it has so far. The error
 /// is want of memory. So a command is put together in a straight line, and each part is moved but once.
-pub fn with_arg<'a>(
+pub(crate) fn with_arg<'a>(
     command: Result<Command<'a>, AllocError>,
     arg: Arg<'a>,
 ) -> Result<Command<'a>, AllocError>
@@ -72,7 +77,7 @@ pub fn with_arg<'a>(
 
 /// What clap finds in the words of a command; the first word is the command's own. The error is what
 /// clap says of words that have a fault, or want of memory. A call for help counts as a fault.
-pub fn matches_in<'a>(
+pub(crate) fn matches_in<'a>(
     alloc: Global,
     command: Command<'a>,
     words: &'a [&'a str],

@@ -15,9 +15,7 @@ mod output;
 mod refusal_line;
 mod serve_words;
 
-pub use arguments::{
-    flag, has_flag, headed, matches_in, option, value_in, with_arg, word, word_in,
-};
+pub use arguments::{has_flag, value_in, word_in};
 pub use asked_board::{AskedBoard, BoardFormat, Who};
 pub use board_words::BoardWords;
 pub use command_error::CommandError;

@@ -9,8 +9,10 @@ ghost use Rattle.contest_cli_words.specs.Endings.{ShowsSome};
 ghost use Rattle.contest_cli_words.specs.Help.{is_help};
 ghost use Rattle.contest_cli_replay.specs.Replay.{Replays};
 
-use contest_cli_replay::{replay, replay_app};
-use contest_cli_words::{CommandError, asks_help, borrowed, refuse_arguments, show_help};
+use contest_cli_replay::{ReplayWords, replay};
+use contest_cli_words::{
+    CommandError, CommandWords, asks_help, borrowed, command_of, refuse_arguments, show_help,
+};
 use contest_streams::Counted;
 use contest_types::Refusal;
 use std::alloc::{AllocError, Global};
@@ -60,7 +62,7 @@ fn run<R: Read, O: Write, E: Write>(
     if !asks_help(words) {
         return replay(alloc, words, reader, out, err);
     }
-    match replay_app(alloc) {
+    match command_of(alloc, &ReplayWords::command()) {
         Ok(app) => show_help(app, out, err),
         Err(AllocError) => CommandError::Refused(Refusal::Memory).refuse(err),
     }

@@ -5,11 +5,11 @@ use Rattle.contest_cli_replay.proofs.replay_text.replay_text.Goals as goal
 
 pub returns-clause-ok : goal.returns-clause-ok
 returns-clause-ok c =
-    let o = c.args.options.now in
+    let o = c.args.asked.now in
     IfOk-weaker c.text_of.result _ _
-    (λ text h. ap (shown o.jury o.thawed c.args.at) c.in_ok-contest.ensures.ok ∙ ap Ok (sym (rw (c.submissions.ensures.value, c.settings-2.ensures, c.retain_until.ensures, c.marks-marks.ensures, c.moment_for-now.ensures, c.audience_for.ensures, c.settings.ensures) at h)))
+    (λ text h. ap (shown o.jury o.thawed o.at) c.in_ok-contest.ensures.ok ∙ ap Ok (sym (rw (c.submissions.ensures.value, c.settings-2.ensures, c.retain_until.ensures, c.marks-marks.ensures, c.moment_for-now.ensures, c.audience_for.ensures, c.settings.ensures) at h)))
     c.text_of.ensures.text
 
 pub text_of-requires-clause-admitted : goal.text_of-requires-clause-admitted
 text_of-requires-clause-admitted c =
-    rw (c.settings-2.ensures, c.marks-marks.ensures, c.retain_until.ensures) (rw c.retain_until.ensures at c.submissions.ensures.admitted c.args.options.now.thawed)
+    rw (c.settings-2.ensures, c.marks-marks.ensures, c.retain_until.ensures) (rw c.retain_until.ensures at c.submissions.ensures.admitted c.args.asked.now.thawed)

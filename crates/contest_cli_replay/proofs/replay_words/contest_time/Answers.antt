@@ -1,7 +1,7 @@
 use Rattle.std.proofs.Common.{arith}
 use Rattle.std.proofs.lemmas.Int.{ints}
 use Rattle.contest_types.proofs.RelTimeLemmas.{one_shown}
-use Rattle.contest_cli_replay.proofs.replay_command.contest_time.Goals as goal
+use Rattle.contest_cli_replay.proofs.replay_words.contest_time.Goals as goal
 
 pub returns-then-milliseconds-lt0-clause-none : goal.returns-then-milliseconds-lt0-clause-none
 returns-then-milliseconds-lt0-clause-none c = λ time h.
