@@ -9,7 +9,7 @@ use Rattle.contest_cli_words.specs.CommandErrors.{exit_status_of, line_of}
 use Rattle.contest_cli.specs.Runs.{Runs}
 use Rattle.contest_cli_words.specs.declared.command_error.CommandError.TheVariants.{Refused}
 use Rattle.contest_cli.specs.declared.invocation.CommandName.{CommandName}
-use Rattle.contest_cli.specs.declared.invocation.CommandName.TheVariants.{Replay, Init, Import, Board, Serve}
+use Rattle.contest_cli.specs.declared.invocation.CommandName.TheVariants.{Replay, Init, Import, Board, Awards, Export, Serve}
 use Rattle.contest_cli_words.proofs.StreamLemmas.{keeps_same}
 use Rattle.contest_cli_replay.proofs.ReplayLemmas.{stopped}
 
@@ -24,6 +24,10 @@ out_of_memory g Found All Init words in_old in_new out err_old err_new status is
 out_of_memory g Found All Import words in_old in_new out err_old err_new status is told =
     inl ((Refused Memory, inr (inl refl), is, told), keeps_same out.bytes)
 out_of_memory g Found All Board words in_old in_new out err_old err_new status is told =
+    inl ((Refused Memory, inr (inl refl), is, told), keeps_same out.bytes)
+out_of_memory g Found All Awards words in_old in_new out err_old err_new status is told =
+    inl ((Refused Memory, inr (inl refl), is, told), keeps_same out.bytes)
+out_of_memory g Found All Export words in_old in_new out err_old err_new status is told =
     inl ((Refused Memory, inr (inl refl), is, told), keeps_same out.bytes)
 out_of_memory g Found All Serve words in_old in_new out err_old err_new status is told =
     inl ((Refused Memory, inr (inl refl), is, told), keeps_same out.bytes)

@@ -1,20 +1,26 @@
 -- What each command that keeps a contest in a file asks of the machine, and how it ends on what was opened.
-use Rattle.std.specs.Prelude.{◌≡◌, ℕ, Option, Some, None}
+use Rattle.std.specs.Prelude.{◌≡◌, ℕ, Bool, if◌then◌else◌, Option, Some, None}
 use Rattle.std.specs.Io.KnownBytes.{Keeps}
 use Rattle.sqlite_trees.specs.declared.store.Store.{Ghosts}
 use Rattle.sqlite.specs.Held.{Held, state}
 use Rattle.contest_streams.specs.Streams.{Stream}
-use Rattle.contest_cli_commands.specs.Board.{Boards}
+use Rattle.contest_cli_commands.specs.Exporting.{Exports}
 use Rattle.contest_cli_commands.specs.Import.{Imports}
 use Rattle.contest_cli_commands.specs.Init.{Inits}
+use Rattle.contest_cli_commands.specs.Printing.{Prints}
 use Rattle.contest_cli_commands.specs.Serve.{Serves}
+use Rattle.contest_cli_words.specs.declared.asked_board.Who.{Who}
+use Rattle.contest_cli_words.specs.declared.asked_board.Who.TheVariants.{Jury, Public}
+use Rattle.contest_cli_words.specs.declared.asked_text.AskedText.TheVariants.{Awards, Board}
+use Rattle.contest_cli_words.specs.declared.awards_words.AwardsWords.{AwardsWords}
 use Rattle.contest_cli_words.specs.declared.board_words.BoardWords.{BoardWords}
 use Rattle.contest_cli_words.specs.declared.command_error.CommandError.{CommandError}
+use Rattle.contest_cli_words.specs.declared.export_words.ExportWords.{ExportWords}
 use Rattle.contest_cli_words.specs.declared.import_words.ImportWords.{ImportWords}
 use Rattle.contest_cli_words.specs.declared.init_words.InitWords.{InitWords}
 use Rattle.contest_cli_words.specs.declared.serve_words.ServeWords.{ServeWords}
 
--- whether a command leaves its moment to the clock: never, always, or, as `board`, if its words name none
+-- whether a command leaves its moment to the clock: never, always, or, as `board` and `awards`, if its words name none
 abbrev pub LooksNever : {A : Type 0} → A → Type 0
 LooksNever asked = ⊥
 
@@ -24,6 +30,9 @@ LooksAlways asked = Unit {0}
 abbrev pub BoardLooks : BoardWords → Type 0
 BoardLooks asked = asked.at ≡ None
 
+abbrev pub AwardsLooks : AwardsWords → Type 0
+AwardsLooks asked = asked.at ≡ None
+
 -- a command that reads no file lacks none
 abbrev pub LacksNothing : CommandError → Type 0
 LacksNothing stop = ⊥
@@ -32,6 +41,10 @@ LacksNothing stop = ⊥
 abbrev pub IsAskedMoment : Option ℕ → ℕ → Type 0
 IsAskedMoment None now = Unit {0}
 IsAskedMoment (Some moment) now = now ≡ moment
+
+-- who looks at awards
+abbrev pub viewer : (jury : Bool) → Who
+viewer jury = if jury then Jury else Public
 
 -- stores of some type S
 module _ {S : Type 0} (g : Ghosts S) where
@@ -48,7 +61,16 @@ module _ {S : Type 0} (g : Ghosts S) where
   -- `board`, at the moment that is asked for or some other
   abbrev pub BoardsOn : BoardWords → (out_old out_new err_old err_new : Stream) → (old new : Held S) → (status : ℕ) → Type 0
   BoardsOn asked out_old out_new err_old err_new old new status =
-      (now : ℕ) × IsAskedMoment asked.at now × Boards now asked.asked out_old out_new err_old err_new (state g old) (state g new) status
+      (now : ℕ) × IsAskedMoment asked.at now × Prints now (Board asked.asked) out_old out_new err_old err_new (state g old) (state g new) status
+
+  -- `awards`, likewise
+  abbrev pub AwardsOn : AwardsWords → (out_old out_new err_old err_new : Stream) → (old new : Held S) → (status : ℕ) → Type 0
+  AwardsOn asked out_old out_new err_old err_new old new status =
+      (now : ℕ) × IsAskedMoment asked.at now × Prints now (Awards (viewer asked.jury)) out_old out_new err_old err_new (state g old) (state g new) status
+
+  -- `export`
+  abbrev pub ExportsOn : ExportWords → (out_old out_new err_old err_new : Stream) → (old new : Held S) → (status : ℕ) → Type 0
+  ExportsOn asked out_old out_new err_old err_new old new status = Exports out_old out_new err_old err_new (state g old) (state g new) status
 
   -- `serve`, where this is to serve so many clients
   abbrev pub ServesOnce : (All : (asked requests : ℕ) → (out_old out_new : Stream) → (old new : Held S) → Type 0)

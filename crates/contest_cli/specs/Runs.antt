@@ -6,14 +6,16 @@ use Rattle.sqlite.specs.Held.{Held}
 use Rattle.contest_streams.specs.Streams.{Stream}
 use Rattle.contest_cli_replay.specs.Replay.{Replays}
 use Rattle.contest_cli_machine.specs.Unopened.{IsNoFile}
+use Rattle.contest_cli_words.specs.AwardsWords.{NamesAwards, awards_app}
 use Rattle.contest_cli_words.specs.BoardWords.{NamesBoard, board_app}
+use Rattle.contest_cli_words.specs.ExportWords.{NamesExport, export_app}
 use Rattle.contest_cli_words.specs.ImportWords.{NamesImport, import_app}
 use Rattle.contest_cli_words.specs.InitWords.{NamesInit, init_app}
 use Rattle.contest_cli_words.specs.ServeWords.{NamesServe, serve_app}
 use Rattle.contest_cli.specs.FileCommand.{RunsByWords}
-use Rattle.contest_cli.specs.FileCommands.{BoardLooks, BoardsOn, ImportsOn, LooksNever, InitsOn, LacksNothing, LooksAlways, ServesOnce}
+use Rattle.contest_cli.specs.FileCommands.{AwardsLooks, AwardsOn, BoardLooks, BoardsOn, ExportsOn, ImportsOn, LooksNever, InitsOn, LacksNothing, LooksAlways, ServesOnce}
 use Rattle.contest_cli.specs.declared.invocation.CommandName.{CommandName}
-use Rattle.contest_cli.specs.declared.invocation.CommandName.TheVariants.{Replay, Init, Import, Board, Serve}
+use Rattle.contest_cli.specs.declared.invocation.CommandName.TheVariants.{Replay, Init, Import, Board, Awards, Export, Serve}
 
 -- on a machine whose stores are of some type S, of which this is known of one that was opened, and on which it is this to
 -- serve so many clients
@@ -27,5 +29,9 @@ module _ {S : Type 0} (g : Ghosts S) (Found : Held S → Type 0) (All : (asked r
       RunsByWords import_app NamesImport LooksAlways IsNoFile g Found (ImportsOn g) words out_old out_new err_old err_new status
   Runs Board words in_old in_new out_old out_new err_old err_new status =
       RunsByWords board_app NamesBoard BoardLooks LacksNothing g Found (BoardsOn g) words out_old out_new err_old err_new status
+  Runs Awards words in_old in_new out_old out_new err_old err_new status =
+      RunsByWords awards_app NamesAwards AwardsLooks LacksNothing g Found (AwardsOn g) words out_old out_new err_old err_new status
+  Runs Export words in_old in_new out_old out_new err_old err_new status =
+      RunsByWords export_app NamesExport LooksNever LacksNothing g Found (ExportsOn g) words out_old out_new err_old err_new status
   Runs Serve words in_old in_new out_old out_new err_old err_new status =
       RunsByWords serve_app NamesServe LooksAlways LacksNothing g Found (ServesOnce g All) words out_old out_new err_old err_new status

@@ -14,8 +14,8 @@ use crate::invocation::{CommandName, Invocation, invocation_of};
 use contest_cli_machine::{Host, HostListener, HostNetwork, Listen, Machine, Network};
 use contest_cli_replay::replay;
 use contest_cli_words::{
-    BoardWords, CommandError, ImportWords, InitWords, ServeWords, borrowed, refuse_arguments, show,
-    tell,
+    AwardsWords, BoardWords, CommandError, ExportWords, ImportWords, InitWords, ServeWords,
+    borrowed, refuse_arguments, show, tell,
 };
 use contest_streams::Counted;
 use contest_types::Refusal;
@@ -154,6 +154,12 @@ fn run_command<M: Machine, R: Read, O: Write, E: Write>(
             alloc, machine, words, out, err,
         ),
         CommandName::Board => run_by_words::<M, BoardWords, O, E>(alloc, machine, words, out, err),
+        CommandName::Awards => run_by_words::<M, AwardsWords, O, E>(
+            alloc, machine, words, out, err,
+        ),
+        CommandName::Export => run_by_words::<M, ExportWords, O, E>(
+            alloc, machine, words, out, err,
+        ),
         CommandName::Serve => run_by_words::<M, ServeWords, O, E>(alloc, machine, words, out, err),
     }
 }
@@ -172,7 +178,7 @@ fn unknown_command(alloc: Global, name: &str) -> Result<String, AllocError>
     ensures { IfOk result (λ text. string_bytes text ≡ unknown_command name.now) }
 {
     format!(in alloc;
-        "error: unknown command '{name}'; the commands are replay, init, import, board, serve and help\n"
+        "error: unknown command '{name}'; the commands are replay, init, import, board, awards, export, serve and help\n"
     )
 }
 

@@ -1,14 +1,18 @@
 //! The commands that keep a contest in a file.
+ghost use Rattle.std.specs.Prelude.{◌≡◌, IfErr, IfOk, None};
 ghost use Rattle.sqlite.specs.Held.{state};
 ghost use Rattle.contest_streams.specs.Streams.{stream};
 ghost use Rattle.contest_store_tables.specs.Numbered.{IsNumbered};
-ghost use Rattle.contest_cli.specs.FileCommands.{BoardsOn, ImportsOn, InitsOn, IsAskedMoment, ServesOnce};
+ghost use Rattle.contest_cli.specs.FileCommands.{AwardsOn, BoardsOn, ExportsOn, ImportsOn, InitsOn, IsAskedMoment, ServesOnce, viewer};
 ghost use Rattle.contest_cli_commands.specs.Serve.{ServesOn};
 
 use crate::file_command::FileCommand;
-use contest_cli_commands::{run_board, run_import, run_init, run_serve};
+use contest_cli_commands::{run_export, run_import, run_init, run_print, run_serve};
 use contest_cli_machine::{MachineClock, Outside};
-use contest_cli_words::{BoardWords, CommandError, ImportWords, InitWords, ServeWords};
+use contest_cli_words::{
+    AskedText, AwardsWords, BoardWords, CommandError, ExportWords, ImportWords, InitWords,
+    ServeWords, Who,
+};
 use contest_streams::Counted;
 use contest_types::Moment;
 use sqlite::{Alter, Connection};
@@ -127,10 +131,7 @@ impl<W: Outside> FileCommand<W> for BoardWords<'_> {
     }
 
     fn moment<C: MachineClock>(&self, clock: &C) -> Result<Moment, CommandError> {
-        match self.at {
-            Some(moment) => Ok(moment),
-            None => clock.now(),
-        }
+        asked_moment(self.at, clock)
     }
 
     fn input(&self, _: W) -> Result<(), CommandError> {
@@ -151,7 +152,116 @@ impl<W: Outside> FileCommand<W> for BoardWords<'_> {
         ensures { BoardsOn S.Store self.now (stream O.contents out.old) (stream O.contents out.new)
             (stream E.contents err.old) (stream E.contents err.new) conn result.1 result.0 }
     {
-        run_board(alloc, conn, now, self.asked, out, err)
+        run_print(alloc, conn, now, AskedText::Board(self.asked), out, err)
+    }
+}
+
+impl<W: Outside> FileCommand<W> for AwardsWords<'_> {
+    ghost use Rattle.contest_cli.specs.FileCommands.{AwardsLooks, AwardsOn, IsAskedMoment, LacksNothing};
+
+    type Now = Moment;
+
+    type Input = ();
+
+    ghost looks = { AwardsLooks };
+
+    ghost fits = { λ asked now. IsAskedMoment asked.at now };
+
+    ghost lacks = { LacksNothing };
+
+    ghost ends = { λ g. AwardsOn g };
+
+    fn file(&self) -> &str {
+        self.file
+    }
+
+    fn moment<C: MachineClock>(&self, clock: &C) -> Result<Moment, CommandError> {
+        asked_moment(self.at, clock)
+    }
+
+    fn input(&self, _: W) -> Result<(), CommandError> {
+        Ok(())
+    }
+
+    fn run<S: Alter, O: Write, E: Write>(
+        &self,
+        alloc: Global,
+        conn: Connection<S>,
+        now: Moment,
+        _: (),
+        out: &mut Counted<O>,
+        err: &mut Counted<E>,
+    ) -> (u8, Connection<S>)
+        requires numbered { IsNumbered (state S.Store conn) }
+        requires fits { IsAskedMoment self.now.at now }
+        ensures { AwardsOn S.Store self.now (stream O.contents out.old) (stream O.contents out.new)
+            (stream E.contents err.old) (stream E.contents err.new) conn result.1 result.0 }
+    {
+        let asked = AskedText::Awards(viewer(self.jury));
+        run_print(alloc, conn, now, asked, out, err)
+    }
+}
+
+// The moment that is asked for; the clock's where none is.
+fn asked_moment<C: MachineClock>(at: Option<Moment>, clock: &C) -> Result<Moment, CommandError>
+    ensures ok { IfOk result (IsAskedMoment at) }
+    ensures err { IfErr result (λ stop. (at ≡ None) × (stop ≡ CommandError.Clock)) }
+{
+    match at {
+        Some(moment) => Ok(moment),
+        None => clock.now(),
+    }
+}
+
+// Who looks.
+fn viewer(jury: bool) -> Who<'static>
+    ensures { result ≡ viewer jury }
+{
+    if jury { Who::Jury } else { Who::Public }
+}
+
+impl<W: Outside> FileCommand<W> for ExportWords<'_> {
+    ghost use Rattle.contest_cli.specs.FileCommands.{ExportsOn, LacksNothing, LooksNever};
+
+    type Now = ();
+
+    type Input = ();
+
+    ghost looks = { LooksNever };
+
+    ghost fits = { λ asked now. Unit {0} };
+
+    ghost lacks = { LacksNothing };
+
+    ghost ends = { λ g. ExportsOn g };
+
+    fn file(&self) -> &str {
+        self.file
+    }
+
+    fn moment<C: MachineClock>(&self, _: &C) -> Result<(), CommandError> {
+        Ok(())
+    }
+
+    fn input(&self, _: W) -> Result<(), CommandError> {
+        Ok(())
+    }
+
+    fn run<S: Alter, O: Write, E: Write>(
+        &self,
+        alloc: Global,
+        conn: Connection<S>,
+        _: (),
+        _: (),
+        out: &mut Counted<O>,
+        err: &mut Counted<E>,
+    ) -> (u8, Connection<S>)
+        requires numbered { IsNumbered (state S.Store conn) }
+        requires fits { Unit {0} }
+        ensures { ExportsOn S.Store self.now (stream O.contents out.old) (stream O.contents out.new)
+            (stream E.contents err.old) (stream E.contents err.new) conn result.1 result.0 }
+    {
+        run_export(alloc, conn, out, err)
     }
 }
 

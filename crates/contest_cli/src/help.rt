@@ -6,8 +6,8 @@ use crate::invocation::CommandName;
 use clap::Command;
 use contest_cli_replay::ReplayWords;
 use contest_cli_words::{
-    BoardWords, CommandError, CommandWords, ImportWords, InitWords, ServeWords, command_of,
-    show_help,
+    AwardsWords, BoardWords, CommandError, CommandWords, ExportWords, ImportWords, InitWords,
+    ServeWords, command_of, show_help,
 };
 use contest_streams::Counted;
 use contest_types::Refusal;
@@ -25,6 +25,8 @@ Commands:
   init    Sets up a contest in a file, from its contest object as JSON
   import  Adds all rows of a file to a contest, or none, and prints how many
   board   Prints the board of a contest as somebody sees it
+  awards  Prints the awards of a contest, once somebody is shown them
+  export  Prints all submissions of a contest as CSV
   serve   Serves a contest over HTTP, to this machine alone
   help    Prints this text
 
@@ -33,6 +35,8 @@ Examples:
   desk init cup.db contest.json
   desk import cup.db problems problems.json
   desk board cup.db --audience jury
+  desk awards cup.db --jury
+  desk export cup.db > submissions.csv
   desk serve cup.db --requests 1000 --port 8080
 
 'desk <COMMAND> --help' tells more of a command. docs/FORMATS.md says how to
@@ -64,6 +68,8 @@ fn app_of<'a>(alloc: Global, command: CommandName) -> Result<Command<'a>, AllocE
         CommandName::Init => command_of(alloc, &InitWords::command()),
         CommandName::Import => command_of(alloc, &ImportWords::command()),
         CommandName::Board => command_of(alloc, &BoardWords::command()),
+        CommandName::Awards => command_of(alloc, &AwardsWords::command()),
+        CommandName::Export => command_of(alloc, &ExportWords::command()),
         CommandName::Serve => command_of(alloc, &ServeWords::command()),
     }
 }

@@ -15,6 +15,10 @@ pub enum CommandName {
     Import,
     /// `board`.
     Board,
+    /// `awards`.
+    Awards,
+    /// `export`.
+    Export,
     /// `serve`.
     Serve,
 }
@@ -60,6 +64,8 @@ fn command_named(word: &str) -> Option<CommandName>
         "init" => Some(CommandName::Init),
         "import" => Some(CommandName::Import),
         "board" => Some(CommandName::Board),
+        "awards" => Some(CommandName::Awards),
+        "export" => Some(CommandName::Export),
         "serve" => Some(CommandName::Serve),
         _ => None,
     }

@@ -2,7 +2,8 @@ mod InputLemmas
 mod InitLemmas
 mod OpeningLemmas
 mod ImportLemmas
-mod BoardLemmas
+mod PrintLemmas
+mod ExportLemmas
 mod ClientLemmas
 mod ServingLemmas
 mod ServeEndings

@@ -1,7 +1,8 @@
 pub mod Inputs
 pub mod Init
 pub mod Import
-pub mod Board
+pub mod Printing
+pub mod Exporting
 pub mod Clients
 pub mod Served
 pub mod Serve

@@ -2,17 +2,19 @@
 #![tactic(auto)]
 
 mod added_line;
-mod board_command;
+mod export_command;
 mod import_command;
 mod init_command;
 mod listening_line;
 mod opening;
+mod print_command;
 mod serve_command;
 mod serving;
 
-pub use board_command::run_board;
+pub use export_command::run_export;
 pub use import_command::run_import;
 pub use init_command::run_init;
 pub use opening::open_desk;
+pub use print_command::run_print;
 pub use serve_command::run_serve;
 pub use serving::serve;

@@ -1,8 +1,10 @@
 -- Each command wants its words.
 use Rattle.std.proofs.Common.{◌≡◌, true, refl}
 use Rattle.clap.proofs.OnLiterals.{clap_on_literals}
+use Rattle.contest_cli_words.specs.AwardsWords.{awards_app}
 use Rattle.contest_cli_words.specs.BoardWords.{board_app}
 use Rattle.contest_cli_words.specs.CommandTable.{only_file, wants_words}
+use Rattle.contest_cli_words.specs.ExportWords.{export_app}
 use Rattle.contest_cli_words.specs.ImportWords.{import_app, import_wanted}
 use Rattle.contest_cli_words.specs.InitWords.{init_app, init_wanted}
 use Rattle.contest_cli_words.specs.ServeWords.{serve_app}
@@ -22,3 +24,11 @@ board_wants = refl
 pub serve_wants : wants_words only_file serve_app ≡ true
 unfolding clap_on_literals serve_app
 serve_wants = refl
+
+pub awards_wants : wants_words only_file awards_app ≡ true
+unfolding clap_on_literals awards_app
+awards_wants = refl
+
+pub export_wants : wants_words only_file export_app ≡ true
+unfolding clap_on_literals export_app
+export_wants = refl

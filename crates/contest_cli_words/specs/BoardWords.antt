@@ -1,13 +1,13 @@
 -- What the words of `board` name.
-use Rattle.std.specs.Prelude.{◌≡◌, ◌≢◌, ◌⊎◌, ◌∷◌, ℕ, List, [], Option, Some, None, codes}
+use Rattle.std.specs.Prelude.{◌≡◌, ◌≢◌, ◌⊎◌, ◌∷◌, List, [], Option, Some, None, codes}
 use Rattle.clap.specs.Simple.{App}
 use Rattle.clap.specs.Walk.{Row, Text, first_of}
-use Rattle.contest_types.specs.MomentText.{IsMomentText}
 use Rattle.contest_cli_words.specs.declared.asked_board.BoardFormat.{BoardFormat}
 use Rattle.contest_cli_words.specs.declared.asked_board.BoardFormat.TheVariants as format
 use Rattle.contest_cli_words.specs.declared.asked_board.Who.{Who}
 use Rattle.contest_cli_words.specs.declared.asked_board.Who.TheVariants as who
 use Rattle.contest_cli_words.specs.Arguments.{word, option}
+use Rattle.contest_cli_words.specs.AskedMoment.{NamesMoment}
 use Rattle.contest_cli_words.specs.CommandTable.{command_with}
 use Rattle.contest_cli_words.specs.declared.board_words.BoardWords.{BoardWords}
 
@@ -26,17 +26,6 @@ NamesWho text (who.Team id) = (text ≡ Some id.now) × (id.now ≢ codes "publi
 abbrev pub NamesFormat : Option Text → BoardFormat → Type 0
 NamesFormat text format.Text = (text ≡ None) ⊎ (text ≡ Some (codes "text"))
 NamesFormat text format.Csv = text ≡ Some (codes "csv")
-
--- the moment that is named, if one is
-abbrev pub NamesMoment : Option Text → Option ℕ → Type 0
-NamesMoment None None = Unit {0}
-NamesMoment None (Some moment) = ⊥
-NamesMoment (Some text) None = ⊥
-NamesMoment (Some text) (Some moment) = IsMomentText text moment
-
--- none is named rightly
-abbrev pub NamesNoMoment : Option Text → Type 0
-NamesNoMoment text = (at : Option ℕ) → NamesMoment text at → ⊥
 
 -- the file that keeps the contest, a board and, if they do, its moment
 pub record NamesBoard (values : List Row) (named : BoardWords) : Type 0 where

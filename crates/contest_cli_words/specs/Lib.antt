@@ -1,7 +1,10 @@
 pub mod InitWords
 pub mod ImportWords
 pub mod ServeWords
+pub mod AskedMoment
 pub mod BoardWords
+pub mod AwardsWords
+pub mod ExportWords
 pub mod Arguments
 pub mod CommandTable
 pub mod Help

@@ -1,12 +1,13 @@
 //! The words of `board`.
-ghost use Rattle.std.specs.Prelude.{◌≡◌, ◌⊎◌, IfErr, IfNone, IfOk, IfSome, true};
+ghost use Rattle.std.specs.Prelude.{◌≡◌, IfNone, IfSome, true};
 ghost use Rattle.std.specs.Option.{option_map};
-ghost use Rattle.contest_cli_words.specs.BoardWords.{NamesFormat, NamesMoment, NamesNoMoment, NamesWho, board_app};
-ghost use Rattle.contest_cli_words.specs.CommandErrors.{IsMemory, IsWords, IsWordsOrMemory};
+ghost use Rattle.contest_cli_words.specs.BoardWords.{NamesFormat, NamesWho, board_app};
+ghost use Rattle.contest_cli_words.specs.CommandErrors.{IsWordsOrMemory};
 ghost use Rattle.contest_cli_words.specs.CommandTable.{app_in, only_file, wants_words};
 ghost use Rattle.contest_cli_words.specs.declared.asked_board.BoardFormat.{BoardFormat as TheFormat};
 
 use crate::asked_board::{AskedBoard, BoardFormat, Who};
+use crate::asked_moment::moment_in;
 use crate::command_table::{CommandTable, WordKind, WordRow};
 use crate::{CommandError, CommandWords, value_in, word_in};
 use clap::ArgMatches;
@@ -107,30 +108,6 @@ fn format_in(text: Option<&str>) -> Option<BoardFormat>
         Some("text") => Some(BoardFormat::Text),
         Some("csv") => Some(BoardFormat::Csv),
         Some(_) => None,
-    }
-}
-
-// The moment that is named, if one is.
-fn moment_in(alloc: Global, text: Option<&str>) -> Result<Option<Moment>, CommandError>
-    ensures ok { IfOk result (NamesMoment (option_map (λ s. s.now) text.entry)) }
-    ensures err { IfErr result (λ stop. IsMemory stop ⊎ (IsWords stop × NamesNoMoment (option_map (λ s. s.now) text.entry))) }
-{
-    let Some(text) = text else {
-        return Ok(None);
-    };
-    match Moment::parse(text)? {
-        Some(moment) => Ok(Some(moment)),
-        None => Err(no_moment(alloc, text)),
-    }
-}
-
-// What is said of a text that shows no moment.
-fn no_moment(alloc: Global, text: &str) -> CommandError
-    ensures { IsWordsOrMemory result }
-{
-    match format!(in alloc; "error: '{text}' of '--at' is no moment, as 2024-03-02T10:30:00Z\n") {
-        Ok(message) => CommandError::Usage(message),
-        Err(AllocError) => CommandError::from(AllocError),
     }
 }
 

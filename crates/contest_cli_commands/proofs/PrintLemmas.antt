@@ -1,4 +1,4 @@
--- What is told of a board that is asked for.
+-- What is told of a text that is asked for.
 use Rattle.std.proofs.Common.{◌≡◌, ◌∙◌, ap, sym, refl, subst, inl, inr, ℕ, List, Option, Some, None, Result, Ok, Err, arith, true}
 use Rattle.std.specs.Prelude.{◌⊎◌, IfErr}
 use Rattle.std.specs.Result.{IsErrAnd}
@@ -14,6 +14,7 @@ use Rattle.contest_types.specs.declared.refusal.Refusal.TheVariants.{NotFound}
 use Rattle.contest_score.specs.Ranking.{Scoreboard}
 use Rattle.contest_view.specs.Scoreboards.{board_found}
 use Rattle.contest_desk.specs.Boards.{board_told}
+use Rattle.contest_desk.specs.Serving.{OnlyReads, refused_as}
 use Rattle.contest_store.specs.Keeping.{Kept, LeavesNoMore}
 use Rattle.contest_store.specs.StoreErrors.{refusal_of}
 use Rattle.contest_store.specs.declared.store_error.StoreError.{StoreError}
@@ -27,8 +28,8 @@ use Rattle.contest_cli_words.specs.Endings.{Shows}
 use Rattle.contest_cli_words.specs.declared.command_error.CommandError.{CommandError}
 use Rattle.contest_cli_words.specs.declared.command_error.CommandError.TheVariants.{Clock, File, Net, Refused, Usage}
 use Rattle.contest_cli_words.proofs.StreamLemmas.{keeps_same}
-use Rattle.contest_cli_commands.specs.Board.{Boards, Gives, IsStoreStop, ShowsKept, StopsBoard, TellsBoard, audience_of}
-use Rattle.contest_cli_words.specs.declared.asked_board.AskedBoard.{AskedBoard}
+use Rattle.contest_cli_commands.specs.Printing.{Prints, Gives, IsStoreStop, PrintsKept, StopsText, TellsText, audience_of, who_of}
+use Rattle.contest_cli_words.specs.declared.asked_text.AskedText.{AskedText}
 
 -- what the store failed with
 pub by_error : (e : StoreError) → IsStoreStop (Refused (refusal_of e))
@@ -47,22 +48,27 @@ board_refused (Ok None) a now x refusal is missing there =
 board_refused (Err error.Fault) a now x refusal is missing there = inl cc
 board_refused (Err error.Memory) a now x refusal is missing there = inr cc
 
+-- a look that went well leaves the contest
+pub same_contest : {T : Type 0} (v : T) (r : Result T StoreError) (old new : Kept) → Ok v ≡ refused_as r → OnlyReads r old new → new.is_clean → new.contest ≡ old.contest
+same_contest v (Ok w) old new told l clean = (l.ok clean).now_is
+same_contest v (Err e) old new told l clean = absurd (cc told)
+
 -- what an error is turned into stops for the same reason
-pub told_err : {T : Type 0} (r : Result T CommandError) (P Q : CommandError → Type 0) → IsErrAnd r P → ((stop : CommandError) → P stop → Q stop) → IfErr r Q
+pub told_err : {T E : Type 0} (r : Result T E) (P Q : E → Type 0) → IsErrAnd r P → ((stop : E) → P stop → Q stop) → IfErr r Q
 told_err (Ok v) P Q told turns = tt
 told_err (Err e) P Q told turns = turns e told
 
 -- no audience was found in the settings that were read
-pub no_audience : (x : ContestState) (s : Setup) (m : Marks) (asked : AskedBoard) (stop : CommandError) → ◌≡◌ {A = Setup × Marks} (s, m) (x.fixed.settings, x.fixed.marks)
-    → IsMemory stop ⊎ (IsWords stop × (audience_of s asked.who ≡ None)) → StopsBoard (λ y. y ≡ x) asked stop
+pub no_audience : (x : ContestState) (s : Setup) (m : Marks) (asked : AskedText) (stop : CommandError) → ◌≡◌ {A = Setup × Marks} (s, m) (x.fixed.settings, x.fixed.marks)
+    → IsMemory stop ⊎ (IsWords stop × (audience_of s (who_of asked) ≡ None)) → StopsText (λ y. y ≡ x) asked stop
 no_audience x s m asked stop read (inl memory) = inl (inr memory)
 no_audience x s m asked stop read (inr (words, none)) =
-    inr (words, (x, refl, subst (λ (t : Setup). audience_of t asked.who ≡ None) (ap (λ (p : Setup × Marks). p.0) read) none))
+    inr (words, (x, refl, subst (λ (t : Setup). audience_of t (who_of asked) ≡ None) (ap (λ (p : Setup × Marks). p.0) read) none))
 
-module _ (clean : Type 0) (Is : ContestState → Type 0) (now : ℕ) (asked : AskedBoard) (err_old err_new : Stream) (status : ℕ) where
+module _ (clean : Type 0) (Is : ContestState → Type 0) (now : ℕ) (asked : AskedText) (err_old err_new : Stream) (status : ℕ) where
   -- a text is shown
   pub shown : (out_old out_new : Stream) (text : List ℕ) → (clean → Gives Is now asked text) → Shows text out_old out_new err_old err_new status
-      → TellsBoard clean Is now asked out_old out_new err_old err_new status
+      → TellsText clean Is now asked out_old out_new err_old err_new status
   shown out_old out_new text gives s = record {
     statuses = omega (arith, s.statuses);
     done = λ e. (text, gives, (s.done e).0, (s.done e).1);
@@ -71,8 +77,8 @@ module _ (clean : Type 0) (Is : ContestState → Type 0) (now : ℕ) (asked : As
   }
 
   -- there is none, and why is told
-  refused_one : (out : Stream) (stop : CommandError) → (IsWords stop → ⊥) → exit_status_of stop ≡ 1 → (clean → StopsBoard Is asked stop) → status ≡ exit_status_of stop → Tells err_old err_new (line_of stop)
-      → TellsBoard clean Is now asked out out err_old err_new status
+  refused_one : (out : Stream) (stop : CommandError) → (IsWords stop → ⊥) → exit_status_of stop ≡ 1 → (clean → StopsText Is asked stop) → status ≡ exit_status_of stop → Tells err_old err_new (line_of stop)
+      → TellsText clean Is now asked out out err_old err_new status
   refused_one out stop no_words one why is told = record {
     statuses = omega (arith, one, is);
     done = λ e. absurd (omega (arith, one, is, e));
@@ -80,8 +86,8 @@ module _ (clean : Type 0) (Is : ContestState → Type 0) (now : ℕ) (asked : As
     unknown = λ e. absurd (omega (arith, one, is, e));
   }
 
-  pub stopped : (out : Stream) (stop : CommandError) → (clean → StopsBoard Is asked stop) → status ≡ exit_status_of stop → Tells err_old err_new (line_of stop)
-      → TellsBoard clean Is now asked out out err_old err_new status
+  pub stopped : (out : Stream) (stop : CommandError) → (clean → StopsText Is asked stop) → status ≡ exit_status_of stop → Tells err_old err_new (line_of stop)
+      → TellsText clean Is now asked out out err_old err_new status
   stopped out (Usage text) why is told = record {
     statuses = omega (arith, is);
     done = λ e. absurd (omega (arith, is, e));
@@ -94,9 +100,9 @@ module _ (clean : Type 0) (Is : ContestState → Type 0) (now : ℕ) (asked : As
   stopped out Net why is told = refused_one out Net (λ w. w) refl why is told
 
 -- what is told of one contest is told of another that is the same
-pub told_of : (clean other : Type 0) (Is Was : ContestState → Type 0) (now : ℕ) (asked : AskedBoard) (out_old out_new err_old err_new : Stream) (status : ℕ)
-    → (other → clean) → (other → (x : ContestState) → Is x → Was x) → TellsBoard clean Is now asked out_old out_new err_old err_new status
-    → TellsBoard other Was now asked out_old out_new err_old err_new status
+pub told_of : (clean other : Type 0) (Is Was : ContestState → Type 0) (now : ℕ) (asked : AskedText) (out_old out_new err_old err_new : Stream) (status : ℕ)
+    → (other → clean) → (other → (x : ContestState) → Is x → Was x) → TellsText clean Is now asked out_old out_new err_old err_new status
+    → TellsText other Was now asked out_old out_new err_old err_new status
 told_of clean other Is Was now asked out_old out_new err_old err_new status as_clean same t = record {
   statuses = t.statuses;
   done = λ e. let d = t.done e in (d.0, λ c. gives d.0 c (d.1 (as_clean c)), d.2, d.3);
@@ -119,10 +125,10 @@ pub leaves_no_more : (old new : State) → KeepsLists old new → HasCleanDisk n
 leaves_no_more old new keeps clean c left = elim (keeps.crash clean left.0 left.1) [ inl before ↦ (left.0, before, left.2) | inr none ↦ absurd none ]
 
 -- what a desk shows is what the tables show from which it was opened, and a crash leaves no more than it could before that
-pub shown_by_desk : (now : ℕ) (asked : AskedBoard) (out_old out_new err_old err_new : Stream) (status : ℕ) (old new : State) (first last : Kept)
-    → ShowsKept now asked out_old out_new err_old err_new first last status
+pub shown_by_desk : (now : ℕ) (asked : AskedText) (out_old out_new err_old err_new : Stream) (status : ℕ) (old new : State) (first last : Kept)
+    → PrintsKept now asked out_old out_new err_old err_new first last status
     → (HasCleanDisk new → last.is_clean) → (HasCleanDisk new → Opened old first) → (HasCleanDisk new → LeavesNoMore last.may_leave (may_leave_of new))
-    → Boards now asked out_old out_new err_old err_new old new status
+    → Prints now asked out_old out_new err_old err_new old new status
 shown_by_desk now asked out_old out_new err_old err_new status old new first last shows as_clean opened kept = record {
   told = told_of last.is_clean (HasCleanDisk new) (λ x. x ≡ first.contest) (λ x. contest_in_trees old.now.trees ≡ Some x) now asked out_old out_new err_old err_new status as_clean
       (λ clean x is. let o = opened clean in o.found ∙ ap Some (sym (is ∙ o.shows.now_is))) shows.told;

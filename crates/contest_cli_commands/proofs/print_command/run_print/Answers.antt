@@ -4,18 +4,18 @@ use Rattle.sqlite.specs.State.{HasCleanDisk}
 use Rattle.contest_store_sqlite.specs.Contests.{contest_in_trees, may_leave_of}
 use Rattle.contest_store_sqlite.specs.Keeping.{IsTrusted}
 use Rattle.contest_store_sqlite.specs.Value.{stored}
-use Rattle.contest_cli_commands.proofs.BoardLemmas.{leaves_no_more, of_open, shown_by_desk, stopped}
-use Rattle.contest_cli_commands.proofs.board_command.run_board.Goals as goal
+use Rattle.contest_cli_commands.proofs.PrintLemmas.{leaves_no_more, of_open, shown_by_desk, stopped}
+use Rattle.contest_cli_commands.proofs.print_command.run_print.Goals as goal
 
 pub returns-in-Ok : goal.returns-in-Ok
 returns-in-Ok g c =
     let old = state g.S.Store c.args.conn in
     let same = rw c.into_store.ensures.store at c.into_connection.ensures.connection in
-    let trusted : HasCleanDisk (state g.S.Store c.into_connection.result) → IsTrusted (state g.S.Store c.show_board-status.new.desk.conn) =
+    let trusted : HasCleanDisk (state g.S.Store c.into_connection.result) → IsTrusted (state g.S.Store c.print_text-status.new.desk.conn) =
     λ clean. subst (λ conn. IsTrusted (state g.S.Store conn)) same (c.into_connection.ensures.clean clean) in
-    shown_by_desk c.args.now c.args.asked _ _ _ _ c.show_board-status.result old (state g.S.Store c.into_connection.result) (stored g.S.Store c.in-Ok.desk)
-    (stored g.S.Store c.show_board-status.new.desk) c.show_board-status.ensures (λ clean. trusted clean)
-    (λ clean. c.in-Ok.ensures.opened (c.show_board-status.ensures.clean (trusted clean)).0)
+    shown_by_desk c.args.now c.args.asked _ _ _ _ c.print_text-status.result old (state g.S.Store c.into_connection.result) (stored g.S.Store c.in-Ok.desk)
+    (stored g.S.Store c.print_text-status.new.desk) c.print_text-status.ensures (λ clean. trusted clean)
+    (λ clean. c.in-Ok.ensures.opened (c.print_text-status.ensures.clean (trusted clean)).0)
     (λ clean d left. subst (λ conn. may_leave_of (state g.S.Store conn) d) same left)
 
 pub returns-in-Err : goal.returns-in-Err

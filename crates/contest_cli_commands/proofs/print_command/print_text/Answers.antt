@@ -1,6 +1,6 @@
 use Rattle.std.proofs.Common.{◌≡◌}
-use Rattle.contest_cli_commands.proofs.BoardLemmas.{stopped}
-use Rattle.contest_cli_commands.proofs.board_command.show_board.Goals as goal
+use Rattle.contest_cli_commands.proofs.PrintLemmas.{stopped}
+use Rattle.contest_cli_commands.proofs.print_command.print_text.Goals as goal
 
 pub returns-in-Err : goal.returns-in-Err
 returns-in-Err g c =

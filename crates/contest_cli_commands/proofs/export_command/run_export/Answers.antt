@@ -1,0 +1,31 @@
+use Rattle.std.proofs.Common.{◌≡◌, Some, inl, refl, subst}
+use Rattle.sqlite.specs.Held.{state}
+use Rattle.sqlite.specs.State.{HasCleanDisk}
+use Rattle.contest_streams.specs.Streams.{stream}
+use Rattle.contest_store_sqlite.specs.Contests.{contest_in_trees, may_leave_of}
+use Rattle.contest_store_sqlite.specs.Keeping.{IsTrusted}
+use Rattle.contest_store_sqlite.specs.Value.{stored}
+use Rattle.contest_cli_words.specs.declared.command_error.CommandError.TheVariants.{Refused}
+use Rattle.contest_cli_words.proofs.StreamLemmas.{keeps_same}
+use Rattle.contest_cli_commands.proofs.ExportLemmas.{cut_off, shown_by_store}
+use Rattle.contest_cli_commands.proofs.PrintLemmas.{leaves_no_more, of_open}
+use Rattle.contest_cli_commands.proofs.export_command.run_export.Goals as goal
+
+pub returns-in-Ok : goal.returns-in-Ok
+returns-in-Ok g c =
+    let old = state g.S.Store c.args.conn in
+    let same = c.into_connection.ensures.connection in
+    let told = rw c.into_store-store.ensures.store at c.export_from-status.ensures.told in
+    let trusted : HasCleanDisk (state g.S.Store c.into_connection.result) → IsTrusted (state g.S.Store c.export_from-status.new.store.conn) =
+    λ clean. subst (λ conn. IsTrusted (state g.S.Store conn)) same (c.into_connection.ensures.clean clean) in
+    shown_by_store _ _ _ _ c.export_from-status.result old (state g.S.Store c.into_connection.result) (stored g.S.Store c.in-Ok.desk) (stored g.S.Store c.export_from-status.new.store)
+    told (λ clean. trusted clean) (λ clean. c.in-Ok.ensures.opened (told.clean (trusted clean)).0) (λ clean d left. subst (λ conn. may_leave_of (state g.S.Store conn) d) same left)
+
+pub returns-in-Err : goal.returns-in-Err
+returns-in-Err g c =
+    let old = state g.S.Store c.args.conn in
+    record {
+      told = cut_off _ (λ x. contest_in_trees old.now.trees ≡ Some x) _ _ _ _ (Refused c.refusal.result) c.refuse.result (inl (of_open c.refusal.result c.refusal.ensures.kinds)) refl
+          (inl (keeps_same (stream g.O.Write.contents c.args.out.now).bytes)) c.refuse.ensures.status c.refuse.ensures.told;
+      leaves = leaves_no_more old (state g.S.Store c.in-Err.conn) c.in-Err.ensures.refused;
+    }

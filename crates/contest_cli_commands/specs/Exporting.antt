@@ -1,0 +1,41 @@
+-- How `export` ends (own).
+use Rattle.std.specs.Prelude.{◌≡◌, ◌≤◌, ◌⊎◌, ℕ, List, Some}
+use Rattle.std.specs.Io.KnownBytes.{Appends, Keeps}
+use Rattle.sqlite.specs.State.{HasCleanDisk, State}
+use Rattle.contest_types.specs.State.{ContestState}
+use Rattle.contest_streams.specs.Streams.{AppendsFront, Fails, Stream, Tells}
+use Rattle.contest_store.specs.Keeping.{Kept, LeavesNoMore}
+use Rattle.contest_store_sqlite.specs.Contests.{contest_in_trees, may_leave_of}
+use Rattle.contest_export.specs.SubmissionsCsv.{submissions_csv}
+use Rattle.contest_cli_words.specs.CommandErrors.{line_of}
+use Rattle.contest_cli_words.specs.declared.command_error.CommandError.{CommandError}
+use Rattle.contest_cli_words.specs.declared.command_error.CommandError.TheVariants.{File}
+use Rattle.contest_cli_commands.specs.Printing.{IsStoreStop}
+
+-- `out` has the submissions of some contest which is this one, or a front of their text
+abbrev pub PutsOut : (Is : ContestState → Type 0) → (old new : Stream) → Type 0
+PutsOut Is old new = (x : ContestState) × Is x × Appends old.bytes new.bytes (submissions_csv x)
+
+abbrev pub PutsFront : (Is : ContestState → Type 0) → (old new : Stream) → Type 0
+PutsFront Is old new = (x : ContestState) × Is x × AppendsFront old.bytes new.bytes (submissions_csv x)
+
+-- what is told, by the status, while the disk is as `clean` says: 0 with the whole text on `out`; 1 with a line on `err` of
+-- the store's fault, of want of memory, or of `out`, which failed. Nothing is out then, or a front of the text
+pub record TellsExport (clean : Type 0) (Is : ContestState → Type 0) (out_old out_new err_old err_new : Stream) (status : ℕ) : Type 0 where
+  pub statuses : status ≤ 1
+  pub done : status ≡ 0 → (clean → PutsOut Is out_old out_new) × Keeps err_old.bytes err_new.bytes
+  pub refused : status ≡ 1 → (stop : CommandError) × Tells err_old err_new (line_of stop)
+      × (IsStoreStop stop ⊎ ((stop ≡ File) × Fails out_old out_new))
+      × (Keeps out_old.bytes out_new.bytes ⊎ (clean → PutsFront Is out_old out_new))
+
+-- how it ends: what is told is of the valid contest that the tables showed, and a crash leaves no more than it could
+-- before
+pub record Exports (out_old out_new err_old err_new : Stream) (old new : State) (status : ℕ) : Type 0 where
+  pub told : TellsExport (HasCleanDisk new) (λ x. contest_in_trees old.now.trees ≡ Some x) out_old out_new err_old err_new status
+  pub leaves : HasCleanDisk new → LeavesNoMore (may_leave_of old) (may_leave_of new)
+
+-- the same of a contest that a store keeps
+pub record ExportsKept (out_old out_new err_old err_new : Stream) (old new : Kept) (status : ℕ) : Type 0 where
+  pub told : TellsExport new.is_clean (λ x. x ≡ old.contest) out_old out_new err_old err_new status
+  pub crash : new.is_clean → LeavesNoMore old.may_leave new.may_leave
+  pub clean : new.is_clean → old.is_clean
