@@ -1,0 +1,140 @@
+#!/usr/bin/env -S python3 -B
+"""Holds what `desk awards` and `desk export` print beside what they must of a contest in a file.
+
+    desk_exports.py [--program PATH] [--made N] [--seed N]
+
+N made contests (120) of the demo contest's teams and problems, some of them with final results and some thawed: their awards,
+for anyone and for the jury, before and after each of these moments, and all their submissions. Then outputs that fail, and what
+is refused.
+
+Takes faketime. Ends with the line `N passed, M failed`; the exit status is 0 if M is 0.
+"""
+
+import concurrent.futures
+import csv
+import hashlib
+import io
+import json
+import os
+import random
+import sys
+
+from lib import clock, demo, desk_opinion, program
+from lib.demo import START
+from lib.desk_opinion import moment, submission_id
+from lib.program import FAULT, FILE, Program, refused
+from lib.replay_opinion import reltime_text
+from lib.sqlite import insert, opened
+
+FIELDS = ["id", "team_id", "problem_id", "language_id", "time", "contest_time", "judgement_type_id", "sha256"]
+MINUTE = 60_000
+END = START + demo.REHEARSAL["duration"]
+FINAL, THAW = END + 10 * MINUTE, END + 20 * MINUTE
+EMPTY = ",".join(FIELDS) + "\n"
+
+
+def made_contest(seed):
+    """A contest for the second opinion, with what was submitted and released."""
+    chance = random.Random(seed)
+    final = chance.random() < 0.7
+    thaw = THAW if final and chance.random() < 0.7 else None
+    contest = desk_opinion.new_contest(demo.REHEARSAL, START, thaw, FINAL if final else None)
+    contest["types"] = [{"penalty": False, **one} for one in json.loads(demo.FILES["judgement-types"])]
+    contest["problems"] = json.loads(demo.FILES["problems"])
+    contest["groups"] = json.loads(demo.FILES["groups"])
+    for row in csv.DictReader(io.StringIO(demo.FILES["teams-csv"])):
+        groups = row["group_ids"].split()
+        contest["teams"].append({"id": row["id"], "name": row["name"], "group_ids": groups, "hidden": row["hidden"] == "true"})
+    for team in contest["teams"]:
+        time = START
+        for number in range(1, chance.randrange(6) + 1):
+            time += chance.randrange(0, 50 * MINUTE)
+            one = {"team": team["id"], "number": number, "time": time, "problem": chance.choice("ab"), "file": chance.randbytes(chance.randrange(1, 40))}
+            one["language"], one["entry"] = chance.choice([("cpp", None), ("java", "Main")])
+            contest["submissions"].append(one)
+            if final or chance.random() < 0.7:
+                which = submission_id(contest, one)
+                contest["releases"].append(desk_opinion.first_release(time, which, chance.choice(["AC", "AC", "WA", "CE"])))
+    return contest
+
+
+def kept(desk, contest):
+    """A folder in which cup.db keeps the contest."""
+    folder = demo.made(desk, demo.FILES)
+    verdicts = {one["submission"]: one for one in contest["releases"]}
+    with opened(folder / "cup.db") as database:
+        released = 0
+        for seq, one in enumerate(contest["submissions"], 1):
+            place = desk_opinion.place_of(contest, one["team"])
+            row = (seq, place, one["number"], one["time"], one["problem"], one["language"], one["entry"], one["file"], None)
+            insert(database, "submissions", row)
+            verdict = verdicts.get(submission_id(contest, one))
+            if verdict is not None:
+                released += 1
+                insert(database, "proposals", (released, place, one["number"], verdict["type"], "j1", one["time"]))
+                insert(database, "releases", (released, place, one["number"], 1, verdict["type"], one["time"]))
+        database.execute("UPDATE contest SET thaw = ?, finalized = ?", (contest["thaw"], contest["finalized"]))
+    return folder
+
+
+def awards_text(contest, now, caller):
+    """A line for each award that the caller is shown."""
+    names = {team["id"]: team["name"] for team in contest["teams"]}
+    shown = desk_opinion.awards(contest, now, caller)
+    return "".join(f"{one['id']}: {one['citation']}: {', '.join(names[team] for team in one['team_ids'])}\n" for one in shown)
+
+
+def export_text(contest):
+    """All submissions, by time, team id and number."""
+    last = {one["submission"]: one["type"] for one in contest["releases"]}
+    text = io.StringIO()
+    writer = csv.writer(text, lineterminator="\n")
+    writer.writerow(FIELDS)
+    for one in sorted(contest["submissions"], key=lambda one: (one["time"], one["team"].encode(), one["number"])):
+        which = submission_id(contest, one)
+        writer.writerow([which, one["team"], one["problem"], one["language"], moment(one["time"]), reltime_text(one["time"] - START),
+                         last.get(which, ""), hashlib.sha256(one["file"]).hexdigest()])  # fmt: skip
+    return text.getvalue()
+
+
+def try_made(desk):
+    """Made contests, as each who may look is shown them."""
+
+    def one(index):
+        contest = made_contest(desk.options.seed * 1_000_000 + index)
+        folder = kept(desk, contest)
+        for now in (END - MINUTE, FINAL - 1, FINAL, THAW - 1, THAW):
+            for words, caller in (((), None), (("--jury",), {"role": "judge", "team": None})):
+                asked = ("awards", "cup.db", *words, "--at", moment(now))
+                desk.answers(f"contest {index}, {' '.join(asked)}", (0, awards_text(contest, now, caller), ""), folder, *asked)
+        desk.answers(f"contest {index}, export", (0, export_text(contest), ""), folder, "export", "cup.db")
+
+    with concurrent.futures.ThreadPoolExecutor(os.cpu_count() or 1) as pool:
+        list(pool.map(one, range(desk.options.made)))
+
+
+def try_refused(desk):
+    """Awards by the clock, a contest that hasn't begun, words, files and outputs at fault."""
+    contest = made_contest(1)
+    contest["finalized"], contest["thaw"] = FINAL, None
+    folder = kept(desk, contest)
+    then, jury = clock.at(clock.text_of(FINAL)), {"role": "judge", "team": None}
+    desk.answers("awards by the clock", (0, awards_text(contest, FINAL, jury), ""), folder, "awards", "cup.db", "--jury", before=then)
+    desk.answers("a clock before 1970", refused("Clock"), folder, "awards", "cup.db", before=clock.at("1960-01-01 00:00:00"))
+    no_moment = "error: '9:30' of '--at' is no moment, as 2024-03-02T10:30:00Z\n"
+    desk.answers("no moment", (2, "", no_moment), folder, "awards", "cup.db", "--at", "9:30")
+    for command in ("awards", "export"):
+        desk.answers("a file that keeps no contest", FAULT, folder, command, "none.db", before=then)
+        with open("/dev/full", "w", encoding="utf-8") as full:
+            words = (command, "cup.db", "--jury") if command == "awards" else (command, "cup.db")
+            desk.answers(f"{command} to an output that is full", FILE, folder, *words, before=then, stdout=full)
+        status, out, err = desk.run(folder, command, "cup.db", "more")
+        desk.same(f"{command} with a word more", (status, out, "more" in err), (2, "", True))
+    desk.answers("the export after that", (0, export_text(contest), ""), folder, "export", "cup.db")
+    unset = demo.made(desk, {**demo.FILES, "init": demo.CONTEST})
+    desk.answers("nothing to export", (0, EMPTY, ""), unset, "export", "cup.db")
+    desk.answers("nothing to award", (0, "", ""), unset, "awards", "cup.db", "--jury", before=then)
+
+
+if __name__ == "__main__":
+    sys.exit(program.main(__doc__, Program, (try_made, try_refused), program="desk", made=120, seed=42))
