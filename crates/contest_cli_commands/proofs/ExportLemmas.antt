@@ -1,16 +1,15 @@
 -- What is told of the submissions of a contest, and what is left then.
-use Rattle.std.proofs.Common.{◌≡◌, ◌∙◌, ap, sym, refl, inl, inr, ℕ, Some, Result, Ok, Err, arith}
+use Rattle.std.proofs.Common.{◌≡◌, ◌∙◌, ap, sym, inl, inr, ℕ, Some, Result, arith}
 use Rattle.std.specs.Prelude.{◌⊎◌}
 use Rattle.std.specs.Io.KnownBytes.{Keeps}
 use Rattle.sqlite.specs.State.{HasCleanDisk, State}
 use Rattle.contest_types.specs.State.{ContestState}
-use Rattle.contest_streams.specs.Streams.{AppendsFront, Fails, Stream, Tells}
+use Rattle.contest_streams.specs.Streams.{Fails, Stream, Tells}
 use Rattle.contest_store.specs.Keeping.{Kept, LeavesNoMore}
 use Rattle.contest_store.specs.declared.store_error.StoreError.{StoreError}
 use Rattle.contest_store_sqlite.specs.Contests.{contest_in_trees, may_leave_of}
 use Rattle.contest_store_sqlite.specs.Opening.{Opened}
 use Rattle.contest_desk.specs.Serving.{OnlyReads}
-use Rattle.contest_export.specs.SubmissionsCsv.{submissions_csv}
 use Rattle.contest_cli_words.specs.CommandErrors.{exit_status_of, line_of}
 use Rattle.contest_cli_words.specs.declared.command_error.CommandError.{CommandError}
 use Rattle.contest_cli_words.specs.declared.command_error.CommandError.TheVariants.{File}

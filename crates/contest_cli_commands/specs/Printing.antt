@@ -1,5 +1,5 @@
 -- How the commands end that print a text of a contest, `board` and `awards` (own).
-use Rattle.std.specs.Prelude.{◌≡◌, ◌≤◌, ◌⊎◌, ◌+◌, ℕ, List, Option, Some, None, map}
+use Rattle.std.specs.Prelude.{◌≡◌, ◌≤◌, ◌⊎◌, ℕ, List, Option, Some, None, map}
 use Rattle.std.specs.Io.KnownBytes.{Appends, Keeps}
 use Rattle.std.specs.Option.{option_and_then, option_map}
 use Rattle.sqlite.specs.State.{HasCleanDisk, State}

@@ -1,4 +1,4 @@
-use Rattle.std.proofs.Common.{◌≡◌, subst, sym}
+use Rattle.std.proofs.Common.{subst, sym}
 use Rattle.contest_types.specs.declared.refusal.Refusal.{Refusal}
 use Rattle.contest_cli_words.specs.declared.command_error.CommandError.TheVariants.{Refused}
 use Rattle.contest_cli_commands.specs.Printing.{IsStoreStop}

@@ -1,4 +1,4 @@
-use Rattle.std.proofs.Common.{◌≡◌, ap, inl, subst, sym}
+use Rattle.std.proofs.Common.{◌≡◌, inl, subst, sym}
 use Rattle.contest_types.specs.State.{ContestState}
 use Rattle.contest_cli_words.specs.declared.command_error.CommandError.{CommandError}
 use Rattle.contest_cli_words.specs.declared.command_error.CommandError.TheVariants.{Refused}
