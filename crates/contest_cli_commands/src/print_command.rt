@@ -169,11 +169,7 @@ fn awards_seen<S: ContestStore>(
 }
 
 // The error is want of memory.
-fn awards_written(
-    alloc: Global,
-    settings: &Settings,
-    awards: &[Award],
-) -> Result<Vec<u8>, Refusal>
+fn awards_written(alloc: Global, settings: &Settings, awards: &[Award]) -> Result<Vec<u8>, Refusal>
     ensures text { IfOk result (λ text. text.items ≡ awards_text settings.now awards.now) }
     ensures err { IfErr result (λ e. e ≡ Refusal.Memory) }
 {

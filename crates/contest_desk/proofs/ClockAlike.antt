@@ -42,6 +42,6 @@ pub start_alike : (a : Audience) (x y : ContestState) (start : Option ℕ) → A
 start_alike a x y start h can can_too = record {
   fixed = fixed_after x y (SetStart start) h.fixed;
   teams = λ team. none_seen a (add x (SetStart start)) team (none_stands x start can)
-    ∙ (ap (λ (f : FixedPart). sight_of_none a team f.settings) h.fixed ∙ sym (none_seen a (add y (SetStart start)) team (none_stands y start can_too)));
+      ∙ (ap (λ (f : FixedPart). sight_of_none a team f.settings) h.fixed ∙ sym (none_seen a (add y (SetStart start)) team (none_stands y start can_too)));
   told = h.told;
 }

@@ -47,10 +47,7 @@ pub type LastPlaces = HashMap<(usize, usize), usize>;
 /// # Errors
 ///
 /// Want of memory alone.
-pub fn last_places<R: OnSubmission>(
-    alloc: Global,
-    rows: &[R],
-) -> Result<LastPlaces, AllocError>
+pub fn last_places<R: OnSubmission>(alloc: Global, rows: &[R]) -> Result<LastPlaces, AllocError>
     ensures { IfOk result (λ last. (team number : ℕ) → last_in rows.now last team number ≡ last_row R.of rows.now team number) }
 {
     let mut last = HashMap::new(alloc);
