@@ -29,7 +29,7 @@ has() {
 # A request of a team, a judge, the director or anyone, which has to be answered so; the reply stands in `reply`.
 ask() {
     local who=$1 method=$2 path=$3 body=$4 wanted=$5
-    local words=(-s -w ' %{http_code}' -X "$method")
+    local words=(-s -m 20 -w ' %{http_code}' -X "$method")
     [ "$who" = anyone ] || words+=(-H "Authorization: Bearer example-$who")
     [ -z "$body" ] || words+=(-H 'Content-Type: application/json' -d "$body")
     reply=$(curl "${words[@]}" "http://127.0.0.1:$port$path")
@@ -69,7 +69,10 @@ runs 'added 5' import cup.db teams-csv "$cup/teams.csv"
 runs 'added 8' import cup.db accounts-csv "$cup/accounts.csv"
 "$desk" serve cup.db --requests 1000000 --port 0 >port &
 server=$!
-until grep -q listening port; do sleep 0.1; done
+for _ in $(seq 100); do
+    grep -q listening port && break
+    sleep 0.1
+done
 port=$(sed 's/.*://' port)
 here=/contests/riverside
 program='{"problem_id":"anchors","language_id":"cpp","files":[{"data":"YWJj"}]}'
