@@ -27,10 +27,10 @@ use Rattle.contest_objects.proofs.ListingLemmas.{sorted_unmap, unmap}
 use Rattle.contest_objects.proofs.Sorting.{moved_has, rises}
 use Rattle.contest_view.specs.Rows.{row_cmp, row_total}
 use Rattle.contest_view.proofs.SeenApart.{rows_apart}
-use Rattle.contest_export.specs.Exports.{numbers_of}
+use Rattle.contest_export.specs.Walks.{all_in_order, numbers_of}
 
 -- no two submissions of a valid contest tie
-no_ties : (x : ContestState) → is_valid x ≡ true → (s t : Submission) → Has x.submissions s → Has x.submissions t → row_cmp x.fixed.settings t s ≡ Equal → t ≡ s
+pub no_ties : (x : ContestState) → is_valid x ≡ true → (s t : Submission) → Has x.submissions s → Has x.submissions t → row_cmp x.fixed.settings t s ≡ Equal → t ≡ s
 no_ties x valid s t hs ht e =
     let rest = (both_equal _ _ e).1 in
     let ids = exact_bytes _ _ (both_equal _ _ rest).0 in
@@ -39,7 +39,7 @@ no_ties x valid s t hs ht e =
 
 -- which submissions the loaded rows are, sorted, is which those of the contest are in their order
 pub ordered : (x lists : ContestState) (rows : List Submission) → is_valid x ≡ true → lists ≡ loaded x → IsPermutation lists.submissions rows → IsSorted (row_cmp lists.fixed.settings) rows
-    → map numbers_of rows ≡ map numbers_of (in_order (row_cmp x.fixed.settings) x.submissions)
+    → map numbers_of rows ≡ map numbers_of (all_in_order x)
 ordered x lists rows valid read moved sorted =
     let R = row_cmp x.fixed.settings in
     let total = row_total x.fixed.settings in

@@ -1,4 +1,6 @@
 pub mod ExportOrder
-pub mod ExportRows
+pub mod WalkRows
 pub mod ExportReads
 pub mod ExportWritten
+pub mod ExportLaws
+mod ExamplesExport

@@ -1,17 +1,12 @@
 -- What an export leaves (own).
-use Rattle.std.specs.Prelude.{◌≡◌, ℕ, List, [], map, find, Result, Ok, Err}
-use Rattle.std.specs.HashMap.{HashMap}
+use Rattle.std.specs.Prelude.{ℕ, List, [], slice_get, Result, Ok, Err}
 use Rattle.std.specs.Io.KnownBytes.{Appends}
 use Rattle.std.specs.Option.{option_map_or}
-use Rattle.contest_types.specs.Order.{in_order}
-use Rattle.contest_types.specs.State.{ContestState, names, of_release, of_submission}
-use Rattle.contest_types.specs.declared.submission.Release.{Release}
-use Rattle.contest_types.specs.declared.submission.Submission.{Submission}
+use Rattle.contest_types.specs.State.{ContestState}
 use Rattle.contest_streams.specs.Streams.{AppendsFront, Fails, Stream}
 use Rattle.contest_store.specs.declared.store_error.StoreError.{StoreError}
-use Rattle.contest_view.specs.LastRows.{last_in, last_row}
-use Rattle.contest_view.specs.Rows.{row_cmp}
 use Rattle.contest_export.specs.SubmissionsCsv.{record_of}
+use Rattle.contest_export.specs.Walks.{all_in_order}
 use Rattle.contest_export.specs.declared.export.ExportFault.{ExportFault}
 use Rattle.contest_export.specs.declared.export.ExportFault.TheVariants.{Write, Store}
 
@@ -32,21 +27,8 @@ FailsIfWrite (Ok done) old new = Unit {0}
 FailsIfWrite (Err Write) old new = Fails old new
 FailsIfWrite (Err (Store error)) old new = Unit {0}
 
--- Words of private functions, from here on: nothing public is said with them.
+-- A word of private functions: nothing public is said with it.
 
--- which submission it is
-abbrev pub numbers_of : Submission → ℕ × ℕ
-numbers_of s = (s.team, s.number)
-
--- the record of the submission with these numbers, if there is one
-abbrev pub row_at : ContestState → ℕ × ℕ → List ℕ
-row_at x numbers = option_map_or (record_of x) (find (λ s. names numbers.0 numbers.1 (of_submission s)) x.submissions) []
-
--- a map has where the last release on each submission stands
-abbrev pub AreLast : {H : Type 0} → HashMap (ℕ × ℕ) ℕ H → List Release → Type 0
-AreLast last vs = (team number : ℕ) → last_in vs last team number ≡ last_row of_release vs team number
-
--- what is to be written of a contest: its submissions in their order, by their numbers
-pub record Plans {H : Type 0} (order : List (ℕ × ℕ)) (last : HashMap (ℕ × ℕ) ℕ H) (x : ContestState) : Type 0 where
-  pub order_is : order ≡ map numbers_of (in_order (row_cmp x.fixed.settings) x.submissions)
-  pub last_are : AreLast last x.releases
+-- the record of the next submission of a walk; nothing at its end
+abbrev pub next_record : ContestState → (given : ℕ) → List ℕ
+next_record x given = option_map_or (record_of x) (slice_get (all_in_order x) given) []

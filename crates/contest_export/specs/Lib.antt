@@ -1,2 +1,4 @@
+pub mod Walks
 pub mod SubmissionsCsv
 pub mod Exports
+pub mod Laws

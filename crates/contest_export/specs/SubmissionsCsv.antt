@@ -7,7 +7,6 @@ use Rattle.csv.specs.Writing.{default_writer, row_text}
 use Rattle.hex.specs.Hex.{encode_lower}
 use Rattle.sha2.specs.Sha256.{sha256}
 use Rattle.contest_types.specs.MomentText.{moment_text}
-use Rattle.contest_types.specs.Order.{in_order}
 use Rattle.contest_types.specs.ProblemPlaces.{problem_id_at}
 use Rattle.contest_types.specs.RelTimeText.{rel_time_text}
 use Rattle.contest_types.specs.SettingsNames.{language_id_at, type_id_at}
@@ -17,7 +16,7 @@ use Rattle.contest_types.specs.TeamPlaces.{team_id_at}
 use Rattle.contest_types.specs.VisibleIds.{submission_id}
 use Rattle.contest_types.specs.declared.submission.Release.{Release}
 use Rattle.contest_types.specs.declared.submission.Submission.{Submission}
-use Rattle.contest_view.specs.Rows.{row_cmp}
+use Rattle.contest_export.specs.Walks.{all_in_order}
 
 -- the names of the fields
 abbrev pub header_fields : List (List ℕ)
@@ -35,24 +34,27 @@ contest_time_text start time = option_map_or (λ s. rel_time_text (pos time -ℤ
 abbrev pub type_text : Setup → (released : Option ℕ) → List ℕ
 type_text s released = option_map_or (type_id_at s) released []
 
--- a submission with this file, whose last release has this judgement type: its id, its team's, problem's and language's, its
--- time, that since the start, the type, and the digest of the file (FIPS 180-4) in hexadecimal
-abbrev pub submission_fields : FixedPart → (released : Option ℕ) → (file : List ℕ) → Submission → List (List ℕ)
-submission_fields f released file s =
+-- a submission whose last release has this judgement type: its id, its team's, problem's and language's, its time, that since the
+-- start, the type, and the digest of its file (FIPS 180-4) in hexadecimal
+abbrev pub submission_fields : FixedPart → (released : Option ℕ) → Submission → List (List ℕ)
+submission_fields f released s =
     submission_id s.team s.number ∷ team_id_at f.settings s.team ∷ problem_id_at f.settings.problems s.problem ∷ language_id_at f.settings s.language
-    ∷ moment_text s.time ∷ contest_time_text f.marks.start s.time ∷ type_text f.settings released ∷ encode_lower (sha256 file) ∷ []
+    ∷ moment_text s.time ∷ contest_time_text f.marks.start s.time ∷ type_text f.settings released ∷ encode_lower (sha256 s.file) ∷ []
 
-abbrev pub submission_record : FixedPart → (released : Option ℕ) → (file : List ℕ) → Submission → List ℕ
-submission_record f released file s = row_text default_writer (submission_fields f released file s)
+abbrev pub submission_record : FixedPart → (released : Option ℕ) → Submission → List ℕ
+submission_record f released s = row_text default_writer (submission_fields f released s)
 
 -- the judgement type of the last release on a submission, by its place, if it has one
 abbrev pub last_type : List Release → (team number : ℕ) → Option ℕ
 last_type vs team number = option_map (λ (v : Release). v.verdict) (last_or None (releases_on team number vs))
 
--- the record of a submission of a contest
+-- the fields of a submission of a contest, and its record
+abbrev pub fields_of : ContestState → Submission → List (List ℕ)
+fields_of x s = submission_fields x.fixed (last_type x.releases s.team s.number) s
+
 abbrev pub record_of : ContestState → Submission → List ℕ
-record_of x s = submission_record x.fixed (last_type x.releases s.team s.number) s.file s
+record_of x s = submission_record x.fixed (last_type x.releases s.team s.number) s
 
 -- the whole text: all submissions, by time, team id and number
 abbrev pub submissions_csv : ContestState → List ℕ
-submissions_csv x = header ++ flat_map (record_of x) (in_order (row_cmp x.fixed.settings) x.submissions)
+submissions_csv x = header ++ flat_map (record_of x) (all_in_order x)

@@ -1,23 +1,20 @@
 //! The export of all submissions.
-ghost use Rattle.std.specs.Prelude.{◌≡◌, ◌++◌, true, IfErr, IfOk, IsTrue, Ok, OnOk, find};
+ghost use Rattle.std.specs.Prelude.{◌≡◌, IfErr, IfOk, IsTrue, Ok, OnOk, length};
 ghost use Rattle.std.specs.List.{flat_map};
-ghost use Rattle.std.specs.Option.{option_map};
-ghost use Rattle.contest_types.specs.Loads.{file_of, without_file};
-ghost use Rattle.contest_types.specs.State.{ContestState, names, of_submission};
-ghost use Rattle.contest_types.specs.Valid.{is_valid};
+ghost use Rattle.contest_types.specs.State.{ContestState};
 ghost use Rattle.contest_streams.specs.Streams.{stream};
 ghost use Rattle.contest_lists.specs.Lists.{loaded};
 ghost use Rattle.contest_desk.specs.Serving.{IsReady, IsSettled, OnlyReads};
-ghost use Rattle.contest_export.specs.Exports.{AreLast, FailsIfWrite, Plans, Writes, of_store, row_at};
-ghost use Rattle.contest_export.specs.SubmissionsCsv.{header, last_type, submissions_csv};
+ghost use Rattle.contest_export.specs.Exports.{FailsIfWrite, Writes, next_record, of_store};
+ghost use Rattle.contest_export.specs.SubmissionsCsv.{header, last_type, record_of, submissions_csv};
+ghost use Rattle.contest_export.specs.Walks.{IsOver, all_in_order, given_by, order_in, stepped};
 
-use crate::order::{Numbers, order_of};
+use crate::Walk;
 use crate::record::{header, submission_record};
 use contest_lists::Lists;
 use contest_store::{ContestStore, StoreError};
 use contest_streams::{Counted, write_all};
-use contest_types::{Release, Rows, Submission};
-use contest_view::{LastPlaces, last_on, last_places};
+use contest_types::Submission;
 use std::alloc::{AllocError, Global};
 use std::io::Write;
 
@@ -48,56 +45,28 @@ pub fn submissions_csv<S: ContestStore, W: Write>(
     ensures fault { FailsIfWrite result (stream W.contents out.old) (stream W.contents out.new) }
     ensures leaves { OnlyReads (of_store result) (S.kept store.old) (S.kept store.new) }
 {
-    match read_plan(alloc, store) {
-        Ok(plan) => write_plan(alloc, store, &plan, out),
+    match Walk::begin(alloc, store) {
+        Ok(mut walk) => write_walk(alloc, store, &mut walk, out),
         Err(error) => Err(ExportFault::Store(error)),
     }
 }
 
-/// What is to be written.
-#[derive(Drop)]
-struct Plan {
-    /// Which submissions, in their order.
-    order: Vec<Numbers>,
-    /// Where the last release on each stands.
-    last: LastPlaces,
-}
-
-fn read_plan<S: ContestStore>(alloc: Global, store: &mut S) -> Result<Plan, StoreError>
-    requires { IsSettled (S.kept store.old) }
-    ensures planned { (S.kept store.new).is_clean → IfOk result (λ plan. Plans plan.order.items plan.last (S.kept store.old).contest) }
-    ensures loaded { OnOk result (IsTrue (S.kept store.new).is_loaded) }
-    ensures leaves { OnlyReads result (S.kept store.old) (S.kept store.new) }
-{
-    store.load(alloc)?;
-    let plan = plan_in(alloc, store.lists())?;
-    Ok(plan)
-}
-
-// The same over the lists.
-fn plan_in(alloc: Global, lists: &Lists) -> Result<Plan, AllocError>
-    ensures { IfOk result (λ plan. (x : ContestState) → is_valid x ≡ true → lists.now ≡ loaded x → Plans plan.order.items plan.last x) }
-{
-    let order = order_of(alloc, lists)?;
-    let last = last_places(alloc, lists.releases())?;
-    Ok(Plan { order, last })
-}
-
-fn write_plan<S: ContestStore, W: Write>(
+fn write_walk<S: ContestStore, W: Write>(
     alloc: Global,
     store: &mut S,
-    plan: &Plan,
+    walk: &mut Walk,
     out: &mut Counted<W>,
 ) -> Result<(), ExportFault>
     requires loaded { IsTrue (S.kept store.old).is_loaded }
     requires ready { (S.kept store.old).is_clean → IsReady (S.kept store.old) }
-    requires last { (S.kept store.old).is_clean → AreLast plan.now.last (S.kept store.old).contest.releases }
-    ensures written { (S.kept store.new).is_clean → Writes result (stream W.contents out.old) (stream W.contents out.new) (header ++ flat_map (row_at (S.kept store.old).contest) plan.now.order.items) }
+    requires over { (S.kept store.old).is_clean → IsOver walk.old (S.kept store.old).contest }
+    requires first { given_by walk.old ≡ 0 }
+    ensures written { (S.kept store.new).is_clean → Writes result (stream W.contents out.old) (stream W.contents out.new) (submissions_csv (S.kept store.old).contest) }
     ensures fault { FailsIfWrite result (stream W.contents out.old) (stream W.contents out.new) }
     ensures leaves { OnlyReads (of_store result) (S.kept store.old) (S.kept store.new) }
 {
     write_header(alloc, out)?;
-    write_rows(alloc, store, plan, out)
+    write_rows(alloc, store, walk, out)
 }
 
 fn write_header<W: Write>(alloc: Global, out: &mut Counted<W>) -> Result<(), ExportFault>
@@ -112,43 +81,66 @@ fn write_header<W: Write>(alloc: Global, out: &mut Counted<W>) -> Result<(), Exp
     }
 }
 
+// All that the walk gives from its beginning.
 fn write_rows<S: ContestStore, W: Write>(
     alloc: Global,
     store: &mut S,
-    plan: &Plan,
+    walk: &mut Walk,
     out: &mut Counted<W>,
 ) -> Result<(), ExportFault>
     requires loaded { IsTrue (S.kept store.old).is_loaded }
     requires ready { (S.kept store.old).is_clean → IsReady (S.kept store.old) }
-    requires last { (S.kept store.old).is_clean → AreLast plan.now.last (S.kept store.old).contest.releases }
-    ensures written { (S.kept store.new).is_clean → Writes result (stream W.contents out.old) (stream W.contents out.new) (flat_map (row_at (S.kept store.old).contest) plan.now.order.items) }
+    requires over { (S.kept store.old).is_clean → IsOver walk.old (S.kept store.old).contest }
+    requires first { given_by walk.old ≡ 0 }
+    ensures written { (S.kept store.new).is_clean → Writes result (stream W.contents out.old) (stream W.contents out.new) (flat_map (record_of (S.kept store.old).contest) (all_in_order (S.kept store.old).contest)) }
     ensures fault { FailsIfWrite result (stream W.contents out.old) (stream W.contents out.new) }
     ensures leaves { OnlyReads (of_store result) (S.kept store.old) (S.kept store.new) }
 {
-    for numbers in &plan.order {
-        write_row(alloc, store, &plan.last, *numbers, out)?;
+    for _ in 0..walk.len() {
+        write_next(alloc, store, walk, out)?;
     }
     Ok(())
 }
 
-fn write_row<S: ContestStore, W: Write>(
+// The next that the walk gives.
+fn write_next<S: ContestStore, W: Write>(
     alloc: Global,
     store: &mut S,
-    last: &LastPlaces,
-    numbers: Numbers,
+    walk: &mut Walk,
     out: &mut Counted<W>,
 ) -> Result<(), ExportFault>
     requires loaded { IsTrue (S.kept store.old).is_loaded }
     requires ready { (S.kept store.old).is_clean → IsReady (S.kept store.old) }
-    requires last { (S.kept store.old).is_clean → AreLast last.now (S.kept store.old).contest.releases }
-    ensures written { (S.kept store.new).is_clean → Writes result (stream W.contents out.old) (stream W.contents out.new) (row_at (S.kept store.old).contest numbers) }
+    requires over { (S.kept store.old).is_clean → IsOver walk.old (S.kept store.old).contest }
+    ensures written { (S.kept store.new).is_clean → Writes result (stream W.contents out.old) (stream W.contents out.new) (next_record (S.kept store.old).contest (given_by walk.old)) }
+    ensures order { order_in walk.new ≡ order_in walk.old }
+    ensures counts { OnOk result (given_by walk.new ≡ stepped (length (order_in walk.old)) (given_by walk.old)) }
     ensures fault { FailsIfWrite result (stream W.contents out.old) (stream W.contents out.new) }
     ensures calm { OnOk result (out.new.faults ≡ out.old.faults) }
     ensures leaves { OnlyReads (of_store result) (S.kept store.old) (S.kept store.new) }
 {
-    match row_at(alloc, store, last, numbers) {
-        Ok(row) => send(out, &row),
+    match walk.next(alloc, store) {
+        Ok(Some(submission)) => write_row(alloc, store.lists(), &submission, out),
+        Ok(None) => Ok(()),
         Err(error) => Err(ExportFault::Store(error)),
+    }
+}
+
+fn write_row<W: Write>(
+    alloc: Global,
+    lists: &Lists,
+    submission: &Submission,
+    out: &mut Counted<W>,
+) -> Result<(), ExportFault>
+    ensures written { (x : ContestState) → lists.now ≡ loaded x → Writes result (stream W.contents out.old) (stream W.contents out.new) (record_of x submission.now) }
+    ensures fault { FailsIfWrite result (stream W.contents out.old) (stream W.contents out.new) }
+    ensures calm { OnOk result (out.new.faults ≡ out.old.faults) }
+    ensures memory { IfErr (of_store result) (λ e. e ≡ StoreError.Memory) }
+{
+    let released = last_type(lists, submission);
+    match submission_record(alloc, lists.fixed(), released, submission) {
+        Ok(row) => send(out, &row),
+        Err(AllocError) => Err(ExportFault::Store(StoreError::Memory)),
     }
 }
 
@@ -165,58 +157,10 @@ fn send<W: Write>(out: &mut Counted<W>, bytes: &[u8]) -> Result<(), ExportFault>
     }
 }
 
-// The record of the submission with these numbers.
-fn row_at<S: ContestStore>(
-    alloc: Global,
-    store: &mut S,
-    last: &LastPlaces,
-    numbers: Numbers,
-) -> Result<Vec<u8>, StoreError>
-    requires loaded { IsTrue (S.kept store.old).is_loaded }
-    requires ready { (S.kept store.old).is_clean → IsReady (S.kept store.old) }
-    requires last { (S.kept store.old).is_clean → AreLast last.now (S.kept store.old).contest.releases }
-    ensures row { (S.kept store.new).is_clean → IfOk result (λ row. row.items ≡ row_at (S.kept store.old).contest numbers) }
-    ensures leaves { OnlyReads result (S.kept store.old) (S.kept store.new) }
-{
-    let (team, number) = numbers;
-    let file = store.file(alloc, team, number)?;
-    let row = row_in(alloc, store.lists(), last, numbers, file)?;
-    Ok(row)
-}
-
-// The same over the lists, with the submission's file.
-fn row_in(
-    alloc: Global,
-    lists: &Lists,
-    last: &LastPlaces,
-    numbers: Numbers,
-    file: Option<Rows<u8>>,
-) -> Result<Vec<u8>, AllocError>
-    ensures { (x : ContestState) → is_valid x ≡ true → lists.now ≡ loaded x → AreLast last.now x.releases → file ≡ file_of x numbers.0 numbers.1
-        → IfOk result (λ row. row.items ≡ row_at x numbers) }
-{
-    match (submission_at(lists, numbers), file) {
-        (Some(submission), Some(file)) => {
-            let released = last_type(lists.releases(), last, numbers);
-            submission_record(alloc, lists.fixed(), released, file.as_slice(), submission)
-        }
-        _ => Ok(Vec::new(alloc)),
-    }
-}
-
-fn submission_at(lists: &Lists, numbers: Numbers) -> Option<&Submission>
-    ensures { (x : ContestState) → is_valid x ≡ true → lists.now ≡ loaded x
-        → option_map (λ s. s.now) result ≡ option_map without_file (find (λ s. names numbers.0 numbers.1 (of_submission s)) x.submissions) }
-{
-    let (team, number) = numbers;
-    lists.submission_of(team, number.checked_sub(1)?)
-}
-
 // The judgement type of the last release on a submission, by its place, if it has one.
-fn last_type(releases: &[Release], last: &LastPlaces, numbers: Numbers) -> Option<usize>
-    ensures { AreLast last.now releases.now → result ≡ last_type releases.now numbers.0 numbers.1 }
+fn last_type(lists: &Lists, submission: &Submission) -> Option<usize>
+    ensures { result ≡ last_type lists.now.releases submission.now.team submission.now.number }
 {
-    let (team, number) = numbers;
-    let release = last_on(releases, last, team, number)?;
+    let release = lists.last_release(submission.team, submission.number)?;
     Some(release.verdict)
 }

@@ -2,7 +2,10 @@
 #![tactic(auto)]
 
 mod export;
+pub mod laws;
 mod order;
 mod record;
+mod walk;
 
 pub use export::{ExportFault, submissions_csv};
+pub use walk::Walk;

@@ -1,11 +1,10 @@
 //! Which submissions there are, in the order in which they are listed.
 ghost use Rattle.std.specs.Prelude.{◌≡◌, true, IfOk, IsPermutation, IsSorted, map};
-ghost use Rattle.contest_types.specs.Order.{in_order};
 ghost use Rattle.contest_types.specs.State.{ContestState};
 ghost use Rattle.contest_types.specs.Valid.{is_valid};
 ghost use Rattle.contest_lists.specs.Lists.{loaded};
 ghost use Rattle.contest_view.specs.Rows.{row_cmp};
-ghost use Rattle.contest_export.specs.Exports.{numbers_of};
+ghost use Rattle.contest_export.specs.Walks.{all_in_order, numbers_of};
 
 use contest_lists::Lists;
 use contest_objects::refs;
@@ -22,7 +21,7 @@ pub(crate) type Numbers = (usize, usize);
 ///
 /// Want of memory alone.
 pub(crate) fn order_of(alloc: Global, lists: &Lists) -> Result<Vec<Numbers>, AllocError>
-    ensures { (x : ContestState) → is_valid x ≡ true → lists.now ≡ loaded x → IfOk result (λ order. order.items ≡ map numbers_of (in_order (row_cmp x.fixed.settings) x.submissions)) }
+    ensures { (x : ContestState) → is_valid x ≡ true → lists.now ≡ loaded x → IfOk result (λ order. order.items ≡ map numbers_of (all_in_order x)) }
 {
     let rows = sorted(alloc, lists)?;
     numbers(alloc, &rows)

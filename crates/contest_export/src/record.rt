@@ -47,8 +47,8 @@ fn header_fields(alloc: Global) -> Result<ByteRecord, AllocError>
     Ok(fields)
 }
 
-/// The record of a submission with this file, whose last release has the judgement type at a place, from
-/// 0, if it has a release.
+/// The record of a submission whose last release has the judgement type at a place, from 0, if it has a
+/// release.
 ///
 /// # Errors
 ///
@@ -57,12 +57,11 @@ pub(crate) fn submission_record(
     alloc: Global,
     fixed: &Fixed,
     released: Option<usize>,
-    file: &[u8],
     submission: &Submission,
 ) -> Result<Vec<u8>, AllocError>
-    ensures { IfOk result (λ text. text.items ≡ submission_record fixed.now released file.now submission.now) }
+    ensures { IfOk result (λ text. text.items ≡ submission_record fixed.now released submission.now) }
 {
-    let digest = hex::encode(alloc, Sha256::digest(file))?;
+    let digest = hex::encode(alloc, Sha256::digest(submission.file.as_slice()))?;
     let verdict = [type_text(&fixed.settings, released), digest.as_str()];
     let mut fields = ByteRecord::new(alloc);
     push_names(&mut fields, &fixed.settings, submission)?;

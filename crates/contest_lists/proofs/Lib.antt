@@ -4,3 +4,4 @@ pub mod FixedAlone
 pub mod FixedLemmas
 pub mod ChangeLemmas
 pub mod TeamRowLemmas
+pub mod RowIndexLemmas

@@ -1,2 +1,4 @@
 pub mod Lists
 pub mod TeamRows
+pub mod RowsOn
+pub mod RowIndex

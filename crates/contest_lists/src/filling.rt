@@ -2,6 +2,7 @@
 ghost use Rattle.std.specs.Prelude.{◌≡◌, OnOk, OnErr};
 
 use crate::Lists;
+use crate::indexed_rows::IndexedRows;
 use crate::indexed_submissions::IndexedSubmissions;
 use contest_types::{Clarification, Proposal, Rejudging, Release, Rows, Submission};
 use std::alloc::{AllocError, Global};
@@ -25,17 +26,29 @@ impl Lists {
     }
 
     /// Puts proposals in place of those that stand.
-    pub fn put_proposals(&mut self, rows: Rows<Proposal>)
-        ensures { self.new ≡ record self.old { proposals = rows } }
+    ///
+    /// # Errors
+    ///
+    /// Want of memory alone. The lists are then as before.
+    pub fn put_proposals(&mut self, alloc: Global, rows: Rows<Proposal>) -> Result<(), AllocError>
+        ensures ok { OnOk result (self.new ≡ record self.old { proposals = rows }) }
+        ensures err { OnErr result (self.new ≡ self.old) }
     {
-        self.proposals = rows.into_vec();
+        self.proposals = IndexedRows::from_rows(alloc, rows)?;
+        Ok(())
     }
 
     /// Puts releases in place of those that stand.
-    pub fn put_releases(&mut self, rows: Rows<Release>)
-        ensures { self.new ≡ record self.old { releases = rows } }
+    ///
+    /// # Errors
+    ///
+    /// Want of memory alone. The lists are then as before.
+    pub fn put_releases(&mut self, alloc: Global, rows: Rows<Release>) -> Result<(), AllocError>
+        ensures ok { OnOk result (self.new ≡ record self.old { releases = rows }) }
+        ensures err { OnErr result (self.new ≡ self.old) }
     {
-        self.releases = rows.into_vec();
+        self.releases = IndexedRows::from_rows(alloc, rows)?;
+        Ok(())
     }
 
     /// Puts clarifications in place of those that stand.

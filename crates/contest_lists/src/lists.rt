@@ -1,14 +1,16 @@
 //! The lists of a contest in memory.
 ghost use Rattle.std.specs.Prelude.{◌≡◌, ◌<◌, ◌≤◌, ◌+◌, ◌⊎◌, ◌++◌, ◌∷◌, List, [], All, IfOk, IfNone, IfSome, OnOk, OnErr, length, option_map, slice_get, slice_set, Some, true};
 ghost use Rattle.contest_types.specs.Addable.{is_addable};
-ghost use Rattle.contest_types.specs.State.{add, changed_at, submissions_of, with_member_state};
+ghost use Rattle.contest_types.specs.State.{add, changed_at, of_proposal, of_release, submissions_of, with_member_state};
 ghost use Rattle.contest_types.specs.declared.submission.Submission.{Submission};
 ghost use Rattle.contest_types.specs.declared.rejudging.Member.{Member as TheMember};
 ghost use Rattle.contest_types.specs.declared.rejudging.Rejudging.{Rejudging as TheRejudging};
 ghost use Rattle.contest_lists.specs.Lists.{filed, places_of, unfiled, with_submissions};
+ghost use Rattle.contest_lists.specs.RowsOn.{count_on, last_row};
 
 use crate::copies::{CopyRow, copies, without_file};
 use crate::fixed_changes::changed_fixed;
+use crate::indexed_rows::IndexedRows;
 use crate::indexed_submissions::IndexedSubmissions;
 use contest_types::{
     Clarification, Entry, Fixed, Member, MemberState, Proposal, Rejudging, RejudgingState, Release,
@@ -25,8 +27,8 @@ use std::rc::Rc;
 pub struct Lists {
     pub(crate) fixed: Rc<Fixed>,
     pub(crate) submissions: IndexedSubmissions,
-    pub(crate) proposals: Vec<Proposal>,
-    pub(crate) releases: Vec<Release>,
+    pub(crate) proposals: IndexedRows<Proposal>,
+    pub(crate) releases: IndexedRows<Release>,
     pub(crate) clarifications: Vec<Clarification>,
     pub(crate) rejudgings: Vec<Rejudging>,
 }
@@ -39,8 +41,8 @@ impl Model for Lists {
     ghost view = { λ l. record {
       fixed = l.fixed.value;
       submissions = l.submissions;
-      proposals = l.proposals.items;
-      releases = l.releases.items;
+      proposals = l.proposals;
+      releases = l.releases;
       clarifications = l.clarifications.items;
       rejudgings = l.rejudgings.items;
     } };
@@ -54,8 +56,8 @@ impl Lists {
         Lists {
             fixed,
             submissions: IndexedSubmissions::new(alloc),
-            proposals: Vec::new(alloc),
-            releases: Vec::new(alloc),
+            proposals: IndexedRows::new(alloc),
+            releases: IndexedRows::new(alloc),
             clarifications: Vec::new(alloc),
             rejudgings: Vec::new(alloc),
         }
@@ -99,6 +101,42 @@ impl Lists {
         self.proposals.as_slice()
     }
 
+    /// How many verdicts were proposed for the submission with a number, from 1, of the team at a place, from
+    /// 0. It is as quick whatever was proposed for others; so are the next four.
+    pub fn proposals_for(&self, team: usize, number: usize) -> usize
+        ensures { result ≡ count_on of_proposal self.now.proposals team number }
+    {
+        self.proposals.count_on(team, number)
+    }
+
+    /// The last verdict that was proposed for it, if one was.
+    pub fn last_proposal(&self, team: usize, number: usize) -> Option<&Proposal>
+        ensures { option_map (λ p. p.now) result ≡ last_row of_proposal self.now.proposals team number }
+    {
+        self.proposals.last_on(team, number)
+    }
+
+    /// How many verdicts were released on it.
+    pub fn releases_on(&self, team: usize, number: usize) -> usize
+        ensures { result ≡ count_on of_release self.now.releases team number }
+    {
+        self.releases.count_on(team, number)
+    }
+
+    /// The round of the next release on it, from 1.
+    pub fn next_round(&self, team: usize, number: usize) -> usize
+        ensures { result ≡ count_on of_release self.now.releases team number + 1 }
+    {
+        self.releases.next_on(team, number)
+    }
+
+    /// The last verdict that was released on it, if one was.
+    pub fn last_release(&self, team: usize, number: usize) -> Option<&Release>
+        ensures { option_map (λ r. r.now) result ≡ last_row of_release self.now.releases team number }
+    {
+        self.releases.last_on(team, number)
+    }
+
     /// The verdicts that were released.
     pub fn releases(&self) -> &[Release]
         ensures { result.now ≡ self.now.releases }
@@ -131,8 +169,8 @@ impl Lists {
         Ok(Lists {
             fixed: self.fixed.clone()?,
             submissions: self.submissions.copied(alloc)?,
-            proposals: copies(alloc, &self.proposals)?,
-            releases: copies(alloc, &self.releases)?,
+            proposals: self.proposals.copied(alloc)?,
+            releases: self.releases.copied(alloc)?,
             clarifications: copies(alloc, &self.clarifications)?,
             rejudgings: copies(alloc, &self.rejudgings)?,
         })
@@ -149,8 +187,8 @@ impl Lists {
     {
         match entry {
             Entry::NewSubmission(row) => self.submissions.push(without_file(alloc, row)?),
-            Entry::NewProposal(row) => push(&mut self.proposals, row.copied(alloc)?),
-            Entry::NewRelease(row) => push(&mut self.releases, *row),
+            Entry::NewProposal(row) => self.proposals.push(row.copied(alloc)?),
+            Entry::NewRelease(row) => self.releases.push(*row),
             Entry::NewClarification(row) => push(&mut self.clarifications, row.copied(alloc)?),
             Entry::NewRejudging(row) => push(&mut self.rejudgings, row.copied(alloc)?),
             Entry::SetMember(n, place, state) => {

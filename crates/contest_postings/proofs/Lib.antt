@@ -4,3 +4,4 @@ pub mod FileLemmas
 pub mod PostLemmas
 pub mod NamedVerdictLemmas
 pub mod LoadedClock
+pub mod JudgedLemmas

@@ -4,6 +4,7 @@
 
 mod clarification;
 mod clock;
+mod judged;
 mod named;
 mod opening;
 mod own_so_far;

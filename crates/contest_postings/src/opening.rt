@@ -1,4 +1,5 @@
 //! The jury opens a rejudging.
+use crate::judged::JudgedSoFar;
 use crate::named::named_submissions;
 use crate::posting::{Done, Posting};
 use contest_lists::Lists;
@@ -49,8 +50,8 @@ impl<'a> Posting<'a> for Opening {
         let Some(named) = named_submissions(alloc, lists, submissions.as_slice())? else {
             return Ok(Err(RuleRefusal::UnknownReference));
         };
-        let (releases, rejudgings) = (lists.releases(), lists.rejudgings());
-        match decide_opening(alloc, lists.fixed(), &named, releases, rejudgings, reason)? {
+        let (judged, rejudgings) = (JudgedSoFar { lists }, lists.rejudgings());
+        match decide_opening(alloc, lists.fixed(), &named, &judged, rejudgings, reason)? {
             Ok(rejudging) => Ok(Ok(OpenedRejudging {
                 number: rejudgings.len() + 1,
                 rejudging,

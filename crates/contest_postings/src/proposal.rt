@@ -1,4 +1,5 @@
 //! A judge proposes a verdict.
+use crate::judged::JudgedSoFar;
 use crate::named::named_verdict;
 use crate::posting::{Done, Posting};
 use contest_lists::Lists;
@@ -37,14 +38,8 @@ impl<'a> Posting<'a> for Proposing {
     ) -> Result<Result<NewVerdict, RuleRefusal>, AllocError> {
         let JuryVerdict { account, wanted } = self.verdict;
         let named = named_verdict(lists, &wanted);
-        Ok(decide_proposal(
-            lists.fixed(),
-            named,
-            lists.proposals(),
-            lists.releases(),
-            now,
-            account,
-        ))
+        let judged = JudgedSoFar { lists };
+        Ok(decide_proposal(lists.fixed(), named, &judged, now, account))
     }
 
     fn tell(alloc: Global, fixed: &Fixed, done: NewVerdict) -> Result<Done, AllocError> {

@@ -10,6 +10,7 @@ ghost use Rattle.contest_rules.specs.Verdicts.{named_verdict};
 ghost use Rattle.contest_postings.specs.DoneThings.{done_of, ruled_with};
 ghost use Rattle.contest_postings.specs.PostRejudgings.{apply_change, cancel_change, change_entries, change_object, member_change};
 
+use crate::judged::JudgedSoFar;
 use crate::named::named_verdict;
 use crate::posting::{Done, Posting};
 use contest_lists::{CopyRow, Lists};
@@ -78,7 +79,7 @@ impl<'a> Posting<'a> for Rejudge<'a> {
         };
         match step {
             RejudgingStep::Judge(verdict) => judge(alloc, lists, named, verdict),
-            RejudgingStep::Apply => apply(alloc, lists.releases(), named, now),
+            RejudgingStep::Apply => apply(alloc, lists, named, now),
             RejudgingStep::Cancel => cancel(alloc, named),
         }
     }
@@ -179,13 +180,13 @@ fn member_with(
 // The verdicts of all members are released.
 fn apply(
     alloc: Global,
-    releases: &[Release],
+    lists: &Lists,
     named: NumberedRejudging<'_>,
     now: Moment,
 ) -> Result<Result<RejudgingChange, RuleRefusal>, AllocError>
-    ensures { IfOk result (λ r. r ≡ ruled_with (apply_change named.entry.number named.entry.rejudging.now) (apply_on releases.now now named.entry.rejudging.now)) }
+    ensures { IfOk result (λ r. r ≡ ruled_with (apply_change named.entry.number named.entry.rejudging.now) (apply_on lists.now.releases now named.entry.rejudging.now)) }
 {
-    match decide_apply(alloc, named.rejudging, releases, now)? {
+    match decide_apply(alloc, named.rejudging, &JudgedSoFar { lists }, now)? {
         Ok(next) => Ok(Ok(with_releases(alloc, named, next.as_slice())?)),
         Err(refusal) => Ok(Err(refusal)),
     }

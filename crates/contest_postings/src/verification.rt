@@ -1,4 +1,5 @@
 //! A judge verifies a verdict that another proposed.
+use crate::judged::JudgedSoFar;
 use crate::named::named_verdict;
 use crate::posting::{Done, Posting};
 use contest_lists::Lists;
@@ -37,7 +38,8 @@ impl<'a> Posting<'a> for Verifying {
     ) -> Result<Result<Release, RuleRefusal>, AllocError> {
         let JuryVerdict { account, wanted } = self.verdict;
         let named = named_verdict(lists, &wanted);
-        Ok(decide_verify(named, lists.proposals(), lists.releases(), now, &account))
+        let judged = JudgedSoFar { lists };
+        Ok(decide_verify(named, &judged, now, &account))
     }
 
     fn tell(alloc: Global, fixed: &Fixed, done: Release) -> Result<Done, AllocError> {

@@ -1,17 +1,15 @@
--- The members of open rejudgings, put into a set one after another; and that what was released has a release.
-use Rattle.std.proofs.Common.{◌≡◌, ◌<◌, ◌+◌, ◌∙◌, ℕ, Bool, true, false, cond, List, [], ◌∷◌, ◌++◌, append-nil, length, take, get_or, refl, sym, ap, arith}
-use Rattle.std.specs.Prelude.{◌||◌, ◌&&◌, ◌==◌, filter, nat_lt, if◌then◌else◌}
+-- The members of open rejudgings, put into a set one after another.
+use Rattle.std.proofs.Common.{◌≡◌, ◌<◌, ◌+◌, ◌∙◌, ℕ, Bool, true, false, cond, List, [], ◌∷◌, ◌++◌, append-nil, length, take, get_or, refl, sym, ap}
+use Rattle.std.specs.Prelude.{◌||◌, filter, if◌then◌else◌}
 use Rattle.std.specs.List.{flat_map, list_any}
-use Rattle.std.proofs.lemmas.Bool.Decides.{nat_tests}
 use Rattle.std.proofs.lemmas.Grind.{flat_map-append}
 use Rattle.std.proofs.lemmas.List.{take_more}
 use Rattle.std.proofs.lemmas.List.Elements.{filter-append}
 use Rattle.std.proofs.lemmas.List.Folds.{list_any-append}
-use Rattle.contest_types.specs.State.{SubmissionRef, names, of_member, releases_on}
-use Rattle.contest_types.specs.ValidRejudgings.{is_open, is_released}
+use Rattle.contest_types.specs.State.{SubmissionRef, names, of_member}
+use Rattle.contest_types.specs.ValidRejudgings.{is_open}
 use Rattle.contest_types.specs.declared.rejudging.Member.{Member}
 use Rattle.contest_types.specs.declared.rejudging.Rejudging.{Rejudging}
-use Rattle.contest_types.specs.declared.submission.Release.{Release}
 use Rattle.contest_rules.specs.Candidates.{members_if_open}
 use Rattle.contest_rules.specs.declared.candidates.Candidate.{Candidate}
 use Rattle.contest_rules.specs.Opening.{is_rejudged}
@@ -57,19 +55,6 @@ rejudging_more rs i r team number had has l at before put =
     let grown : take (i + 1) rs ≡ take i rs ++ r ∷ [] = rw (← at) at (take_more rs i r l) in
     put ∙ (ap (λ b. b || list_any (is_it team number) (members_if_open r)) before
     ∙ sym (ap (is_rejudged team number) grown ∙ one_more team number (take i rs) r))
-
-some_more : (v : Release) (vs : List Release) → nat_lt 0 (length (v ∷ vs)) ≡ true
-some_more v vs = grind (arith, nat_tests)
-
--- what has releases is released
-pub counted_released : (team number : ℕ) (vs : List Release) → nat_lt 0 (length (releases_on team number vs)) ≡ is_released team number vs
-counted_released team number [] = refl
-counted_released team number (v ∷ vs) =
-    let go : (b : Bool) → nat_lt 0 (length (cond b (v ∷ releases_on team number vs) (releases_on team number vs))) ≡ (b || is_released team number vs) = elim [
-      | true ↦ some_more v (releases_on team number vs)
-      | false ↦ counted_released team number vs
-    ] in
-    go ((v.team == team) && (v.number == number))
 
 abbrev candidate : SubmissionRef → Bool → Bool → Candidate
 candidate s released rejudged = record { team = s.team; number = s.number; is_released = released; is_rejudged = rejudged }

@@ -9,7 +9,6 @@ mod ExamplesProposing
 mod ExamplesRejudging
 mod ExamplesClock
 pub mod VerifiedLemmas
-pub mod RoundLemmas
 pub mod CandidateLemmas
 pub mod OpenedLemmas
 pub mod AppliedLemmas

@@ -1,21 +1,16 @@
--- The release of a verdict that is verified may be added, and the last proposal is found in one pass.
-use Rattle.std.proofs.Common.{◌≡◌, ◌<◌, ◌+◌, ◌∙◌, ℕ, Bool, true, false, cond, List, [], ◌∷◌, ◌++◌, append-nil, length, take, get_or, Option, Some, None, Result, Ok, Err, refl, sym, ap, subst}
-use Rattle.std.specs.Prelude.{◌&&◌, ◌==◌, if◌then◌else◌}
-use Rattle.std.specs.List.{last_or}
-use Rattle.std.proofs.lemmas.List.{take_more}
-use Rattle.std.proofs.lemmas.List.Elements.{filter-append}
+-- The release of a verdict that is verified may be added.
+use Rattle.std.proofs.Common.{◌≡◌, ℕ, Bool, true, false, List, Option, Some, None, Result, Ok, Err, refl, sym, subst}
+use Rattle.std.specs.Prelude.{◌==◌, if◌then◌else◌}
 use Rattle.contest_types.specs.Addable.{is_addable}
-use Rattle.contest_types.specs.State.{proposals_for}
 use Rattle.contest_types.specs.ValidRejudgings.{is_released}
 use Rattle.contest_types.specs.declared.entry.Entry.TheVariants.{NewRelease}
 use Rattle.contest_types.specs.declared.proposal.Proposal.{Proposal}
 use Rattle.contest_rules.specs.declared.rule_refusal.RuleRefusal.{RuleRefusal}
 use Rattle.contest_rules.specs.declared.rule_refusal.RuleRefusal.TheVariants.{UnknownReference, AlreadyReleased, NothingToVerify, SameJudge, TypeDiffers}
 use Rattle.contest_types.specs.declared.submission.Release.{Release}
-use Rattle.contest_types.proofs.LastLemmas.{last_more}
 use Rattle.contest_rules.specs.Laws.{VerifiedIsAddable}
 use Rattle.contest_rules.specs.Verdicts.{first_release, named_verdict}
-use Rattle.contest_rules.specs.Verifying.{is_proposer, last_proposal, later_for, verify_for, verify_of}
+use Rattle.contest_rules.specs.Verifying.{is_proposer, last_proposal, verify_for, verify_of}
 use Rattle.contest_rules.specs.declared.verdicts.NamedVerdict.{NamedVerdict}
 use Rattle.contest_rules.proofs.ProposedLemmas.{named_there, release_fits}
 
@@ -41,19 +36,3 @@ verified_is_addable x now account w v h =
           subst (λ u. is_addable x (NewRelease u) ≡ true) (sym t.1) (release_fits x now n.team n.number n.verdict named.there named.is_type t.0))
     ] in
     go (named_verdict x.fixed x.submissions w) refl h
-
-one_more : (team number : ℕ) (ps : List Proposal) (p : Proposal) → last_proposal team number (ps ++ p ∷ []) ≡ later_for team number (last_proposal team number ps) p
-one_more team number ps p =
-    let own = proposals_for team number ps in
-    let go : (b : Bool) → last_or None (own ++ cond b (p ∷ []) []) ≡ (if b then Some p else last_or None own) = elim [
-      | true ↦ last_more None own p
-      | false ↦ ap (last_or None) (append-nil own)
-    ] in
-    ap (last_or None) (filter-append (λ (q : Proposal). (q.team == team) && (q.number == number)) ps (p ∷ [])) ∙ go ((p.team == team) && (p.number == number))
-
--- the last of one more of a list
-pub next_last : (team number : ℕ) (o : Option Proposal) (ps : List Proposal) (i : ℕ) (p : Proposal) → i < length ps → p ≡ get_or ps i p → o ≡ last_proposal team number (take i ps)
-    → later_for team number o p ≡ last_proposal team number (take (i + 1) ps)
-next_last team number o ps i p l at h =
-    let grown : take (i + 1) ps ≡ take i ps ++ p ∷ [] = rw (← at) at (take_more ps i p l) in
-    rw (grown, one_more team number (take i ps) p, h) refl

@@ -5,7 +5,6 @@ pub mod Proposing
 pub mod Verifying
 pub mod Clarifying
 pub mod Opening
-pub mod Rounds
 pub mod Candidates
 pub mod Rejudging
 pub mod ClockChanges

@@ -3,7 +3,7 @@
 use Rattle.std.specs.Prelude.{ℕ, Bool, false, ◌==◌, List, Option, Some, None, Result, Ok, Err, if◌then◌else◌}
 use Rattle.std.specs.List.{last_or}
 use Rattle.std.specs.Str.{bytes_eq}
-use Rattle.contest_types.specs.State.{FixedPart, names, of_proposal, proposals_for}
+use Rattle.contest_types.specs.State.{FixedPart, proposals_for}
 use Rattle.contest_types.specs.ValidRejudgings.{is_released}
 use Rattle.contest_types.specs.declared.proposal.Proposal.{Proposal}
 use Rattle.contest_types.specs.declared.proposal.Proposer.{Proposer}
@@ -41,9 +41,3 @@ verify_named o ps vs now account = elim o [ None ↦ Err UnknownReference | (Som
 
 abbrev pub verify : FixedPart → List Submission → List Proposal → List Release → (now : ℕ) → (account : List ℕ) → WantedVerdict → Result Release RuleRefusal
 verify f ss ps vs now account w = verify_named (named_verdict f ss w) ps vs now account
-
--- A word of a private function: nothing public is said with it.
-
--- the last proposal for it, once this one came after those before
-abbrev pub later_for : (team number : ℕ) → Option Proposal → Proposal → Option Proposal
-later_for team number last p = if names team number (of_proposal p) then Some p else last

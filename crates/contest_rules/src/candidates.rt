@@ -1,12 +1,12 @@
 //! How the submissions stand that are named for a rejudging.
 ghost use Rattle.std.specs.Prelude.{◌≡◌, ◌||◌, ℕ, IfOk, map};
 ghost use Rattle.std.specs.List.{list_any};
-ghost use Rattle.contest_types.specs.State.{SubmissionRef, names, of_member, of_submission};
+ghost use Rattle.contest_types.specs.State.{names, of_member, of_submission};
 ghost use Rattle.contest_rules.specs.Candidates.{candidate_by, is_in, members_if_open};
 ghost use Rattle.contest_rules.specs.Opening.{candidate_of, is_rejudged, member_of};
 
-use crate::rounds::{Rounds, count_of, rounds_of};
-use contest_types::{Member, MemberState, Rejudging, RejudgingState, Release, Rows, Submission};
+use crate::Judged;
+use contest_types::{Member, MemberState, Rejudging, RejudgingState, Rows, Submission};
 use std::alloc::{AllocError, Global};
 use std::collections::HashSet;
 
@@ -39,59 +39,38 @@ impl Candidate {
 /// Submissions, by the place of the team, from 0, and the number, from 1.
 type Members = HashSet<(usize, usize)>;
 
-/// By which it is known how a submission stands: how often each was released, and the members of all open
-/// rejudgings.
-#[derive(Drop)]
-struct Standing {
-    rounds: Rounds,
-    members: Members,
-}
-
-impl Standing {
-    fn new(
-        alloc: Global,
-        releases: &[Release],
-        rejudgings: &[Rejudging],
-    ) -> Result<Standing, AllocError>
-        ensures { IfOk result (λ standing. (s : SubmissionRef) → candidate_by standing.rounds standing.members s ≡ candidate_of releases.now rejudgings.now s) }
-    {
-        let rounds = rounds_of(alloc, releases)?;
-        let members = open_members(alloc, rejudgings)?;
-        Ok(Standing { rounds, members })
-    }
-
-    fn candidate(&self, submission: &Submission) -> Candidate
-        ensures { result ≡ candidate_by self.now.rounds self.now.members (of_submission submission.now) }
-    {
-        let (team, number) = (submission.team, submission.number);
-        Candidate {
-            team,
-            number,
-            is_released: count_of(&self.rounds, team, number) > 0,
-            is_rejudged: self.members.contains(&(team, number)),
-        }
-    }
-}
-
-/// How each of these submissions stands: known in one pass over the releases and the rejudgings.
+/// How each of these submissions stands, after these verdicts and rejudgings.
 ///
 /// # Errors
 ///
 /// Want of memory alone.
-pub(crate) fn candidates_of(
+pub(crate) fn candidates_of<J: Judged>(
     alloc: Global,
     named: &[&Submission],
-    releases: &[Release],
+    judged: &J,
     rejudgings: &[Rejudging],
 ) -> Result<Rows<Candidate>, AllocError>
-    ensures { IfOk result (λ candidates. candidates ≡ map (candidate_of releases.now rejudgings.now) (map (λ s. of_submission s.now) named.now)) }
+    ensures { IfOk result (λ candidates. candidates ≡ map (candidate_of (J.releases judged.now) rejudgings.now) (map (λ s. of_submission s.now) named.now)) }
 {
-    let standing = Standing::new(alloc, releases, rejudgings)?;
+    let members = open_members(alloc, rejudgings)?;
     let mut candidates = Rows::new(alloc);
     for submission in named {
-        candidates.push(standing.candidate(submission))?;
+        candidates.push(stands(submission, judged, &members))?;
     }
     Ok(candidates)
+}
+
+// How a submission stands, by the members of all open rejudgings.
+fn stands<J: Judged>(submission: &Submission, judged: &J, members: &Members) -> Candidate
+    ensures { result ≡ candidate_by (J.releases judged.now) members.now (of_submission submission.now) }
+{
+    let (team, number) = (submission.team, submission.number);
+    Candidate {
+        team,
+        number,
+        is_released: judged.is_released(team, number),
+        is_rejudged: members.contains(&(team, number)),
+    }
 }
 
 // The members of all open rejudgings.

@@ -3,11 +3,11 @@ ghost use Rattle.std.specs.Prelude.{◌≡◌, Some, IfOk, map};
 ghost use Rattle.contest_types.specs.State.{of_submission};
 ghost use Rattle.contest_rules.specs.Opening.{are_released, is_any_rejudged, member_of, open_named, opening_refusal};
 
-use crate::RuleRefusal;
 use crate::candidates::{Candidate, candidates_of};
+use crate::{Judged, RuleRefusal};
 use contest_types::limits::REJUDGINGS;
 use contest_types::{
-    Fixed, Id, Member, MemberState, Name, Rejudging, RejudgingState, Release, Rows, Submission,
+    Fixed, Id, Member, MemberState, Name, Rejudging, RejudgingState, Rows, Submission,
 };
 use std::alloc::{AllocError, Global};
 
@@ -20,25 +20,25 @@ pub struct WantedRejudging {
     pub submissions: Rows<Id>,
 }
 
-/// What becomes of a rejudging that is opened for a reason over these submissions, after these releases
-/// and rejudgings: the rejudging that is added.
+/// What becomes of a rejudging that is opened for a reason over these submissions, after these verdicts and
+/// rejudgings: the rejudging that is added.
 ///
 /// # Errors
 ///
 /// Want of memory; or `NotOpen` once a mark of final results is set, then `RejudgingIncomplete` where a
 /// submission has no release, `InRejudging` where one is in an open rejudging, and `TeamLimit` where as
 /// many rejudgings stand as there may be.
-pub fn decide_opening(
+pub fn decide_opening<J: Judged>(
     alloc: Global,
     fixed: &Fixed,
     named: &[&Submission],
-    releases: &[Release],
+    judged: &J,
     rejudgings: &[Rejudging],
     reason: Name,
 ) -> Result<Result<Rejudging, RuleRefusal>, AllocError>
-    ensures { IfOk result (λ r. r ≡ open_named fixed.now (Some (map (λ s. of_submission s.now) named.now)) releases.now rejudgings.now reason) }
+    ensures { IfOk result (λ r. r ≡ open_named fixed.now (Some (map (λ s. of_submission s.now) named.now)) (J.releases judged.now) rejudgings.now reason) }
 {
-    let candidates = candidates_of(alloc, named, releases, rejudgings)?;
+    let candidates = candidates_of(alloc, named, judged, rejudgings)?;
     if let Some(refusal) = opening_refusal(fixed, candidates.as_slice(), rejudgings.len()) {
         return Ok(Err(refusal));
     }

@@ -1,9 +1,9 @@
 //! A judge proposes a verdict.
 ghost use Rattle.std.specs.Prelude.{◌≡◌};
-ghost use Rattle.contest_rules.specs.Proposing.{propose_for, propose_named, proposals_made, release_at_once};
+ghost use Rattle.contest_rules.specs.Proposing.{propose_for, propose_named, release_at_once};
 
-use crate::RuleRefusal;
-use crate::verdicts::{NamedVerdict, first_release, is_released};
+use crate::verdicts::{NamedVerdict, first_release};
+use crate::{Judged, RuleRefusal};
 use contest_types::limits::PROPOSALS;
 use contest_types::{Fixed, Id, Moment, Proposal, Proposer, Release};
 
@@ -17,49 +17,46 @@ pub struct NewVerdict {
 }
 
 /// What becomes of the verdict that the account with this id proposes now (DOMjudge manual,
-/// "Judging": verification), of what it names and over the contest's proposals and releases. It takes
-/// no memory.
+/// "Judging": verification), of what it names and after the verdicts so far. It takes no memory.
 ///
 /// # Errors
 ///
 /// `UnknownReference` where the submission or the judgement type isn't there; then `AlreadyReleased`
 /// where the submission has a release; then `TeamLimit` where 1,000 proposals stand for it.
-pub fn decide_proposal(
+pub fn decide_proposal<J: Judged>(
     fixed: &Fixed,
     named: Option<NamedVerdict>,
-    proposals: &[Proposal],
-    releases: &[Release],
+    judged: &J,
     now: Moment,
     account: Id,
 ) -> Result<NewVerdict, RuleRefusal>
-    ensures { result ≡ propose_named fixed.now named proposals.now releases.now now account }
+    ensures { result ≡ propose_named fixed.now named (J.proposals judged.now) (J.releases judged.now) now account }
 {
     match named {
-        Some(named) => propose_for(fixed, proposals, releases, now, account, named),
+        Some(named) => propose_for(fixed, judged, now, account, named),
         None => Err(RuleRefusal::UnknownReference),
     }
 }
 
 // The same, where what is named is known.
-fn propose_for(
+fn propose_for<J: Judged>(
     fixed: &Fixed,
-    proposals: &[Proposal],
-    releases: &[Release],
+    judged: &J,
     now: Moment,
     account: Id,
     named: NamedVerdict,
 ) -> Result<NewVerdict, RuleRefusal>
-    ensures { result ≡ propose_for fixed.now proposals.now releases.now now account named }
+    ensures { result ≡ propose_for fixed.now (J.proposals judged.now) (J.releases judged.now) now account named }
 {
     let NamedVerdict {
         team,
         number,
         verdict,
     } = named;
-    if is_released(releases, team, number) {
+    if judged.is_released(team, number) {
         return Err(RuleRefusal::AlreadyReleased);
     }
-    if proposals_made(proposals, team, number) >= PROPOSALS {
+    if judged.proposals_made(team, number) >= PROPOSALS {
         return Err(RuleRefusal::TeamLimit);
     }
     Ok(NewVerdict {
@@ -72,16 +69,6 @@ fn propose_for(
         },
         release: release_at_once(fixed, now, named),
     })
-}
-
-// How many verdicts were proposed for a team's submission with this number.
-fn proposals_made(proposals: &[Proposal], team: usize, number: usize) -> usize
-    ensures { result ≡ proposals_made team number proposals.now }
-{
-    proposals
-        .iter()
-        .filter(|proposal| proposal.team == team && proposal.number == number)
-        .count()
 }
 
 /// The first release of a verdict that is proposed now, where nobody has to verify it (own).

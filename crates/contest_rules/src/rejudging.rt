@@ -1,13 +1,10 @@
 //! A judge judges a member of a rejudging again; the jury applies a rejudging, or cancels it.
-ghost use Rattle.std.specs.Prelude.{◌≡◌, ◌<◌, ◌+◌, ◌^◌, ℕ, List, length, IfOk, IfSome};
+ghost use Rattle.std.specs.Prelude.{◌≡◌, ◌<◌, length, IfOk, IfSome};
 ghost use Rattle.std.specs.List.{filter_map, list_all};
-ghost use Rattle.contest_types.specs.declared.submission.Release.{Release as TheRelease};
 ghost use Rattle.contest_rules.specs.Rejudging.{apply_on, apply_refusal, cancel_on, is_ready, member_after, member_at, ready_verdict, rejudge_in, rejudge_on, release_of, settles};
-ghost use Rattle.contest_rules.specs.Rounds.{AreRounds, count_in};
 
-use crate::RuleRefusal;
-use crate::rounds::{Rounds, next_round, rounds_of};
 use crate::verdicts::NamedVerdict;
+use crate::{Judged, RuleRefusal};
 use contest_types::{Id, Member, MemberState, Moment, Rejudging, RejudgingState, Release, Rows};
 use std::alloc::{AllocError, Global};
 
@@ -103,35 +100,33 @@ fn settles(state: &MemberState, verdict: usize, account: &Id) -> bool
 ///
 /// Want of memory; or `RejudgingClosed` where it is applied or cancelled, then `RejudgingIncomplete`
 /// where a member's verdict doesn't stand.
-pub fn decide_apply(
+pub fn decide_apply<J: Judged>(
     alloc: Global,
     rejudging: &Rejudging,
-    releases: &[Release],
+    judged: &J,
     now: Moment,
 ) -> Result<Result<Rows<Release>, RuleRefusal>, AllocError>
-    ensures { IfOk result (λ r. r ≡ apply_on releases.now now rejudging.now) }
+    ensures { IfOk result (λ r. r ≡ apply_on (J.releases judged.now) now rejudging.now) }
 {
     if let Some(refusal) = apply_refusal(rejudging) {
         return Ok(Err(refusal));
     }
-    let rounds = rounds_of(alloc, releases)?;
-    let next = releases_of(alloc, &rounds, rejudging.members.as_slice(), now)?;
+    let next = releases_of(alloc, judged, rejudging.members.as_slice(), now)?;
     Ok(Ok(next))
 }
 
 // The next release of each member whose verdict stands.
-fn releases_of(
+fn releases_of<J: Judged>(
     alloc: Global,
-    rounds: &Rounds,
+    judged: &J,
     members: &[Member],
     now: Moment,
 ) -> Result<Rows<Release>, AllocError>
-    requires { (team number : ℕ) → count_in rounds.now team number + 1 < 2 ^ 64 }
-    ensures { (vs : List TheRelease) → AreRounds rounds.now vs → IfOk result (λ next. next ≡ filter_map (release_of vs now) members.now) }
+    ensures { IfOk result (λ next. next ≡ filter_map (release_of (J.releases judged.now) now) members.now) }
 {
     let mut next = Rows::new(alloc);
     for member in members {
-        if let Some(release) = release_of(rounds, member, now) {
+        if let Some(release) = release_of(judged, member, now) {
             next.push(release)?;
         }
     }
@@ -139,15 +134,14 @@ fn releases_of(
 }
 
 // The next release of a member, if its verdict stands.
-fn release_of(rounds: &Rounds, member: &Member, now: Moment) -> Option<Release>
-    requires { (team number : ℕ) → count_in rounds.now team number + 1 < 2 ^ 64 }
-    ensures { (vs : List TheRelease) → AreRounds rounds.now vs → result ≡ release_of vs now member.now }
+fn release_of<J: Judged>(judged: &J, member: &Member, now: Moment) -> Option<Release>
+    ensures { result ≡ release_of (J.releases judged.now) now member.now }
 {
     let verdict = ready_verdict(&member.state)?;
     Some(Release {
         team: member.team,
         number: member.number,
-        round: next_round(rounds, member.team, member.number),
+        round: judged.next_round(member.team, member.number),
         verdict,
         time: now,
     })

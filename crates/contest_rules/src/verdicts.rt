@@ -2,7 +2,6 @@
 ghost use Rattle.std.specs.Prelude.{◌≡◌};
 ghost use Rattle.std.specs.Option.{option_map};
 ghost use Rattle.contest_types.specs.State.{of_submission};
-ghost use Rattle.contest_types.specs.ValidRejudgings.{is_released};
 ghost use Rattle.contest_rules.specs.Verdicts.{first_release, verdict_on};
 
 use contest_types::{Fixed, Id, Moment, Release, Submission};
@@ -44,15 +43,6 @@ pub fn verdict_on(
         number: submission.number,
         verdict,
     })
-}
-
-/// Whether a release stands on a team's submission with this number.
-pub(crate) fn is_released(releases: &[Release], team: usize, number: usize) -> bool
-    ensures { result ≡ is_released team number releases.now }
-{
-    releases
-        .iter()
-        .any(|release| release.team == team && release.number == number)
 }
 
 /// The first release on a submission.

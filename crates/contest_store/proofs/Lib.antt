@@ -1,2 +1,3 @@
 pub mod FiledLemmas
 pub mod LeaveLemmas
+pub mod CallsLeft

@@ -249,6 +249,17 @@ impl ContestStore for MemoryStore {
         }
     }
 
+    fn rest(&mut self) -> Result<(), StoreError>
+        ensures leaves { Reads result (kept_of self.old) (kept_of self.new) }
+        ensures faults { FaultsIf (is_due self.old.calls_left) result }
+        ensures left { self.new.calls_left ≡ left_after self.old.calls_left }
+    {
+        if self.fails() {
+            return Err(StoreError::Fault);
+        }
+        Ok(())
+    }
+
     // The entry is dropped by name: where it ends at a return, each of its kinds is a step of the proof.
     fn append(&mut self, alloc: Global, entry: Entry) -> Result<(), StoreError>
         requires loaded { IsTrue (kept_of self.old).is_loaded }

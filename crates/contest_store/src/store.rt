@@ -45,6 +45,12 @@ pub trait ContestStore {
         ensures value { (kept self.new).is_clean → IfOk result (λ found. found ≡ file_of (kept self.old).contest team number) }
         ensures leaves { Reads result (kept self.old) (kept self.new) };
 
+    /// Ends the transaction that a read began, where no change stands that wasn't committed: none stands
+    /// until the next call.
+    fn rest(&mut self) -> Result<(), StoreError>
+        requires { (kept self.old).is_clean → IsTrue (kept self.old).is_open → (kept self.old).contest ≡ (kept self.old).committed }
+        ensures { Reads result (kept self.old) (kept self.new) };
+
     /// Makes one change, which may be made.
     fn append(&mut self, alloc: Global, entry: Entry) -> Result<(), StoreError>
         requires loaded { IsTrue (kept self.old).is_loaded }

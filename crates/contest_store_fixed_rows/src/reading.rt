@@ -1,11 +1,12 @@
 //! The lists of a contest from the rows of its tables.
 ghost use Rattle.std.specs.Prelude.{◌≡◌, Some, None, true, false, IfOk};
-ghost use Rattle.contest_store_fixed_rows.specs.Spelling.{lists_in, tables_of, with_clarifications_in, with_lists_in, with_proposals_in, with_rejudgings_in, with_releases_in, with_submissions_in};
+ghost use Rattle.contest_store_fixed_rows.specs.Spelling.{lists_in, tables_of, with_clarifications_in, with_lists_in, with_proposals_in, with_rejudgings_in, with_releases_in, with_submissions_in, without_rows};
 
 use crate::LoadedRows;
 use crate::fixed_part::read_fixed;
 use contest_lists::Lists;
 use contest_store_rows::{read_list, read_rejudgings};
+use contest_types::Fixed;
 use std::alloc::{AllocError, Global};
 use std::rc::Rc;
 
@@ -28,12 +29,16 @@ pub fn read_lists(alloc: Global, rows: &LoadedRows) -> Result<Option<Lists>, All
     else {
         return Ok(None);
     };
+    lists_with(alloc, fixed, rows)
+}
+
+// The same, with this fixed part.
+fn lists_with(alloc: Global, fixed: Fixed, rows: &LoadedRows) -> Result<Option<Lists>, AllocError>
+    ensures { IfOk result (λ found. found ≡ with_lists_in (tables_of rows.now) (without_rows fixed)) }
+{
     let mut lists = Lists::new(alloc, Rc::new(alloc, fixed)?);
-    if fill(alloc, &mut lists, rows)? {
-        Ok(Some(lists))
-    } else {
-        Ok(None)
-    }
+    let filled = fill(alloc, &mut lists, rows)?;
+    Ok(filled.then_some(lists))
 }
 
 // Reads list after list; where one is none, the lists are of no use any more.
@@ -69,7 +74,7 @@ fn put_proposals(alloc: Global, lists: &mut Lists, rows: &LoadedRows) -> Result<
 {
     match read_list(alloc, &lists.fixed().settings, &rows.proposals)? {
         Some(proposals) => {
-            lists.put_proposals(proposals);
+            lists.put_proposals(alloc, proposals)?;
             Ok(true)
         }
         None => Ok(false),
@@ -82,7 +87,7 @@ fn put_releases(alloc: Global, lists: &mut Lists, rows: &LoadedRows) -> Result<b
 {
     match read_list(alloc, &lists.fixed().settings, &rows.releases)? {
         Some(releases) => {
-            lists.put_releases(releases);
+            lists.put_releases(alloc, releases)?;
             Ok(true)
         }
         None => Ok(false),

@@ -1,9 +1,9 @@
 -- What each call of a keeper leaves.
-use Rattle.std.proofs.Common.{◌≡◌, ◌∙◌, ℕ, Bool, true, false, Option, None, Some, Ok, Err, IsTrue, refl, sym, ap, inl, subst, arith}
+use Rattle.std.proofs.Common.{◌≡◌, ◌∙◌, ℕ, Bool, true, false, Option, None, Some, Ok, Err, Result, IsTrue, refl, sym, ap, inl, inr, subst, arith}
 use Rattle.std.specs.Prelude.{IfSome, is_some}
 use Rattle.sqlite.specs.Tree.{Trees}
 use Rattle.sqlite.specs.State.{State, HasCleanDisk}
-use Rattle.contest_store.specs.Keeping.{Adds, Commits, Reads, Shows}
+use Rattle.contest_store.specs.Keeping.{Adds, Commits, Kept, Leaves, LeavesOnly, Reads, Shows}
 use Rattle.contest_lists.specs.Lists.{loaded}
 use Rattle.contest_store.specs.declared.store_error.StoreError.{StoreError}
 use Rattle.contest_types.specs.Addable.{is_addable}
@@ -13,13 +13,14 @@ use Rattle.contest_types.specs.declared.entry.Entry.{Entry}
 use Rattle.contest_store_tables.specs.Steps.{Call, Content, Ended, Full, Holding, Holds, MakesNone, MakesNow, Showing}
 use Rattle.contest_store_tables.specs.Tables.{TableRows}
 use Rattle.contest_store_tables.specs.declared.counts.Counts.{Counts}
+use Rattle.contest_store_tables.proofs.HoldLemmas.{on_ok}
 use Rattle.contest_store_changes.specs.Additions.{HasAdded}
 use Rattle.contest_store_changes.specs.ContestTables.{table_rows, valid_contest_in}
 use Rattle.contest_store_changes.specs.Kinds.{IsOfKinds}
 use Rattle.contest_store_changes.specs.Sound.{IsSound}
 use Rattle.contest_store_changes.proofs.SoundAdditions.{additions_stay_sound}
 use Rattle.contest_store_changes.proofs.SoundReadings.{sound_contests_read_back}
-use Rattle.contest_store_sqlite.specs.Contests.{committed_of, contest_in_trees, contest_of, HoldsContests}
+use Rattle.contest_store_sqlite.specs.Contests.{committed_of, contest_in_trees, contest_of, may_leave_of, HoldsContests}
 use Rattle.contest_store_sqlite.specs.Keeping.{IsTrusted, StaysCommitted, StaysHeld, StaysKept, kept_of}
 use Rattle.contest_store_sqlite.specs.Steps.{HoldsDesk, MayAdd}
 use Rattle.contest_store_sqlite.proofs.LeaveLemmas.{Meets, answered, kept_in, now_in, refused}
@@ -174,6 +175,42 @@ module _ (old new : State) (b a : Counts) (c : ℕ) (l : Bool) (was : StaysKept 
   commit_err e one =
       let left = refused old new b a c l Holds Ended _ was all_held (contest_of old) (contest_of old) (λ d. d ≡ Some (contest_of old)) one_more this_contest e one false in
       ((left.0, λ clean. tt, undone new a c false (committed_of old) left.0 left.1.err), left.1)
+
+  -- the end of a transaction in which no change stands: a crash leaves what it could leave before
+  module _ (same_now : IsTrusted old → IsTrue old.is_open → contest_of old ≡ committed_of old) (only : IsTrusted old → IsTrue old.is_open → LeavesOnly (may_leave_of old) (committed_of old)) where
+    ended_early : {T : Type 0} (r : Result T StoreError) (k : Kept) → Leaves r (kept_of old b c l) k (contest_of old) (contest_of old) (λ d. d ≡ Some (contest_of old)) (λ n. n) ⊥ → Reads r (kept_of old b c l) k
+    ended_early r k left =
+        let settled : k.is_clean → IsTrue old.is_open → contest_of old ≡ committed_of old = λ p up. same_now (left.clean p) up in
+        record {
+          ok = λ p. on_ok r (λ (s : Shows k (contest_of old) (contest_of old)). record { up = s.up; now_is = s.now_is; kept_is = s.kept_is ∙ settled p (left.up p s.up) }) (left.ok p);
+          err = left.err;
+          crash = λ p d may. elim (left.crash p d may) [
+            | inl before ↦ inl before
+            | inr it ↦ inl (subst (may_leave_of old) (sym (it.1 ∙ ap Some (settled p it.0))) (only (left.clean p) it.0).0)
+          ];
+          clean = left.clean;
+          up = left.up;
+          shuts = left.shuts;
+          troubles = left.troubles;
+          faults = left.faults;
+          refusals = left.refusals;
+          commits = left.commits;
+          loaded = left.loaded;
+        }
+
+    pub rest_ok : {T : Type 0} (x : T) (held : Option ContestState) → l ≡ is_some held → Call (Ok x) old new b a Holds Ended (MakesNow old Holds) → StaysHeld old held
+        → (StaysKept new × StaysHeld new held × StaysCommitted new false) × Reads {T = Unit {0}} (Ok tt) (kept_of old b c l) (kept_of new a c (is_some held))
+    rest_ok x held is one had =
+        let left = answered old new b a c l Holds Ended _ was all_held (contest_of old) (contest_of old) (λ d. d ≡ Some (contest_of old)) (λ n. n) this_contest x one ended tt c (is_some held) refl (λ up. subst IsTrue is up) in (
+          (left.1, λ clean. still_held old new held (contest_of old) (omega (arith, one.step.survives.clean)) had (left.0 clean), λ clean none is. both_are new (contest_of old) (left.0 clean)),
+          ended_early (Ok tt) (kept_of new a c (is_some held)) left.2,
+        )
+
+    pub rest_err : {T : Type 0} (e : StoreError) → Call {T = T} (Err e) old new b a Holds Ended (MakesNow old Holds)
+        → (StaysKept new × StaysHeld new None × StaysCommitted new false) × Reads {T = Unit {0}} (Err e) (kept_of old b c l) (kept_of new a c false)
+    rest_err e one =
+        let left = refused old new b a c l Holds Ended _ was all_held (contest_of old) (contest_of old) (λ d. d ≡ Some (contest_of old)) (λ n. n) this_contest e one false in
+        ((left.0, λ clean. tt, undone new a c false (committed_of old) left.0 left.1.err), ended_early (Err e) (kept_of new a c false) left.1)
 
 -- a commit where all is committed
 pub commits_nothing : (s : State) (a : Counts) (c c2 : ℕ) (held : Option ContestState) → StaysHeld s held → StaysCommitted s false → IsTrue (is_some held) → c2 ≡ one_more c

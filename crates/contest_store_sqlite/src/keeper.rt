@@ -1,10 +1,12 @@
 //! The tables of a contest, with the lists that were read from them.
 ghost use Rattle.std.specs.Prelude.{◌≡◌, IfOk, IsTrue, Ok, OnErr, OnOk, false, is_ok, is_some, Some, None, true};
+ghost use Rattle.sqlite.specs.State.{HasCleanDisk};
 ghost use Rattle.contest_store.specs.Keeping.{Reads, Adds, Commits};
 ghost use Rattle.contest_types.specs.Addable.{is_addable};
 ghost use Rattle.contest_types.specs.Loads.{file_of};
 ghost use Rattle.contest_types.specs.State.{add};
 ghost use Rattle.contest_streams.specs.Streams.{one_more};
+ghost use Rattle.contest_store_tables.specs.Connected.{shown_by};
 ghost use Rattle.contest_store_sqlite.specs.Keepers.{keeps, IsWhole};
 
 use crate::additions::add;
@@ -74,6 +76,24 @@ impl<S: Alter> Keeper<S> {
     {
         match load_file(&mut self.tables, alloc, team, number) {
             Ok(file) => Ok(file),
+            Err(error) => Err(self.fail(error)),
+        }
+    }
+
+    /// Ends the transaction, where no change stands that wasn't committed.
+    pub(crate) fn rest(&mut self) -> Result<(), StoreError>
+        requires whole { IsWhole S.Store self.old }
+        requires settled { (keeps S.Store self.old).is_clean → IsTrue (keeps S.Store self.old).is_open → (keeps S.Store self.old).contest ≡ (keeps S.Store self.old).committed }
+        ensures whole { IsWhole S.Store self.new }
+        ensures leaves { Reads result (keeps S.Store self.old) (keeps S.Store self.new) }
+        ensures rest { HasCleanDisk (shown_by S.Store self.new.tables) → (shown_by S.Store self.new.tables).in_transaction ≡ false }
+        ensures committed { self.new.is_changed ≡ false }
+    {
+        match self.tables.commit() {
+            Ok(()) => {
+                self.is_changed = false;
+                Ok(())
+            }
             Err(error) => Err(self.fail(error)),
         }
     }

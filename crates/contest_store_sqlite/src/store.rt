@@ -175,9 +175,10 @@ impl<S: Alter> Store<S> {
 impl<S: Alter> ContestStore for Store<S> {
     ghost use Rattle.std.specs.Prelude.{false, IsTrue, Ok};
     ghost use Rattle.contest_streams.specs.Streams.{one_more};
-    ghost use Rattle.contest_store.specs.Keeping.{Commits};
+    ghost use Rattle.sqlite.specs.State.{HasCleanDisk};
+    ghost use Rattle.contest_store.specs.Keeping.{Commits, Reads};
     ghost use Rattle.contest_store_sqlite.specs.Laws.{settled_at, survives_at};
-    ghost use Rattle.contest_store_sqlite.specs.Value.{stored};
+    ghost use Rattle.contest_store_sqlite.specs.Value.{shown_in, stored};
 
     ghost kept = { stored S.Store };
 
@@ -203,6 +204,15 @@ impl<S: Alter> ContestStore for Store<S> {
         number: usize,
     ) -> Result<Option<Rows<u8>>, StoreError> {
         self.keeper.file(alloc, team, number)
+    }
+
+    // Beyond what any store promises: no transaction stands afterwards.
+    fn rest(&mut self) -> Result<(), StoreError>
+        requires { (stored S.Store self.old).is_clean → IsTrue (stored S.Store self.old).is_open → (stored S.Store self.old).contest ≡ (stored S.Store self.old).committed }
+        ensures leaves { Reads result (stored S.Store self.old) (stored S.Store self.new) }
+        ensures rest { HasCleanDisk (shown_in S.Store self.new) → (shown_in S.Store self.new).in_transaction ≡ false }
+    {
+        self.keeper.rest()
     }
 
     fn append(&mut self, alloc: Global, entry: Entry) -> Result<(), StoreError> {

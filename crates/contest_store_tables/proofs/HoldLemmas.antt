@@ -1,5 +1,5 @@
 -- What BEGIN, COMMIT, a query and a call that is undone make of the rows that the tables show.
-use Rattle.std.proofs.Common.{◌≡◌, inl, inr, ℕ, List, [], codes, Some, None, Option, Ok, Err, Result, IsTrue, OnOk, OnErr, IfOk, sym, subst, arith, refl}
+use Rattle.std.proofs.Common.{◌≡◌, inl, inr, ℕ, List, [], codes, Some, None, Option, Ok, Err, Result, IsTrue, OnOk, OnErr, IfOk, false, sym, subst, arith, refl}
 use Rattle.sqlite.specs.Tree.{Trees}
 use Rattle.sqlite.specs.Effect.{Database}
 use Rattle.sqlite.specs.Command.TheVariants.{Begin, Commit}
@@ -12,6 +12,7 @@ use Rattle.sqlite.proofs.Callers.{IsPlain}
 use Rattle.sqlite.specs.Schema.{Schema}
 use Rattle.sqlite.specs.Table.{Table}
 use Rattle.std.specs.List.{AllByRecursion}
+use Rattle.contest_store.specs.declared.store_error.StoreError.{StoreError}
 use Rattle.contest_store_tables.specs.Connected.{IsAtRest, IsOfDesk, IsBare, IsUndone}
 use Rattle.contest_store_tables.specs.Tables.{rows_in}
 use Rattle.contest_store_tables.specs.Steps.{Content, OnlyMade, Showing, HasContent, Spells, Holds, Within, AreNumbered}
@@ -71,6 +72,11 @@ committed old new now kept count h ran =
       shows = subst (λ d. HasContent d now) (sym shown.now_is) h.shows;
       keeps = subst (λ d. HasContent d now) (sym shown.committed_is) h.shows;
     }
+
+-- no transaction stands after it, whatever came of it
+pub commit_rests : (r : Result (Unit {0}) StoreError) (old new : State) → OnOk r ((count : ℕ) × Executes (codes "COMMIT") [] old new (Ok count)) → OnErr r (IsUndone old new) → new.in_transaction ≡ false
+commit_rests (Ok done) old new ok err = (runs_word (codes "COMMIT") Commit 6 commit_is (omega arith) old new ok.0 ok.1).1.mode
+commit_rests (Err e) old new ok err = err.autocommit
 
 spelled : (d : Database) (x : Content) → HasContent d x → Spells d.trees x
 spelled d (OnlyMade made) h = tt

@@ -1,5 +1,5 @@
 //! The statements on the tables: what each does to the rows that they show.
-ghost use Rattle.std.specs.Prelude.{◌≡◌, ◌+◌, ◌∷◌, [], IfOk, map, IsPermutation};
+ghost use Rattle.std.specs.Prelude.{◌≡◌, ◌+◌, ◌∷◌, [], IfOk, false, map, IsPermutation};
 ghost use Rattle.sqlite.specs.declared.types.Value.{Value};
 ghost use Rattle.sqlite.specs.State.{HasCleanDisk};
 ghost use Rattle.sqlite.specs.Values.{bound};
@@ -87,9 +87,10 @@ impl<S: Alter> Tables<S> {
         self.query_all(file_text(), submission)
     }
 
-    /// Commits the transaction; where there is none, all is committed already.
+    /// Commits the transaction; where there is none, all is committed already. None stands afterwards.
     pub fn commit(&mut self) -> Result<(), StoreError>
-        ensures { Call result (shown_by S.Store self.old) (shown_by S.Store self.new) (counts_of self.old) (counts_of self.new) Holds Ended (MakesNow (shown_by S.Store self.old) Holds) }
+        ensures ended { Call result (shown_by S.Store self.old) (shown_by S.Store self.new) (counts_of self.old) (counts_of self.new) Holds Ended (MakesNow (shown_by S.Store self.old) Holds) }
+        ensures rest { HasCleanDisk (shown_by S.Store self.new) → (shown_by S.Store self.new).in_transaction ≡ false }
     {
         match self.begin() {
             Ok(()) => self.end(),
@@ -97,9 +98,10 @@ impl<S: Alter> Tables<S> {
         }
     }
 
-    /// Commits the transaction.
+    /// Commits the transaction. None stands afterwards.
     fn end(&mut self) -> Result<(), StoreError>
-        ensures { Step result (shown_by S.Store self.old) (shown_by S.Store self.new) (counts_of self.old) (counts_of self.new) Within Ended (MakesNow (shown_by S.Store self.old) Within) }
+        ensures ended { Step result (shown_by S.Store self.old) (shown_by S.Store self.new) (counts_of self.old) (counts_of self.new) Within Ended (MakesNow (shown_by S.Store self.old) Within) }
+        ensures rest { HasCleanDisk (shown_by S.Store self.new) → (shown_by S.Store self.new).in_transaction ≡ false }
     {
         self.execute("COMMIT", &[])
     }

@@ -25,7 +25,7 @@ use Rattle.contest_view.proofs.SeenApart.{number_small, within_limit}
 use Rattle.contest_view.proofs.SeenOrder.{HaveOwnIds, ServesSeen, array_is, found_is}
 use Rattle.contest_view.specs.Judgements.{item_of, judgement_found, judgement_row, judgements_data, seen_of}
 use Rattle.contest_objects.specs.JudgementObjects.{judgement_item}
-use Rattle.contest_view.specs.LastRows.{last_row}
+use Rattle.contest_lists.specs.RowsOn.{last_row}
 use Rattle.contest_view.proofs.JudgementIds.{one_submission_id}
 use Rattle.contest_view.proofs.LastRowLemmas.{last_mapped}
 

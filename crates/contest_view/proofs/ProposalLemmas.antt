@@ -22,7 +22,7 @@ use Rattle.contest_objects.specs.Items.{Item, IsListed, array_of}
 use Rattle.contest_view.specs.Rows.{row_cmp}
 use Rattle.contest_objects.proofs.ListingLemmas.{mapped_served}
 use Rattle.contest_view.proofs.SeenOrder.{ServesSeen, array_is}
-use Rattle.contest_view.specs.LastRows.{last_row}
+use Rattle.contest_lists.specs.RowsOn.{last_row}
 use Rattle.contest_view.specs.Proposals.{open_of, proposal_item, proposal_row, proposals_data}
 use Rattle.contest_view.proofs.LastRowLemmas.{last_mapped}
 

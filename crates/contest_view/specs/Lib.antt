@@ -4,7 +4,6 @@ pub mod FileReads
 pub mod SeenLists
 pub mod Clarifications
 pub mod Scoreboards
-pub mod LastRows
 pub mod Judgements
 pub mod Proposals
 pub mod Rejudgings

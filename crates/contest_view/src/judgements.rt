@@ -5,11 +5,10 @@ ghost use Rattle.serde_json.specs.Written.{has_float};
 ghost use Rattle.contest_types.specs.Masks.{verdict_under};
 ghost use Rattle.contest_types.specs.Sight.{judgement_of};
 ghost use Rattle.contest_types.specs.State.{ContestState, of_release};
+ghost use Rattle.contest_lists.specs.RowsOn.{last_row};
 ghost use Rattle.contest_view.specs.SeenLists.{Shows};
 ghost use Rattle.contest_view.specs.Judgements.{judgement_found, judgements_data, seen_of};
-ghost use Rattle.contest_view.specs.LastRows.{last_in, last_row};
 
-use crate::last_rows::{LastPlaces, last_on, last_places};
 use crate::{Seen, compare_submissions};
 use contest_objects::{Collection, Ordered, get, has_judgement_id, judgement_value, list};
 use contest_types::{Fixed, Mask, Moment, Release, Submission, is_frozen, mask_for, sees_team};
@@ -18,25 +17,16 @@ use std::alloc::{AllocError, Global};
 use std::cmp::Ordering;
 
 /// Judgements as an audience is served them: of each submission the one that it sees.
-#[derive(Drop)]
+#[derive(Clone, Copy)]
 struct Judgements<'a> {
     seen: &'a Seen<'a>,
-    last: LastPlaces,
 }
 
 impl<'a> Judgements<'a> {
-    fn new(alloc: Global, seen: &'a Seen<'a>) -> Result<Judgements<'a>, AllocError>
-        ensures seen { IfOk result (λ j. j.seen.now ≡ seen.entry.now) }
-        ensures last { IfOk result (λ j. (team number : ℕ) → last_in j.seen.now.lists.now.releases j.last team number ≡ last_row of_release seen.entry.now.lists.now.releases team number) }
-    {
-        let last = last_places(alloc, seen.lists.releases())?;
-        Ok(Judgements { seen, last })
-    }
-
     // The release that is seen on a submission.
     fn release(&self, submission: &Submission) -> Option<&Release>
         ensures { option_map (λ r. judgement_of r.now) result ≡ seen_of self.entry.now.seen.now.audience self.entry.now.seen.now.now self.entry.now.seen.now.lists.now.fixed
-            (last_in self.entry.now.seen.now.lists.now.releases self.entry.now.last) submission.now }
+            (last_row of_release self.entry.now.seen.now.lists.now.releases) submission.now }
     {
         let (lists, audience) = (self.seen.lists, self.seen.audience);
         let fixed = lists.fixed();
@@ -45,18 +35,19 @@ impl<'a> Judgements<'a> {
             return None;
         }
         let mask = mask_for(audience, &fixed.marks, self.seen.now, team);
-        let release = last_on(lists.releases(), &self.last, team, number);
+        let release = lists.last_release(team, number);
         under_mask(mask, fixed, submission.time, release)
     }
 }
 
 impl<'a> Collection for Judgements<'a> {
+    ghost use Rattle.contest_types.specs.State.{of_release};
+    ghost use Rattle.contest_lists.specs.RowsOn.{last_row};
     ghost use Rattle.contest_view.specs.Judgements.{judgement_row};
-    ghost use Rattle.contest_view.specs.LastRows.{last_in};
 
     type Row = Submission;
 
-    ghost item = { λ c. judgement_row c.seen.now.audience c.seen.now.now c.seen.now.lists.now.fixed (last_in c.seen.now.lists.now.releases c.last) };
+    ghost item = { λ c. judgement_row c.seen.now.audience c.seen.now.now c.seen.now.lists.now.fixed (last_row of_release c.seen.now.lists.now.releases) };
 
     fn has_id(&self, row: &Submission, id: &[u8]) -> bool {
         match self.release(row) {
@@ -100,8 +91,7 @@ pub fn judgements_value(alloc: Global, seen: &Seen<'_>) -> Result<Value, AllocEr
     ensures no_floats { IfOk result (λ v. has_float (view v) ≡ false) }
 {
     let rows = seen.lists.submissions();
-    let judgements = Judgements::new(alloc, seen)?;
-    let value = list(alloc, &judgements, rows)?;
+    let value = list(alloc, &Judgements { seen }, rows)?;
     Ok(value)
 }
 
@@ -120,8 +110,7 @@ pub fn judgement_by_id(
     ensures no_floats { IfOk result (λ found. IfSome found (λ v. has_float (view v) ≡ false)) }
 {
     let rows = seen.lists.submissions();
-    let judgements = Judgements::new(alloc, seen)?;
-    let found = get(alloc, &judgements, rows, id)?;
+    let found = get(alloc, &Judgements { seen }, rows, id)?;
     Ok(found)
 }
 

@@ -3,11 +3,10 @@ ghost use Rattle.std.specs.Prelude.{◌≡◌, ℕ, IfOk, false, option_map};
 ghost use Rattle.serde_json.specs.View.{view};
 ghost use Rattle.serde_json.specs.Written.{has_float};
 ghost use Rattle.contest_types.specs.State.{ContestState, of_proposal, of_release};
+ghost use Rattle.contest_lists.specs.RowsOn.{last_row};
 ghost use Rattle.contest_view.specs.SeenLists.{Shows};
-ghost use Rattle.contest_view.specs.LastRows.{last_in, last_row};
 ghost use Rattle.contest_view.specs.Proposals.{open_of, proposals_data};
 
-use crate::last_rows::{LastPlaces, last_on, last_places};
 use crate::seen::is_jury;
 use crate::{Seen, compare_submissions};
 use contest_lists::Lists;
@@ -18,47 +17,32 @@ use std::alloc::{AllocError, Global};
 use std::cmp::Ordering;
 
 /// What stands proposed, of each submission without a release the last proposal.
-#[derive(Drop)]
+#[derive(Clone, Copy)]
 struct Proposals<'a> {
     lists: &'a Lists,
-    last: LastPlaces,
-    released: LastPlaces,
 }
 
 impl<'a> Proposals<'a> {
-    fn new(alloc: Global, lists: &'a Lists) -> Result<Proposals<'a>, AllocError>
-        ensures lists { IfOk result (λ p. p.lists.now ≡ lists.now) }
-        ensures last { IfOk result (λ p. (team number : ℕ) → last_in p.lists.now.proposals p.last team number ≡ last_row of_proposal lists.now.proposals team number) }
-        ensures released { IfOk result (λ p. (team number : ℕ) → last_in p.lists.now.releases p.released team number ≡ last_row of_release lists.now.releases team number) }
-    {
-        let last = last_places(alloc, lists.proposals())?;
-        let released = last_places(alloc, lists.releases())?;
-        Ok(Proposals {
-            lists,
-            last,
-            released,
-        })
-    }
-
     fn open(&self, submission: &Submission) -> Option<&Proposal>
-        ensures { option_map (λ p. p.now) result ≡ open_of (last_in self.entry.now.lists.now.proposals self.entry.now.last)
-            (last_in self.entry.now.lists.now.releases self.entry.now.released) submission.now }
+        ensures { option_map (λ p. p.now) result ≡ open_of (last_row of_proposal self.entry.now.lists.now.proposals)
+            (last_row of_release self.entry.now.lists.now.releases) submission.now }
     {
         let (team, number) = (submission.team, submission.number);
-        if last_on(self.lists.releases(), &self.released, team, number).is_some() {
+        if self.lists.last_release(team, number).is_some() {
             return None;
         }
-        last_on(self.lists.proposals(), &self.last, team, number)
+        self.lists.last_proposal(team, number)
     }
 }
 
 impl<'a> Collection for Proposals<'a> {
-    ghost use Rattle.contest_view.specs.LastRows.{last_in};
+    ghost use Rattle.contest_types.specs.State.{of_proposal, of_release};
+    ghost use Rattle.contest_lists.specs.RowsOn.{last_row};
     ghost use Rattle.contest_view.specs.Proposals.{proposal_row};
 
     type Row = Submission;
 
-    ghost item = { λ c. proposal_row c.lists.now.fixed.settings (last_in c.lists.now.proposals c.last) (last_in c.lists.now.releases c.released) };
+    ghost item = { λ c. proposal_row c.lists.now.fixed.settings (last_row of_proposal c.lists.now.proposals) (last_row of_release c.lists.now.releases) };
 
     fn has_id(&self, row: &Submission, id: &[u8]) -> bool {
         match self.open(row) {
@@ -106,7 +90,6 @@ pub fn proposals_value(alloc: Global, seen: &Seen<'_>) -> Result<Value, AllocErr
     }
     let lists = seen.lists;
     let rows = lists.submissions();
-    let proposals = Proposals::new(alloc, lists)?;
-    let value = list(alloc, &proposals, rows)?;
+    let value = list(alloc, &Proposals { lists }, rows)?;
     Ok(value)
 }

@@ -1,45 +1,44 @@
-use Rattle.std.proofs.Common.{◌∙◌, ◌+◌, ◌++◌, ◌∷◌, [], suc, ap, drop, get_or, subst, sym, take}
-use Rattle.std.proofs.Math.Seq.{drop-cons}
-use Rattle.std.proofs.lemmas.List.{take-append-drop, take_more}
+use Rattle.std.proofs.Common.{◌≡◌, ◌∙◌, ◌+◌, ap, arith, length, map, subst, suc, sym}
 use Rattle.std.specs.List.{flat_map}
-use Rattle.contest_streams.specs.Streams.{AppendsFront, stream}
-use Rattle.contest_export.specs.Exports.{row_at}
-use Rattle.contest_export.proofs.ExportWritten.{WrittenSoFar, front_if_err, front_more, written_more}
+use Rattle.contest_streams.specs.Streams.{stream}
+use Rattle.std.specs.Io.KnownBytes.{Appends}
+use Rattle.contest_streams.specs.Streams.{AppendsFront}
+use Rattle.contest_export.specs.Exports.{next_record}
+use Rattle.contest_export.specs.SubmissionsCsv.{record_of}
+use Rattle.contest_export.specs.Walks.{all_in_order, given_by, numbers_of, order_in, stepped}
+use Rattle.contest_export.proofs.ExportWritten.{WrittenSoFar, front_if_err, front_more, stepped_within, written_more}
 use Rattle.contest_export.proofs.export.write_rows.Goals as goal
 
-pub returns-in_err-write_row-clause-written : goal.returns-in_err-write_row-clause-written
-returns-in_err-write_row-clause-written g c = λ clean.
-    let old = g.S.ContestStore.kept c.args.store.now in
-    let mid = g.S.ContestStore.kept c.loop-numbers.store in
-    let o = stream g.W.Write.contents c.args.out.now in
-    let m = stream g.W.Write.contents c.loop-numbers.out in
-    let n = stream g.W.Write.contents c.write_row.new.out in
-    let order = c.args.plan.now.order.items in
-    let xs = c.deref-numbers-items.result.now in
-    let i = c.loop-numbers.numbers-index in
-    let is = c.deref-numbers-items.ensures.value in
-    let numbers = get_or xs i (0, 0) in
-    let rest = drop (suc i) xs in
-    let soFar : WrittenSoFar row_at old mid o m (take i xs) = subst (λ ys. WrittenSoFar row_at old mid o m (take i ys)) (sym is) c.loop-numbers.invariant in
-    let whole = ap (λ ys. take i xs ++ ys) (sym (drop-cons xs i (0, 0) c.loop-numbers-test.true)) ∙ (take-append-drop i xs ∙ is) in
-    let before = c.in_err-write_row.ensures.leaves.clean clean in
-    front_if_err c.from_residual.result o n (flat_map (row_at old.contest) order) c.from_residual.ensures.0
-    (subst (λ ys. AppendsFront o.bytes n.bytes (flat_map (row_at old.contest) ys)) whole
-    (front_more row_at old mid o m n (take i xs) rest numbers before soFar (c.in_err-write_row.ensures.written clean)))
+pub write_next-requires-clause-over : goal.write_next-requires-clause-over
+write_next-requires-clause-over g c = λ clean.
+    let so_far = c.loop.invariant.written.reads in
+    c.loop.invariant.order ∙ (c.requires.over (so_far.clean clean) ∙ ap (λ x. map numbers_of (all_in_order x)) (sym (so_far.ok clean).now_is))
 
-pub loop-numbers-preserved : goal.loop-numbers-preserved
-loop-numbers-preserved g c =
+pub returns-in_err-write_next-clause-written : goal.returns-in_err-write_next-clause-written
+returns-in_err-write_next-clause-written g c = λ clean.
     let old = g.S.ContestStore.kept c.args.store.now in
-    let mid = g.S.ContestStore.kept c.loop-numbers.store in
-    let new = g.S.ContestStore.kept c.write_row.new.store in
+    let mid = g.S.ContestStore.kept c.loop.store in
     let o = stream g.W.Write.contents c.args.out.now in
-    let m = stream g.W.Write.contents c.loop-numbers.out in
-    let n = stream g.W.Write.contents c.write_row.new.out in
-    let xs = c.deref-numbers-items.result.now in
-    let i = c.loop-numbers.numbers-index in
-    let is = c.deref-numbers-items.ensures.value in
-    let numbers = get_or xs i (0, 0) in
-    let soFar : WrittenSoFar row_at old mid o m (take i xs) = subst (λ ys. WrittenSoFar row_at old mid o m (take i ys)) (sym is) c.loop-numbers.invariant in
-    let more : WrittenSoFar row_at old new o n (take i xs ++ numbers ∷ []) =
-    written_more row_at old mid new o m n (take i xs) numbers soFar c.in_ok-write_row.ensures.written c.in_ok-write_row.ensures.calm c.in_ok-write_row.ensures.leaves in
-    subst (λ ys. WrittenSoFar row_at old new o n (take (i + 1) ys)) is (subst (WrittenSoFar row_at old new o n) (sym (take_more xs i (0, 0) c.loop-numbers-test.true)) more)
+    let m = stream g.W.Write.contents c.loop.out in
+    let n = stream g.W.Write.contents c.write_next.new.out in
+    front_if_err c.from_residual.result o n (flat_map (record_of old.contest) (all_in_order old.contest)) c.from_residual.ensures.0
+    (front_more old mid o m n c.loop.counter (c.in_err-write_next.ensures.leaves.clean clean) c.loop.invariant.written
+    (subst (λ k. AppendsFront m.bytes n.bytes (next_record mid.contest k)) c.loop.invariant.given (c.in_err-write_next.ensures.written clean)))
+
+pub loop-preserved : goal.loop-preserved
+loop-preserved g c =
+    let old = g.S.ContestStore.kept c.args.store.now in
+    let mid = g.S.ContestStore.kept c.loop.store in
+    let new = g.S.ContestStore.kept c.write_next.new.store in
+    let o = stream g.W.Write.contents c.args.out.now in
+    let m = stream g.W.Write.contents c.loop.out in
+    let n = stream g.W.Write.contents c.write_next.new.out in
+    let k = c.loop.counter in
+    let next : suc k ≡ k + 1 = omega arith in
+    record {
+      written = subst (WrittenSoFar old new o n) next
+          (written_more old mid new o m n k c.loop.invariant.written (λ clean. subst (λ j. Appends m.bytes n.bytes (next_record mid.contest j)) c.loop.invariant.given (c.in_ok-write_next.ensures.written clean))
+          c.in_ok-write_next.ensures.calm c.in_ok-write_next.ensures.leaves);
+      order = c.write_next.ensures.order ∙ c.loop.invariant.order;
+      given = c.in_ok-write_next.ensures.counts ∙ (ap (λ order. stepped (length order) (given_by c.loop.walk)) c.loop.invariant.order ∙ (ap (stepped (length (order_in c.args.walk.now))) c.loop.invariant.given ∙ stepped_within (length (order_in c.args.walk.now)) k (rw c.len-end.ensures at c.loop-test.true)));
+    }

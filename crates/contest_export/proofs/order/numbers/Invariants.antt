@@ -1,5 +1,5 @@
 use Rattle.std.proofs.Common.{◌≡◌, map, take}
-use Rattle.contest_export.specs.Exports.{numbers_of}
+use Rattle.contest_export.specs.Walks.{numbers_of}
 use Rattle.contest_export.proofs.order.numbers.Given as goal
 
 -- those of the rows so far

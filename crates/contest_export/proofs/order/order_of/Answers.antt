@@ -1,7 +1,7 @@
 use Rattle.std.proofs.Common.{◌∙◌, ap, map, sym}
 use Rattle.std.proofs.lemmas.Result.{IfOk-weaker}
 use Rattle.std.proofs.lemmas.Simd.{map-map}
-use Rattle.contest_export.specs.Exports.{numbers_of}
+use Rattle.contest_export.specs.Walks.{numbers_of}
 use Rattle.contest_export.proofs.ExportOrder.{ordered}
 use Rattle.contest_export.proofs.order.order_of.Goals as goal
 

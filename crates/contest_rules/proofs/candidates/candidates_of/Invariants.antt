@@ -5,6 +5,6 @@ use Rattle.contest_rules.proofs.candidates.candidates_of.Given as goal
 
 -- those so far, and those that are left
 abbrev pub invariant-loop-submission : goal.invariant-loop-submission
-invariant-loop-submission l =
-    l.candidates ++ map (candidate_by l.standing.rounds l.standing.members) (map (λ s. of_submission s.now) (drop l.submission-index l.named))
-    ≡ map (candidate_by l.standing.rounds l.standing.members) (map (λ s. of_submission s.now) l.named)
+invariant-loop-submission g l =
+    l.candidates ++ map (candidate_by (g.J.Judged.releases l.judged) l.members) (map (λ s. of_submission s.now) (drop l.submission-index l.named))
+    ≡ map (candidate_by (g.J.Judged.releases l.judged) l.members) (map (λ s. of_submission s.now) l.named)

@@ -1,20 +1,18 @@
-use Rattle.std.proofs.Common.{◌≡◌, ◌∙◌, ℕ}
+use Rattle.std.proofs.Common.{◌≡◌, ◌∙◌, refl}
 use Rattle.std.specs.List.{filter_map}
 use Rattle.std.specs.Option.{option_map}
 use Rattle.serde_json.specs.View.{view}
 use Rattle.contest_types.specs.Loads.{loaded_submissions}
 use Rattle.contest_types.specs.State.{of_release}
+use Rattle.contest_lists.specs.RowsOn.{last_row}
 use Rattle.contest_objects.specs.Items.{found_in}
 use Rattle.contest_view.specs.Judgements.{judgement_row}
-use Rattle.contest_view.specs.LastRows.{last_in, last_row}
 use Rattle.contest_view.proofs.JudgementLemmas.{judgement_is}
 use Rattle.contest_view.proofs.judgements.judgement_by_id.Goals as goal
 
 pub returns-clause-seen : goal.returns-clause-seen
 returns-clause-seen c x shows =
-    let looks = c.in_ok-judgements.ensures.seen in
-    let last = last_in x.releases c.in_ok-judgements.judgements.last in
-    let lasts : (team number : ℕ) → last team number ≡ last_row of_release x.releases team number = rw (looks, shows.lists) at c.in_ok-judgements.ensures.last in
+    let last = last_row of_release x.releases in
     let found : option_map view c.in_ok-found.found ≡ found_in (filter_map (judgement_row c.args.seen.now.audience c.args.seen.now.now x.fixed last) (loaded_submissions x)) c.args.id.now =
-    rw (c.submissions-rows.ensures, looks, shows.lists) at c.in_ok-found.ensures.value in
-    found ∙ judgement_is c.args.seen.now.audience c.args.seen.now.now x shows.valid last lasts c.args.id.now
+    rw (c.submissions-rows.ensures, shows.lists) at c.in_ok-found.ensures.value in
+    found ∙ judgement_is c.args.seen.now.audience c.args.seen.now.now x shows.valid last (λ team number. refl) c.args.id.now

@@ -10,8 +10,8 @@ returns-in_ok-self-inside-in_default-clause-ok c = λ submissions may.
     let was : ContestState = record {
       fixed = c.self.inside.fixed.value;
       submissions = c.self.inside.submissions;
-      proposals = c.self.inside.proposals.items;
-      releases = c.self.inside.releases.items;
+      proposals = c.self.inside.proposals;
+      releases = c.self.inside.releases;
       clarifications = c.self.inside.clarifications.items;
       rejudgings = c.self.inside.rejudgings.items;
     } in
