@@ -4,8 +4,8 @@
     desk_exports.py [--program PATH] [--made N] [--seed N]
 
 N made contests (120) of the demo contest's teams and problems, some of them with final results and some thawed: their awards,
-for anyone and for the jury, before and after each of these moments, and all their submissions. Then outputs that fail, and what
-is refused.
+for anyone and for the jury, before and after each of these moments, and all their submissions. Then an export whose output takes
+so many bytes and no more, other outputs that fail, and what is refused.
 
 Takes faketime. Ends with the line `N passed, M failed`; the exit status is 0 if M is 0.
 """
@@ -17,6 +17,8 @@ import io
 import json
 import os
 import random
+import resource
+import signal
 import sys
 
 from lib import clock, demo, desk_opinion, program
@@ -113,6 +115,29 @@ def try_made(desk):
         list(pool.map(one, range(desk.options.made)))
 
 
+def limited_to(count):
+    """What a program does at its start so that no file takes more than so many bytes of it."""
+
+    def limit():
+        signal.signal(signal.SIGXFSZ, signal.SIG_IGN)
+        resource.setrlimit(resource.RLIMIT_FSIZE, (count, count))
+
+    return limit
+
+
+def try_cuts(desk):
+    """Exports of three submissions or more, whose output fails after so many bytes: in each row, and at each end. The program writes
+    a few bytes to the contest's file too, so there are as many as the header has at least."""
+    contest = next(one for one in map(made_contest, range(100)) if len(one["submissions"]) > 2)
+    folder, text = kept(desk, contest), export_text(contest)
+    ends = [at + 1 for at, char in enumerate(text) if char == "\n"]
+    for count in sorted({*ends[:-1], *(end + 9 for end in ends[:-1]), ends[-1] - 1}):
+        with open(folder / "out", "wb") as output:
+            given = desk.run(folder, "export", "cup.db", stdout=output, preexec_fn=limited_to(count))
+        desk.same(f"an output of {count} bytes", (given, (folder / "out").read_text()), (FILE, text[:count]))
+        desk.answers(f"the export after {count} bytes", (0, text, ""), folder, "export", "cup.db")
+
+
 def try_refused(desk):
     """Awards by the clock, a contest that hasn't begun, words, files and outputs at fault."""
     contest = made_contest(1)
@@ -137,4 +162,4 @@ def try_refused(desk):
 
 
 if __name__ == "__main__":
-    sys.exit(program.main(__doc__, Program, (try_made, try_refused), program="desk", made=120, seed=42))
+    sys.exit(program.main(__doc__, Program, (try_made, try_cuts, try_refused), program="desk", made=120, seed=42))

@@ -5,13 +5,14 @@
 
 Contests are made by `desk init` and `desk import`, with verification and without, and the clock is stopped by faketime. First
 come the walks about verdicts, rejudgings and clarifications of crates/walks/stdin, reply by reply, over HTTP, and the last clarification that
-the jury may write to a team. Then N requests (20,000) made from a seed, by every role, before the freeze, in it and after it, and
-at last beside final results, which sqlite3 sets between two servers: the replies are those of lib/desk_opinion.py. Then N pairs
-(5,000) of worlds that a team, or the public, may not tell apart: they differ in hidden teams' submissions, in verdicts on others'
-frozen submissions, in rejudgings, of which those that are applied change such verdicts alone, in others' clarifications, in which
-of these the jury answers, by whom and under which key, and in the order of acceptance, nothing else. Their rows are written by
-sqlite3, and each reply to that team, at one moment before the thaw, is the same in both. With --leak a verdict that the team may
-see differs too, and the pairs have to tell it.
+the jury may write to a team. Then N requests (20,000) made from a seed, by every role, before the freeze, in it and after it, in
+days whose clock administrators set, and at last beside final results, which sqlite3 sets between two servers: the replies are
+those of lib/desk_opinion.py. Then N pairs (5,000) of worlds that a team, or the public, may not tell apart: they differ in hidden
+teams' submissions, in verdicts on others' frozen submissions, in rejudgings, of which those that are applied change such verdicts
+alone, in others' clarifications, in which of these the jury answers, by whom and under which key, and in the order of acceptance,
+nothing else. Their rows are written by sqlite3, the results of both are final or those of neither, and an administrator sets the
+same thaw in both, and another one in its place. Each reply to that team, at one moment before the thaw, is the same in both. With
+--leak a verdict that the team may see differs too, and the pairs have to tell it.
 
 Takes faketime. Ends with the line `N passed, M failed`; the exit status is 0 if M is 0.
 """
@@ -35,6 +36,7 @@ from lib.rejudger import AT_REJUDGINGS, JURY, NUMBERS, REASONS, Rejudger
 from lib.replay_opinion import reltime_text
 from lib.server import Server
 from lib.sqlite import insert, opened
+from lib.timekeeper import Timekeeper
 
 END = START + 18_000_000
 FREEZE = START + 14_400_000
@@ -83,7 +85,7 @@ def made(desk, verification, thaw=None, finalized=None):
 
 
 def mark(folder, thaw, finalized):
-    """Sets the marks for which there is no command yet."""
+    """Sets the marks, whatever stands."""
     with opened(folder / "cup.db") as database:
         database.execute("UPDATE contest SET thaw = ?, finalized = ?", (thaw, finalized))
 
@@ -151,7 +153,7 @@ def milliseconds_of(text):
     return START + ((hours - 9) * 3600 + minutes * 60 + seconds) * 1000 + int(found[4] or 0)
 
 
-class Asker(Clarifier, Rejudger):
+class Asker(Clarifier, Rejudger, Timekeeper):
     """What is asked next, by a seed."""
 
     def submission(self, contest):
@@ -161,6 +163,8 @@ class Asker(Clarifier, Rejudger):
     def request(self, contest):
         """Who asks, a key, a method, a path and a body."""
         what, accounts = self.random.random(), [row for row, _, _ in ACCOUNTS]
+        if what > 0.96:
+            return self.about_clock(contest, accounts)
         if what < 0.5:
             return (self.about_clarifications if what < 0.25 else self.about_rejudgings)(contest, accounts)
         role = self.random.random()
@@ -175,7 +179,7 @@ class Asker(Clarifier, Rejudger):
         who = self.often(f"token-{self.one(ACCOUNTS)[0]}", ["public"], 0.75)
         which = self.submission(contest)
         paths = ["scoreboard", "scoreboard", "judgements", f"judgements/{which}.{self.often('1', ['2', '2', '3', '01'], 0.7)}",
-                 "submissions", f"submissions/{which}", f"submissions/{which}/files", "state"]  # fmt: skip
+                 "submissions", f"submissions/{which}", f"submissions/{which}/files", "state", "awards", "awards/winner"]  # fmt: skip
         path = self.often(f"{AT_REHEARSAL}/{self.one(paths)}", ["/jury/proposals", "/jury/verifications"], 0.85)
         return who, None, self.often("GET", ["HEAD"], 0.95), path, ""
 
@@ -208,7 +212,7 @@ def try_requests(desk):
             if step == count * 9 // 10:
                 server.stop()
                 contest["finalized"] = now
-                mark(folder, thaw, now)
+                mark(folder, contest["thaw"], now)
                 server = Server(desk, folder)
             server.at(text_of(now))
             asked = chance.request(contest)
@@ -384,6 +388,7 @@ def questions(rows, told, own, chance):
     ids = [f"s{row['team'] + 1}-{row['number']}" for row in rows] or ["s1-1"]
     paths = ["scoreboard", "judgements", "submissions", f"judgements/{chance.one(ids)}.1", f"submissions/{chance.one(ids)}/files"]
     paths += ["clarifications", *(f"clarifications/{chance.one(told)}" for _ in range(3))]
+    paths += ["awards", f"awards/{chance.one(['winner', 'gold-medal', 'first-to-solve-a'])}", "state"]
     paths += [f"judgements/{chance.one(ids)}.{chance.one('23')}"]
     number = chance.often(chance.one("1234"), NUMBERS)
     reads = [(None, "GET", f"{AT_REHEARSAL}/{path}", "") for path in paths]
@@ -406,13 +411,28 @@ def repeats(told, own):
     return [(row["key"], AT_ALL, compact({name: row[part] for name, part in names.items()})) for row in asked]
 
 
-def answers(desk, folder, one_world, who, now, asked):
-    """The replies to a team in one world."""
+def thawed_at(thaw):
+    """What an administrator asks to set the thaw."""
+    return "token-adm", None, "PATCH", AT_REHEARSAL, compact({"scoreboard_thaw_time": moment(thaw)})
+
+
+def with_thaws(chance, now, thaw, asked):
+    """The team's questions with an administrator's between them: a thaw, and another one in its place."""
+    if thaw is None:
+        return asked
+    half = len(asked) // 2
+    later = max(END, now + 1) + chance.random.randint(0, 3_600_000)
+    return [thawed_at(thaw), *asked[:half], thawed_at(later), *asked[half:]]
+
+
+def answers(desk, folder, one_world, finalized, now, asked):
+    """The replies in one world."""
     with opened(folder / "cup.db") as database:
         write(database, *one_world)
+    mark(folder, None, finalized)
     server = Server(desk, folder, requests=len(asked))
     server.at(text_of(now))
-    replies = [server.ask(sent(who, *one)) for one in asked]
+    replies = [server.ask(sent(*one)) for one in asked]
     server.stop()
     return replies
 
@@ -433,14 +453,18 @@ def try_worlds(desk):
         seen = [row for row in others if row["team"] == own and row["types"]]
         if desk.options.leak and seen:
             seen[0]["types"][-1] = (seen[0]["types"][-1] + 1) % 3
-        now, ids = START + chance.random.randint(0, 17_999_999), [id_of(row) for row in told_first + told_second] or ["g-1"]
-        asked = questions(rows, ids, repeats(told_first, own), chance)
-        given = [answers(desk, folder, one_world, who, now, asked) for folder, one_world in zip((first, second), worlds)]
+        thaw = chance.often(None, [END + chance.random.randint(0, 3_600_000)], 0.5)
+        finalized = chance.often(None, [END + chance.random.randint(0, 600_000)], 0.7)
+        now = START + chance.random.randint(0, (thaw or END + 3_600_000) - START - 1)
+        ids = [id_of(row) for row in told_first + told_second] or ["g-1"]
+        asked = [(who, *one) for one in questions(rows, ids, repeats(told_first, own), chance)]
+        asked = with_thaws(chance, now, thaw, asked)
+        given = [answers(desk, folder, one_world, finalized, now, asked) for folder, one_world in zip((first, second), worlds)]
         if desk.options.leak:
             differed += given[0] != given[1]
             continue
         for one, two, question in zip(*given, asked):
-            desk.note(one == two and one != b"", f"pair {number}, {who} at {moment(now)}, {question}: {one}, and {two}")
+            desk.note(one == two and one != b"", f"pair {number} at {moment(now)}, {question}: {one}, and {two}")
     if desk.options.leak:
         desk.note(differed > 0, f"a verdict that is seen differs in {desk.options.pairs} pairs, and none tells it")
         print(f"{differed} of {desk.options.pairs} pairs tell the planted verdict")

@@ -1,11 +1,12 @@
 #!/usr/bin/env -S python3 -B
 """Runs the program on the tables under tests/tables, on other spellings of the first example, and at the limits.
 
-    replay_tables.py [--program PATH]
+    replay_tables.py [--program PATH] [--small PATH]
 
 refused.tsv has files that are refused, each with its line; same_board.tsv files that print the board of
 examples/first.csv; words.tsv words that are refused, and odd ones that aren't. What a file gives is also asked of
-lib/replay_opinion.py. Ends with the line `N passed, M failed`; the exit status is 0 if M is 0.
+lib/replay_opinion.py, and what `replay` answers of quick_replay, the small program of this command, by which `./desk` runs
+it until the whole is built. Ends with the line `N passed, M failed`; the exit status is 0 if M is 0.
 """
 
 import os
@@ -73,14 +74,20 @@ def spelled(data, start, end, mark):
 
 
 class Replay(Tally):
-    """The program, and what was counted."""
+    """The program, the small one, and what was counted."""
 
     def __init__(self, options, _):
         super().__init__()
-        self.program = options.program
+        self.program, self.small = options.program, options.small
 
     def run(self, words, data=b"", **how):
-        return ran([self.program, *words], **(how or {"input": data}))
+        """What the program answers; the small one has to answer the same."""
+        how = how or {"input": data}
+        given = ran([self.program, *words], **how)
+        if list(words[:1]) == ["replay"]:
+            other = ran(words, executable=self.small, **how)
+            self.note(other == given, f"the small program, {words}: {other!r:.500}, and the whole one {given!r:.500}")
+        return given
 
     def file(self, data, wanted, words=("replay",)):
         """The program and the second opinion give this for the file."""
@@ -116,6 +123,15 @@ def try_words(tally):
         tally.file(head, (0, board.encode(), b""), ("replay", at))
 
 
+def try_help(tally):
+    """Help, which wins over other words, and words that are no text."""
+    for words in (["--help"], ["-h"], ["--jury", "--help"], ["--at", "-h"], ["file", "-h"]):
+        status, out, err = tally.run(["replay", *words])
+        tally.note(status == 0 and out.startswith(b"Reads a contest as CSV") and err == b"", f"{words}: {status}, {out!r}, {err!r}")
+    given = tally.run(["replay", os.fsdecode(b"--at=\xff")])
+    tally.note(given == (2, b"", b"error: an argument isn't UTF-8\n"), f"a byte FF: {given}")
+
+
 def try_limits(tally):
     for kind, tail, limit, causes in LIMITS:
         most = HEAD + "".join(f"{kind},k{n},L{n},{tail}\n" for n in range(1, limit + 1)).encode()
@@ -145,4 +161,4 @@ def try_sizes(tally):
 
 
 if __name__ == "__main__":
-    sys.exit(program.main(__doc__, Replay, (try_tables, try_words, try_limits, try_sizes), program="desk"))
+    sys.exit(program.main(__doc__, Replay, (try_tables, try_words, try_help, try_limits, try_sizes), program="desk", small="quick_replay"))
