@@ -17,3 +17,4 @@ pub mod MovesAlike
 pub mod TwoRunLemmas
 pub mod RepeatLemmas
 pub mod BoardLemmas
+pub mod ScoredStores

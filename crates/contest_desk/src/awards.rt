@@ -26,6 +26,7 @@ fn shown<S: ContestStore>(
     store.load(alloc)?;
     let seen = Seen {
         lists: store.lists(),
+        cells: store.cells(),
         audience,
         now,
     };

@@ -27,6 +27,7 @@ fn found<S: ContestStore>(
     store.load(alloc)?;
     let seen = Seen {
         lists: store.lists(),
+        cells: store.cells(),
         audience,
         now,
     };

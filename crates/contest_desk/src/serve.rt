@@ -62,7 +62,7 @@ fn carry_out<S: ContestStore>(
 {
     let needed = file_needed(&wish, store.lists());
     let file = file_at(alloc, store, needed)?;
-    let outcome = answer(alloc, store.lists(), now, wish, file)?;
+    let outcome = answer(alloc, store.lists(), store.cells(), now, wish, file)?;
     conclude(alloc, store, outcome)
 }
 

@@ -1,9 +1,9 @@
 -- Where a team's submissions stand: as rows are added, and which rows these are.
-use Rattle.std.proofs.Common.{◌≡◌, ℕ, suc, ◌+◌, ◌<◌, Bool, true, false, List, [], ◌∷◌, ◌++◌, length, map, take, get_or, Option, Some, None, refl, sym, ap, subst, ◌∙◌, arith, add-zero}
-use Rattle.std.specs.Prelude.{◌==◌, All, slice_get, if◌then◌else◌}
+use Rattle.std.proofs.Common.{◌≡◌, ℕ, suc, ◌+◌, ◌<◌, ◌≤◌, Bool, true, false, List, [], ◌∷◌, ◌++◌, length, map, take, get_or, Option, Some, None, refl, sym, ap, subst, ◌∙◌, arith, add-zero}
+use Rattle.std.specs.Prelude.{◌==◌, All, slice_get, slice_index, if◌then◌else◌}
 use Rattle.std.specs.List.{filter, enumerate_from}
 use Rattle.std.specs.Option.{option_map}
-use Rattle.std.proofs.lemmas.List.{map-append, take_more, length-map, length-take}
+use Rattle.std.proofs.lemmas.List.{map-append, take_all, take_more, length-map, length-take}
 use Rattle.std.proofs.lemmas.List.Elements.{All-filter, All-map, All-weaker, filter-append}
 use Rattle.std.proofs.lemmas.List.FromFn.{length-enumerate_from, get_or-enumerate_from}
 use Rattle.std.proofs.lemmas.Option.{slice_get-get_or, slice_get-map, slice_get_within}
@@ -98,3 +98,15 @@ own_none team rows k at =
 pub as_many : (team : ℕ) (rows : List Submission) → length (places_of team rows) ≡ length (submissions_of team rows)
 as_many team rows =
     sym (length-map (places_of team rows) (slice_get rows)) ∙ (ap length (rows_at_places team rows) ∙ length-map (submissions_of team rows) (λ (s : Submission). Some s))
+
+-- the row at the next of a team's places is the next of its rows
+pub next_own : (team : ℕ) (rows : List Submission) (places : List ℕ) (k : ℕ) (row : Submission) → places ≡ places_of team rows → All (λ place. place < length rows) places → k < length places
+    → row ≡ get_or rows (slice_index places k) row → slice_get (submissions_of team rows) k ≡ Some row
+next_own team rows places k row are within l is =
+    let place = slice_index places k in
+    let here : slice_get (places_of team rows) k ≡ Some place = ap (λ ps. slice_get ps k) (sym are) ∙ slice_get-get_or places k 0 l in
+    sym (own_at team rows k place here) ∙ (slice_get-get_or rows place row (within k 0 l) ∙ ap Some (sym is))
+
+-- and past the last place all are
+pub taken_all : (team : ℕ) (rows : List Submission) (places : List ℕ) (k : ℕ) → places ≡ places_of team rows → length places ≤ k → take k (submissions_of team rows) ≡ submissions_of team rows
+taken_all team rows places k are past = take_all k (submissions_of team rows) (omega (arith, past, ap length are, as_many team rows))

@@ -1,10 +1,11 @@
 //! Changes of the settings, the accounts and the marks.
-ghost use Rattle.std.specs.Prelude.{◌≡◌, ◌++◌, ◌∷◌, [], true, Bool, Ok, Result, IfOk, IfErr, OnOk, filter};
+ghost use Rattle.std.specs.Prelude.{◌≡◌, ◌++◌, ◌∷◌, [], true, false, Bool, Ok, Result, IfOk, IfErr, OnOk, filter};
 ghost use Rattle.contest_types.specs.Accounts.{comes_before, with_account};
 ghost use Rattle.contest_types.specs.Addable.{is_addable, is_added};
 ghost use Rattle.contest_types.specs.Additions.{IsFaultOf};
 ghost use Rattle.contest_types.specs.State.{ContestState, add};
 ghost use Rattle.contest_types.specs.declared.refusal.Cause.{Cause as TheCause};
+ghost use Rattle.contest_lists.specs.RowsAdded.{HasSameSettings, is_setting_or_mark};
 
 use crate::copies::{CopyRow, copied_fixed};
 use crate::outcomes::value_if;
@@ -20,13 +21,15 @@ use std::rc::Rc;
 ///
 /// Want of memory alone.
 pub fn changed_fixed(alloc: Global, fixed: &Fixed, entry: &Entry) -> Result<Rc<Fixed>, AllocError>
-    ensures { IfOk result (λ changed. (x : ContestState) → x.fixed ≡ fixed.now → is_addable x entry.now ≡ true → changed.value ≡ (add x entry.now).fixed) }
+    ensures changed { IfOk result (λ changed. (x : ContestState) → x.fixed ≡ fixed.now → is_addable x entry.now ≡ true → changed.value ≡ (add x entry.now).fixed) }
+    ensures same { IfOk result (λ changed. is_setting_or_mark entry.now ≡ false → HasSameSettings fixed.now changed.value) }
 {
     shared(alloc, changed(alloc, copied_fixed(alloc, fixed)?, entry)?)
 }
 
 fn changed(alloc: Global, fixed: Fixed, entry: &Entry) -> Result<Fixed, AllocError>
-    ensures { IfOk result (λ changed. (x : ContestState) → x.fixed ≡ fixed → is_addable x entry.now ≡ true → changed ≡ (add x entry.now).fixed) }
+    ensures changed { IfOk result (λ changed. (x : ContestState) → x.fixed ≡ fixed → is_addable x entry.now ≡ true → changed ≡ (add x entry.now).fixed) }
+    ensures same { IfOk result (λ changed. is_setting_or_mark entry.now ≡ false → HasSameSettings fixed changed) }
 {
     let mut fixed = fixed;
     let changed = change(alloc, &mut fixed, entry);
@@ -41,7 +44,8 @@ fn shared(alloc: Global, fixed: Fixed) -> Result<Rc<Fixed>, AllocError>
 
 // Rows of what isn't the fixed part change nothing of it.
 fn change(alloc: Global, fixed: &mut Fixed, entry: &Entry) -> Result<(), AllocError>
-    ensures { OnOk result ((x : ContestState) → x.fixed ≡ fixed.old → is_addable x entry.now ≡ true → fixed.new ≡ (add x entry.now).fixed) }
+    ensures changed { OnOk result ((x : ContestState) → x.fixed ≡ fixed.old → is_addable x entry.now ≡ true → fixed.new ≡ (add x entry.now).fixed) }
+    ensures same { OnOk result (is_setting_or_mark entry.now ≡ false → HasSameSettings fixed.old fixed.new) }
 {
     let settings = &mut fixed.settings;
     match entry {

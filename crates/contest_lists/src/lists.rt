@@ -1,11 +1,12 @@
 //! The lists of a contest in memory.
-ghost use Rattle.std.specs.Prelude.{◌≡◌, ◌<◌, ◌≤◌, ◌+◌, ◌⊎◌, ◌++◌, ◌∷◌, List, [], All, IfOk, IfNone, IfSome, OnOk, OnErr, length, option_map, slice_get, slice_set, Some, true};
+ghost use Rattle.std.specs.Prelude.{◌≡◌, ◌<◌, ◌≤◌, ◌+◌, ◌⊎◌, ◌++◌, ◌∷◌, List, [], All, IfOk, IfNone, IfSome, OnOk, OnErr, length, option_map, slice_get, slice_set, Some, true, false};
 ghost use Rattle.contest_types.specs.Addable.{is_addable};
 ghost use Rattle.contest_types.specs.State.{add, changed_at, of_proposal, of_release, submissions_of, with_member_state};
 ghost use Rattle.contest_types.specs.declared.submission.Submission.{Submission};
 ghost use Rattle.contest_types.specs.declared.rejudging.Member.{Member as TheMember};
 ghost use Rattle.contest_types.specs.declared.rejudging.Rejudging.{Rejudging as TheRejudging};
 ghost use Rattle.contest_lists.specs.Lists.{filed, places_of, unfiled, with_submissions};
+ghost use Rattle.contest_lists.specs.RowsAdded.{HasSameSettings, added_releases, added_submissions, is_setting_or_mark};
 ghost use Rattle.contest_lists.specs.RowsOn.{count_on, last_row};
 
 use crate::copies::{CopyRow, copies, without_file};
@@ -176,7 +177,8 @@ impl Lists {
         })
     }
 
-    /// Makes one change, if it may be made; of a submission the file is left out.
+    /// Makes one change, if it may be made; of a submission the file is left out. Whatever the change, it adds
+    /// no submission and no release but its own, and no account changes the settings or the marks.
     ///
     /// # Errors
     ///
@@ -184,6 +186,9 @@ impl Lists {
     pub fn add(&mut self, alloc: Global, entry: &Entry) -> Result<(), AllocError>
         ensures ok { OnOk result ((submissions : List Submission) → is_addable (filed submissions self.old) entry.now ≡ true → self.new ≡ add self.old (unfiled entry.now)) }
         ensures err { OnErr result (self.new ≡ self.old) }
+        ensures submissions { OnOk result (self.new.submissions ≡ self.old.submissions ++ added_submissions entry.now) }
+        ensures releases { OnOk result (self.new.releases ≡ self.old.releases ++ added_releases entry.now) }
+        ensures fixed { OnOk result (is_setting_or_mark entry.now ≡ false → HasSameSettings self.old.fixed self.new.fixed) }
     {
         match entry {
             Entry::NewSubmission(row) => self.submissions.push(without_file(alloc, row)?),

@@ -20,7 +20,7 @@ use contest_types::{Audience, Refusal, Rows};
 use contest_view::{
     Seen, award_by_id, awards_value, clarification_by_id, clarifications_value, file_place,
     judgement_by_id, judgements_value, named_submission, proposals_value, rejudging_by_id,
-    rejudgings_value, scoreboard_value, submission_by_id, submissions_value,
+    rejudgings_value, scoreboard_text, submission_by_id, submissions_value,
 };
 use serde_json::Value;
 use std::alloc::{AllocError, Global};
@@ -78,8 +78,8 @@ pub fn read(
         }
         Reading::File => Ok(tell_file(file)),
         Reading::Scoreboard => {
-            let value = scoreboard_value(alloc, seen)?;
-            tell(alloc, Some(value))
+            let text = scoreboard_text(alloc, seen)?;
+            Ok(Reply::answer(text))
         }
         Reading::Jury(reading) => {
             let found = jury_value(alloc, seen, reading, jury_piece(path))?;

@@ -28,3 +28,5 @@ pub mod LeastOf
 pub mod FirstTeams
 pub mod GroupWinners
 pub mod LastMinutes
+pub mod CachedLemmas
+pub mod OwnCells

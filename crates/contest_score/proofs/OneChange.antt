@@ -27,22 +27,18 @@ use Rattle.contest_types.specs.declared.submission.Submission.{Submission}
 use Rattle.contest_types.specs.declared.submission.Release.{Release}
 use Rattle.contest_types.proofs.PlaceLemmas.{and_left, and_right}
 use Rattle.contest_types.proofs.SeenWhole.{one_submission}
-use Rattle.contest_score.specs.declared.attempt.Attempt.{Attempt}
 use Rattle.contest_score.specs.declared.submission.JudgedSubmission.{JudgedSubmission}
 use Rattle.contest_score.specs.Scoring.{cell_of_attempts}
 use Rattle.contest_score.specs.MaskedCells.{attempt_under, is_by, start_of, cell_under}
 use Rattle.contest_score.specs.Contest.{judged_submission, judged_submissions, seen_cell, board_for}
 use Rattle.contest_score.specs.Awards.{shown_awards}
+use Rattle.contest_score.specs.CachedCells.{attempt_at}
 use Rattle.contest_score.specs.ScoringLaws.{can_score, can_award, is_at, bears_on}
 use Rattle.contest_score.proofs.MaskLemmas.{filter_mapped}
 use Rattle.contest_score.proofs.AwardsAlike.{attempts_of}
 
--- an attempt that a submission is
-abbrev attempt_at : Mask → ContestState → Submission → Attempt
-attempt_at mask x s = attempt_under mask x.fixed.settings x.fixed.marks (judged_submission x s)
-
 -- the attempts are those of the submissions at the cell
-attempts_are : (mask : Mask) (x : ContestState) (team problem : ℕ) → attempts_of mask x team problem ≡ map (attempt_at mask x) (filter (is_at team problem) x.submissions)
+pub attempts_are : (mask : Mask) (x : ContestState) (team problem : ℕ) → attempts_of mask x team problem ≡ map (attempt_at mask x) (filter (is_at team problem) x.submissions)
 attempts_are mask x team problem =
     let under = attempt_under mask x.fixed.settings x.fixed.marks in
     ap (map under) (filter_mapped (is_by team problem) (is_at team problem) (judged_submission x) (λ s. refl) x.submissions)

@@ -15,3 +15,4 @@ pub mod Laws
 pub mod ScoringLaws
 pub mod BoardLaws
 pub mod AwardLaws
+pub mod CachedCells

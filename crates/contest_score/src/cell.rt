@@ -50,10 +50,9 @@ pub fn cell_of(start: Moment, attempts: &[Attempt]) -> Cell
     cell
 }
 
-/// A cell with one more attempt after those that it was made of.
+/// A cell with one more attempt after those that it was made of. It takes no memory.
 pub fn with_attempt(cell: Cell, start: Moment, attempt: Attempt) -> Cell
-    requires room { HasRoom cell }
-    requires started { start ≤ attempt.time }
+    requires { HasRoom cell }
     ensures { result ≡ cell_with start cell attempt }
 {
     if cell.solved.is_some() {
@@ -90,11 +89,10 @@ fn with_verdict(cell: Cell, minute: Minute, verdict: Verdict) -> Cell
     }
 }
 
-/// Contest time in whole minutes, rounded down.
+/// Contest time in whole minutes, rounded down; 0 before the start.
 fn minute_of(start: Moment, time: Moment) -> Minute
-    requires { start ≤ time }
     ensures { result ≡ minute_of start time }
 {
-    let elapsed = time.milliseconds() - start.milliseconds();
+    let elapsed = time.milliseconds().saturating_sub(start.milliseconds());
     Minute((elapsed / 60_000) as u32)
 }

@@ -3,7 +3,7 @@ ghost use Rattle.std.specs.Prelude.{◌≡◌, ◌<◌, ◌^◌, length, IfOk, I
 ghost use Rattle.std.specs.List.{range_with_len};
 ghost use Rattle.contest_score.specs.Counting.{HasRoom, cell_with, cells_table, row_at, with_cell};
 ghost use Rattle.contest_score.specs.Table.{no_attempts, cell_in};
-ghost use Rattle.contest_score.specs.MaskedCells.{mask_for, verdict_of, attempt_under, start_of, cell_for, IsAdmitted};
+ghost use Rattle.contest_score.specs.MaskedCells.{mask_for, verdict_of, verdict_under, attempt_under, start_of, cell_for, IsAdmitted};
 
 use crate::attempt::{Attempt, Verdict};
 use crate::cell::Cell;
@@ -117,9 +117,23 @@ fn attempt_under(
     ensures { result ≡ attempt_under mask settings.now marks.now submission.now }
 {
     let verdict = submission.verdict.map(|place| place as usize);
-    let seen = verdict_under(mask, settings, marks, submission.time, verdict);
+    seen_attempt(mask, settings, marks, submission.time, verdict)
+}
+
+/// An attempt at a moment as it is seen under a mask, with what is seen of the judgement type, by its place,
+/// that was released on it last. It takes no memory.
+pub fn seen_attempt(
+    mask: Mask,
+    settings: &Settings,
+    marks: &Marks,
+    time: Moment,
+    verdict: Option<usize>,
+) -> Attempt
+    ensures { result ≡ record { time = time; verdict = verdict_of settings.now.types (verdict_under mask settings.now marks.now time verdict) } }
+{
+    let seen = verdict_under(mask, settings, marks, time, verdict);
     Attempt {
-        time: submission.time,
+        time,
         verdict: verdict_of(settings.judgement_types(), seen),
     }
 }

@@ -1,3 +1,4 @@
 pub mod FiledLemmas
 pub mod LeaveLemmas
 pub mod CallsLeft
+pub mod ScoringLemmas

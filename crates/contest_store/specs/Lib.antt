@@ -1,3 +1,4 @@
 pub mod StoreErrors
 pub mod Keeping
 pub mod InMemory
+pub mod Grown

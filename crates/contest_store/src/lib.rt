@@ -2,9 +2,12 @@
 #![tactic(auto)]
 
 mod memory;
+mod scored_lists;
+mod scoring;
 mod store;
 mod store_error;
 
 pub use memory::MemoryStore;
+pub use scored_lists::ScoredLists;
 pub use store::ContestStore;
 pub use store_error::StoreError;

@@ -8,8 +8,9 @@ ghost use Rattle.contest_types.specs.Loads.{file_of, without_file};
 ghost use Rattle.contest_types.specs.State.{add};
 ghost use Rattle.contest_streams.specs.Streams.{one_more};
 
-use crate::{ContestStore, StoreError};
+use crate::{ContestStore, ScoredLists, StoreError};
 use contest_lists::{CopyRow, Lists, copied_bytes, push};
+use contest_score::CachedCells;
 use contest_types::{Entry, Fixed, Rows, Submission};
 use std::alloc::{AllocError, Global};
 use std::marker::Model;
@@ -22,9 +23,9 @@ pub struct MemoryStore {
     submissions: Vec<Submission>,
     // how many of them are committed
     kept: usize,
-    committed: Lists,
+    committed: ScoredLists,
     // with what was added since the last commit, if anything was
-    pending: Option<Lists>,
+    pending: Option<ScoredLists>,
     faults: u64,
     refusals: u64,
     commits: u64,
@@ -62,7 +63,7 @@ impl MemoryStore {
         MemoryStore {
             submissions: Vec::new(alloc),
             kept: 0,
-            committed: Lists::new(alloc, fixed),
+            committed: ScoredLists::empty(alloc, fixed),
             pending: None,
             faults: 0,
             refusals: 0,
@@ -146,7 +147,7 @@ impl MemoryStore {
     }
 
     // The lists with what was added since the last commit.
-    fn latest(&self) -> &Lists
+    fn latest(&self) -> &ScoredLists
         ensures lists { result.now ≡ lists_of self.now }
         ensures filed { (lists_of self.now).submissions ≡ map without_file self.now.submissions }
     {
@@ -185,7 +186,7 @@ impl MemoryStore {
     }
 
     // Puts these lists, with one change, in place of the latest.
-    fn put(&mut self, alloc: Global, next: Lists, entry: &Entry) -> Result<(), AllocError>
+    fn put(&mut self, alloc: Global, next: ScoredLists, entry: &Entry) -> Result<(), AllocError>
         requires latest { next ≡ lists_of self.old }
         requires addable { is_addable (contest_of self.old) entry.now ≡ true }
         ensures ok { OnOk result (contest_of self.new ≡ add (contest_of self.old) entry.now) }
@@ -194,8 +195,7 @@ impl MemoryStore {
         ensures left { OnOk result (self.new.calls_left ≡ self.old.calls_left) }
         ensures err { OnErr result (self.new ≡ self.old) }
     {
-        let mut next = next;
-        change(alloc, &mut self.submissions, &mut next, entry)?;
+        let next = changed(alloc, &mut self.submissions, next, entry)?;
         self.pending = Some(next);
         Ok(())
     }
@@ -226,7 +226,11 @@ impl ContestStore for MemoryStore {
     }
 
     fn lists(&self) -> &Lists {
-        self.latest()
+        self.latest().lists()
+    }
+
+    fn cells(&self) -> &CachedCells {
+        self.latest().cells()
     }
 
     fn file(
@@ -304,19 +308,33 @@ fn one_more(count: u64) -> u64
     if count < u64::MAX { count + 1 } else { count }
 }
 
-// Makes one change to the lists, and to the submissions with their files.
-fn change(
+// The lists with one change, which is made to the submissions with their files too.
+fn changed(
     alloc: Global,
     submissions: &mut Vec<Submission>,
-    lists: &mut Lists,
+    lists: ScoredLists,
     entry: &Entry,
-) -> Result<(), AllocError>
-    requires { is_addable (filed submissions.old.items lists.old) entry.now ≡ true }
-    ensures lists { OnOk result (lists.new ≡ add lists.old (unfiled entry.now)) }
+) -> Result<ScoredLists, AllocError>
+    requires { is_addable (filed submissions.old.items lists) entry.now ≡ true }
+    ensures lists { IfOk result (λ next. next ≡ add lists (unfiled entry.now)) }
     ensures submissions { OnOk result (submissions.new.items ≡ submissions.old.items ++ option_to_list (submission_in entry.now)) }
     ensures err { OnErr result (submissions.new.items ≡ submissions.old.items) }
 {
-    lists.add(alloc, entry)?;
+    let next = lists.add(alloc, entry)?;
+    match file(alloc, submissions, entry) {
+        Ok(()) => Ok(next),
+        Err(error) => {
+            drop(next);
+            Err(error)
+        }
+    }
+}
+
+// Puts a submission that is new at the end, with its file.
+fn file(alloc: Global, submissions: &mut Vec<Submission>, entry: &Entry) -> Result<(), AllocError>
+    ensures submissions { OnOk result (submissions.new.items ≡ submissions.old.items ++ option_to_list (submission_in entry.now)) }
+    ensures err { OnErr result (submissions.new.items ≡ submissions.old.items) }
+{
     match entry {
         Entry::NewSubmission(submission) => push(submissions, submission.copied(alloc)?),
         _ => Ok(()),

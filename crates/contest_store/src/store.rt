@@ -3,11 +3,15 @@ ghost use Rattle.std.specs.Prelude.{◌≡◌, true, Option, Some, IsTrue, IfOk,
 ghost use Rattle.contest_types.specs.State.{ContestState, add};
 ghost use Rattle.contest_types.specs.Addable.{is_addable};
 ghost use Rattle.contest_types.specs.Loads.{file_of};
+ghost use Rattle.contest_types.specs.Valid.{is_valid};
+ghost use Rattle.contest_score.specs.CachedCells.{cell_cached};
+ghost use Rattle.contest_score.specs.Contest.{contest_cell};
 ghost use Rattle.contest_store.specs.Keeping.{Kept, Reads, Adds, Commits, LeavesOnly};
 ghost use Rattle.contest_lists.specs.Lists.{loaded};
 
 use crate::StoreError;
 use contest_lists::Lists;
+use contest_score::CachedCells;
 use contest_types::{Entry, Rows};
 use std::alloc::Global;
 
@@ -33,6 +37,11 @@ pub trait ContestStore {
     fn lists(&self) -> &Lists
         requires { IsTrue (kept self.now).is_loaded }
         ensures { (kept self.now).is_clean → result.now ≡ loaded (kept self.now).contest };
+
+    /// The cells that these lists come to, for each team and problem with a submission under either mask.
+    fn cells(&self) -> &CachedCells
+        requires { IsTrue (kept self.now).is_loaded }
+        ensures { (kept self.now).is_clean → is_valid (kept self.now).contest ≡ true → cell_cached result.now ≡ (λ mask. contest_cell mask (kept self.now).contest) };
 
     /// The file of the submission with a number, from 1, of the team at a place, from 0; none where
     /// there is no such submission.

@@ -5,11 +5,10 @@ ghost use Rattle.contest_types.specs.Addable.{is_addable};
 ghost use Rattle.contest_types.specs.State.{ContestState, add};
 ghost use Rattle.contest_store_tables.specs.Connected.{shown_by, counts_of};
 ghost use Rattle.contest_store_tables.specs.Steps.{Call, Step, MakesNone};
-ghost use Rattle.contest_store_changes.specs.Additions.{Admits, HasAdded};
+ghost use Rattle.contest_store_changes.specs.Additions.{Admits, Appends, HasAdded};
 ghost use Rattle.contest_store_sqlite.specs.Steps.{MayAdd};
 
-use contest_lists::Lists;
-use contest_store::StoreError;
+use contest_store::{ScoredLists, StoreError};
 use contest_store_changes::append;
 use contest_store_tables::Tables;
 use contest_types::Entry;
@@ -26,35 +25,52 @@ use std::alloc::{AllocError, Global};
 pub(crate) fn add<S: Alter>(
     tables: &mut Tables<S>,
     alloc: Global,
-    lists: Lists,
+    lists: ScoredLists,
     entry: &Entry,
-) -> Result<Lists, StoreError>
+) -> Result<ScoredLists, StoreError>
     ensures lists { (x : ContestState) → loaded x ≡ lists → is_addable x entry.now ≡ true → IfOk result (λ changed. changed ≡ loaded (add x entry.now)) }
     ensures call { Call result (shown_by S.Store tables.old) (shown_by S.Store tables.new) (counts_of tables.old) (counts_of tables.new) (MayAdd lists entry.now) (HasAdded lists entry.now)
         (MakesNone (shown_by S.Store tables.old) (MayAdd lists entry.now)) }
 {
     match tables.begin() {
         Ok(()) => add_within(tables, alloc, lists, entry),
-        Err(error) => Err(error),
+        Err(error) => {
+            drop(lists);
+            Err(error)
+        }
     }
 }
 
 fn add_within<S: Alter>(
     tables: &mut Tables<S>,
     alloc: Global,
-    lists: Lists,
+    lists: ScoredLists,
     entry: &Entry,
-) -> Result<Lists, StoreError>
+) -> Result<ScoredLists, StoreError>
     ensures lists { (x : ContestState) → loaded x ≡ lists → is_addable x entry.now ≡ true → IfOk result (λ changed. changed ≡ loaded (add x entry.now)) }
     ensures step { Step result (shown_by S.Store tables.old) (shown_by S.Store tables.new) (counts_of tables.old) (counts_of tables.new) (Admits lists entry.now) (HasAdded lists entry.now)
         (MakesNone (shown_by S.Store tables.old) (Admits lists entry.now)) }
 {
-    let mut lists = lists;
-    match append(tables, alloc, &lists, entry) {
+    match append_scored(tables, alloc, &lists, entry) {
         Ok(()) => match lists.add(alloc, entry) {
-            Ok(()) => Ok(lists),
+            Ok(changed) => Ok(changed),
             Err(AllocError) => Err(tables.out_of_memory()),
         },
-        Err(error) => Err(error),
+        Err(error) => {
+            drop(lists);
+            Err(error)
+        }
     }
+}
+
+// Makes one change in the tables of a contest with these lists.
+fn append_scored<S: Alter>(
+    tables: &mut Tables<S>,
+    alloc: Global,
+    lists: &ScoredLists,
+    entry: &Entry,
+) -> Result<(), StoreError>
+    ensures { Appends result (shown_by S.Store tables.old) (shown_by S.Store tables.new) (counts_of tables.old) (counts_of tables.new) lists.now entry.now }
+{
+    append(tables, alloc, lists.lists(), entry)
 }

@@ -13,8 +13,8 @@ ghost use Rattle.contest_store_sqlite.specs.Creation.{HasContest, HasHeadAlone, 
 ghost use Rattle.contest_store_tables.specs.Numbered.{IsNumbered};
 
 use crate::opening::read_desk;
-use contest_lists::{Lists, is_valid_fixed};
-use contest_store::StoreError;
+use contest_lists::is_valid_fixed;
+use contest_store::{ScoredLists, StoreError};
 use contest_store_fixed_rows::{contest_cells, desk_cells};
 use contest_store_rows::VERSION;
 use contest_store_tables::{Standing, TableName, Tables};
@@ -107,7 +107,7 @@ pub(crate) fn make_or_read<S: Alter>(
     tables: &mut Tables<S>,
     alloc: Global,
     fixed: Rc<Fixed>,
-) -> Result<Lists, Refusal>
+) -> Result<ScoredLists, Refusal>
     requires numbered { IsNumbered (shown_by S.Store tables.old) }
     requires new { HasHeadAlone fixed.value }
     requires sound { IsSound (without_rows fixed.value) }
@@ -136,7 +136,7 @@ fn read_equal<S: Alter>(
     tables: &mut Tables<S>,
     alloc: Global,
     head: &ContestHead,
-) -> Result<Lists, Refusal>
+) -> Result<ScoredLists, Refusal>
     requires numbered { IsNumbered (shown_by S.Store tables.old) }
     requires stood { ¬ IsBare (shown_by S.Store tables.old) }
     ensures equal { HasCleanDisk (shown_by S.Store tables.new) → IfOk result (IsReadEqual head.now (shown_by S.Store tables.old) (shown_by S.Store tables.new)) }
@@ -148,7 +148,7 @@ fn read_equal<S: Alter>(
 {
     match read_desk(tables, alloc) {
         Ok(lists) => {
-            if has_head(lists.fixed(), head) {
+            if has_head(lists.lists().fixed(), head) {
                 Ok(lists)
             } else {
                 // the transaction of the reads is undone
@@ -172,7 +172,7 @@ fn make_contest<S: Alter>(
     tables: &mut Tables<S>,
     alloc: Global,
     fixed: Rc<Fixed>,
-) -> Result<Lists, StoreError>
+) -> Result<ScoredLists, StoreError>
     requires bare { IsBare (shown_by S.Store tables.old) }
     requires new { HasHeadAlone fixed.value }
     requires sound { IsSound (without_rows fixed.value) }
@@ -184,7 +184,7 @@ fn make_contest<S: Alter>(
         return Err(StoreError::Fault);
     }
     match make_desk(tables, &fixed) {
-        Ok(()) => Ok(Lists::new(alloc, fixed)),
+        Ok(()) => Ok(ScoredLists::empty(alloc, fixed)),
         Err(error) => Err(error),
     }
 }

@@ -12,8 +12,7 @@ ghost use Rattle.contest_store_sqlite.specs.Keepers.{keeps, IsWhole};
 use crate::additions::add;
 use crate::files::load_file;
 use crate::reads::load_lists;
-use contest_lists::Lists;
-use contest_store::StoreError;
+use contest_store::{ScoredLists, StoreError};
 use contest_store_changes::is_of_kinds;
 use contest_store_tables::{Tables, one_more};
 use contest_types::{Entry, Rows};
@@ -24,7 +23,7 @@ use std::alloc::Global;
 #[derive(Drop)]
 pub(crate) struct Keeper<S: Alter> {
     pub(crate) tables: Tables<S>,
-    pub(crate) held: Option<Lists>,
+    pub(crate) held: Option<ScoredLists>,
     /// Whether a change was made since the last commit.
     pub(crate) is_changed: bool,
     pub(crate) commits: u64,
@@ -113,7 +112,7 @@ impl<S: Alter> Keeper<S> {
     }
 
     // The lists were taken, and are put back with the change.
-    fn add(&mut self, alloc: Global, lists: Lists, entry: &Entry) -> Result<(), StoreError>
+    fn add(&mut self, alloc: Global, lists: ScoredLists, entry: &Entry) -> Result<(), StoreError>
         requires whole { IsWhole S.Store (record self.old { held = Some lists }) }
         requires taken { self.old.held ≡ None }
         requires addable { (keeps S.Store self.old).is_clean → is_addable (keeps S.Store self.old).contest entry.now ≡ true }

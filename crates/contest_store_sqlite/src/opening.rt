@@ -17,8 +17,7 @@ ghost use Rattle.contest_store_tables.specs.Numbered.{IsNumbered};
 ghost use Rattle.contest_store_sqlite.specs.Steps.{HoldsDesk, MakesNoneOfDesk};
 
 use crate::reads::find_lists;
-use contest_lists::Lists;
-use contest_store::StoreError;
+use contest_store::{ScoredLists, StoreError};
 use contest_store_tables::{Standing, Tables};
 use contest_store_valid::is_valid;
 use sqlite::Alter;
@@ -33,7 +32,7 @@ use std::alloc::{AllocError, Global};
 pub(crate) fn read_desk<S: Alter>(
     tables: &mut Tables<S>,
     alloc: Global,
-) -> Result<Lists, StoreError>
+) -> Result<ScoredLists, StoreError>
     requires { IsNumbered (shown_by S.Store tables.old) }
     ensures read { HasCleanDisk (shown_by S.Store tables.new) → IfOk result (IsRead (shown_by S.Store tables.old) (shown_by S.Store tables.new)) }
     ensures counts { OnOk result (counts_of tables.new ≡ counts_of tables.old) }
@@ -49,7 +48,7 @@ pub(crate) fn read_desk<S: Alter>(
 }
 
 // The lists of the valid contest that the tables of a desk show. Where they show none, no call failed.
-fn read_valid<S: Alter>(tables: &mut Tables<S>, alloc: Global) -> Result<Lists, StoreError>
+fn read_valid<S: Alter>(tables: &mut Tables<S>, alloc: Global) -> Result<ScoredLists, StoreError>
     ensures lists { HasCleanDisk (shown_by S.Store tables.new) → (now : TableRows) (kept : Content) → Holds (shown_by S.Store tables.old) (Showing now) kept → AllRise now → IfOk result (λ lists. lists_in (loaded_tables now) ≡ Some lists) }
     ensures valid { IfOk result (λ lists. (x : ContestState) → loaded x ≡ lists → (true && has_small_files x) ≡ is_valid x) }
     ensures call { OnOk result (Call result (shown_by S.Store tables.old) (shown_by S.Store tables.new) (counts_of tables.old) (counts_of tables.new) HoldsDesk Full (MakesNone (shown_by S.Store tables.old) HoldsDesk)) }
@@ -68,14 +67,17 @@ fn read_valid<S: Alter>(tables: &mut Tables<S>, alloc: Global) -> Result<Lists, 
 }
 
 // The lists, if they are a valid contest's. No file of theirs is too large, since none is read then.
-fn find_valid<S: Alter>(tables: &mut Tables<S>, alloc: Global) -> Result<Option<Lists>, StoreError>
+fn find_valid<S: Alter>(
+    tables: &mut Tables<S>,
+    alloc: Global,
+) -> Result<Option<ScoredLists>, StoreError>
     ensures lists { HasCleanDisk (shown_by S.Store tables.new) → (now : TableRows) (kept : Content) → Holds (shown_by S.Store tables.old) (Showing now) kept → AllRise now → IfOk result (λ found. IfSome found (λ lists. lists_in (loaded_tables now) ≡ Some lists)) }
     ensures valid { IfOk result (λ found. IfSome found (λ lists. (x : ContestState) → loaded x ≡ lists → (true && has_small_files x) ≡ is_valid x)) }
     ensures call { Call result (shown_by S.Store tables.old) (shown_by S.Store tables.new) (counts_of tables.old) (counts_of tables.new) HoldsDesk Full (MakesNone (shown_by S.Store tables.old) HoldsDesk) }
 {
     match find_lists(tables, alloc) {
         Ok(found) => match found {
-            Some(lists) => match is_valid(alloc, &lists) {
+            Some(lists) => match is_valid(alloc, lists.lists()) {
                 Ok(true) => Ok(Some(lists)),
                 Ok(false) => Ok(None),
                 Err(AllocError) => Err(tables.out_of_memory()),

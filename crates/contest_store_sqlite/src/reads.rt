@@ -13,8 +13,7 @@ ghost use Rattle.contest_store_sqlite.specs.Keeping.{StaysKept};
 ghost use Rattle.contest_store_sqlite.specs.Loading.{AllRise, no_rows, with_loaded};
 ghost use Rattle.contest_store_sqlite.specs.Steps.{HoldsDesk};
 
-use contest_lists::Lists;
-use contest_store::StoreError;
+use contest_store::{ScoredLists, StoreError};
 use contest_store_fixed_rows::{LoadedRows, read_lists};
 use contest_store_tables::{ALL_TABLES, TableName, Tables};
 use sqlite::{Alter, Row};
@@ -30,7 +29,7 @@ use std::alloc::{AllocError, Global};
 pub(crate) fn load_lists<S: Alter>(
     tables: &mut Tables<S>,
     alloc: Global,
-) -> Result<Lists, StoreError>
+) -> Result<ScoredLists, StoreError>
     requires { StaysKept (shown_by S.Store tables.old) }
     ensures lists { HasCleanDisk (shown_by S.Store tables.new) → (x : ContestState) (kept : Content) → IsSound x → Holds (shown_by S.Store tables.old) (Showing (table_rows x)) kept → IfOk result (λ lists. lists ≡ loaded x) }
     ensures call { Call result (shown_by S.Store tables.old) (shown_by S.Store tables.new) (counts_of tables.old) (counts_of tables.new) HoldsDesk Full (MakesNone (shown_by S.Store tables.old) HoldsDesk) }
@@ -53,7 +52,7 @@ pub(crate) fn load_lists<S: Alter>(
 pub(crate) fn find_lists<S: Alter>(
     tables: &mut Tables<S>,
     alloc: Global,
-) -> Result<Option<Lists>, StoreError>
+) -> Result<Option<ScoredLists>, StoreError>
     ensures lists { HasCleanDisk (shown_by S.Store tables.new) → (now : TableRows) (kept : Content) → Holds (shown_by S.Store tables.old) (Showing now) kept → AllRise now → IfOk result (λ found. found ≡ lists_in (loaded_tables now)) }
     ensures call { Call result (shown_by S.Store tables.old) (shown_by S.Store tables.new) (counts_of tables.old) (counts_of tables.new) HoldsDesk Full (MakesNone (shown_by S.Store tables.old) HoldsDesk) }
 {
@@ -63,16 +62,29 @@ pub(crate) fn find_lists<S: Alter>(
     }
 }
 
-fn find_within<S: Alter>(tables: &mut Tables<S>, alloc: Global) -> Result<Option<Lists>, StoreError>
+fn find_within<S: Alter>(
+    tables: &mut Tables<S>,
+    alloc: Global,
+) -> Result<Option<ScoredLists>, StoreError>
     ensures lists { HasCleanDisk (shown_by S.Store tables.new) → (now : TableRows) (kept : Content) → Within (shown_by S.Store tables.old) (Showing now) kept → AllRise now → IfOk result (λ found. found ≡ lists_in (loaded_tables now)) }
     ensures step { Step result (shown_by S.Store tables.old) (shown_by S.Store tables.new) (counts_of tables.old) (counts_of tables.new) Full Full (MakesNone (shown_by S.Store tables.old) Full) }
 {
     match load_rows(tables, alloc) {
-        Ok(rows) => match read_lists(alloc, &rows) {
+        Ok(rows) => match read_scored(alloc, &rows) {
             Ok(found) => Ok(found),
             Err(AllocError) => Err(tables.out_of_memory()),
         },
         Err(error) => Err(error),
+    }
+}
+
+// The lists that rows are, with their cells; none where they are those of no contest.
+fn read_scored(alloc: Global, rows: &LoadedRows) -> Result<Option<ScoredLists>, AllocError>
+    ensures { IfOk result (λ found. found ≡ lists_in (tables_of rows.now)) }
+{
+    match read_lists(alloc, rows)? {
+        Some(lists) => Ok(Some(ScoredLists::new(alloc, lists)?)),
+        None => Ok(None),
     }
 }
 

@@ -6,6 +6,7 @@ use crate::keeper::Keeper;
 use crate::open_error::OpenError;
 use crate::opening::read_desk;
 use contest_lists::Lists;
+use contest_score::CachedCells;
 use contest_store::{ContestStore, StoreError};
 use contest_store_tables::Tables;
 use contest_types::{Contest, Entry, Refusal, Rows};
@@ -190,9 +191,16 @@ impl<S: Alter> ContestStore for Store<S> {
         self.keeper.load(alloc)
     }
 
+    fn cells(&self) -> &CachedCells {
+        match &self.keeper.held {
+            Some(lists) => lists.cells(),
+            None => unreachable!(),
+        }
+    }
+
     fn lists(&self) -> &Lists {
         match &self.keeper.held {
-            Some(lists) => lists,
+            Some(lists) => lists.lists(),
             None => unreachable!(),
         }
     }

@@ -9,3 +9,4 @@ pub mod Proposals
 pub mod Rejudgings
 pub mod Awards
 pub mod Laws
+pub mod JsonTokens

@@ -40,6 +40,7 @@ fn final_awards(alloc: Global, seen: &Seen<'_>) -> Result<Awards, AllocError>
 {
     let jury = Seen {
         lists: seen.lists,
+        cells: seen.cells,
         audience: Audience::Jury,
         now: seen.now,
     };

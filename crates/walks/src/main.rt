@@ -3,6 +3,7 @@
 #![tactic(auto)]
 
 mod import_lines;
+mod kept_cells;
 mod rehearsal_desk;
 mod reply_line;
 mod request_lines;

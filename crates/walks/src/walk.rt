@@ -1,6 +1,7 @@
 //! A walk: its name, and then steps at one desk, with an empty line before each. A step is requests and
 //! imports that come in one run, and then their answers.
 
+use crate::kept_cells::are_as_counted;
 use crate::rehearsal_desk::{desk_for, number_after};
 use crate::reply_line::{is_answer, line_of};
 use crate::request_lines::items_of;
@@ -21,8 +22,8 @@ pub fn report_of(alloc: Global, walk: &str) -> Result<String, Fail> {
 fn add_walk(alloc: Global, report: &mut String, walk: &str) -> Result<(), Fail> {
     let mut desk = desk_for(alloc, walk)?;
     let gone = add_steps(alloc, report, &mut desk, walk);
-    let faults = desk.into_store().faults();
-    add_faults(alloc, report, gone, faults)
+    let store = desk.into_store();
+    add_end(alloc, report, gone, &store)
 }
 
 /// Goes the steps of a walk, and tells how they went and what stands then.
@@ -40,15 +41,21 @@ fn add_steps(
     Ok(())
 }
 
-/// Tells how often the store failed in a walk that was gone.
-fn add_faults(
+/// Tells how often the store failed in a walk that was gone, and whether it kept the cells right.
+fn add_end(
     alloc: Global,
     report: &mut String,
     gone: Result<(), Fail>,
-    faults: u64,
+    store: &MemoryStore,
 ) -> Result<(), Fail> {
     gone?;
-    let text = format!(in alloc; ", faults of the store: {faults}\n")?;
+    let faults = store.faults();
+    let cells = if are_as_counted(alloc, store)? {
+        "cells as counted"
+    } else {
+        "OTHER CELLS"
+    };
+    let text = format!(in alloc; ", faults of the store: {faults}, {cells}\n")?;
     report.push_str(text.as_str())?;
     Ok(())
 }

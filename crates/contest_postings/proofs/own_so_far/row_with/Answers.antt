@@ -2,7 +2,8 @@ use Rattle.std.proofs.Common.{◌≡◌, ◌∙◌, Some, sym}
 use Rattle.std.specs.Prelude.{slice_get}
 use Rattle.contest_types.specs.State.{submissions_of}
 use Rattle.contest_rules.specs.Submitting.{has_key}
-use Rattle.contest_postings.proofs.OwnRows.{find_here, find_past, next_own, taken_all}
+use Rattle.contest_lists.proofs.TeamRowLemmas.{next_own, taken_all}
+use Rattle.contest_postings.proofs.OwnRows.{find_here, find_past}
 use Rattle.contest_postings.proofs.own_so_far.row_with.Goals as goal
 
 pub returns-then-has_key : goal.returns-then-has_key

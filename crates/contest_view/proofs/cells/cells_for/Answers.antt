@@ -1,12 +1,13 @@
-use Rattle.std.proofs.Common.{◌∙◌, sym}
-use Rattle.std.proofs.lemmas.Bool.{false≢true}
-use Rattle.contest_score.specs.Lists.{CanBeScored}
-use Rattle.contest_score.proofs.ValidLists.{valid_can_be_scored}
+use Rattle.std.proofs.Common.{◌∙◌, ℕ, ap}
+use Rattle.contest_types.specs.Masks.{mask_for}
+use Rattle.contest_types.specs.declared.marks.Marks.{Marks}
+use Rattle.contest_types.specs.declared.sight.Mask.{Mask}
+use Rattle.contest_score.specs.declared.cell.Cell.{Cell}
+use Rattle.contest_score.specs.CachedCells.{cell_cached}
 use Rattle.contest_view.proofs.cells.cells_for.Goals as goal
 
--- the lists of a valid contest can be scored
-pub returns-else-can_be_scored : goal.returns-else-can_be_scored
-returns-else-can_be_scored c x shows =
-    let lists = c.args.seen.now.lists.now in
-    let scored : CanBeScored lists.fixed lists.submissions lists.releases = rw shows.lists (valid_can_be_scored x shows.valid).1 in
-    absurd (false≢true (sym c.if-can_be_scored.false ∙ c.can_be_scored.ensures.1 (rw (c.fixed.ensures, c.submissions.ensures, c.releases.ensures) scored)))
+pub returns : goal.returns
+returns c = λ x shows.
+    (let seen = c.args.seen.now in
+    let by : Marks → (Mask → ℕ → ℕ → Cell) → ℕ → ℕ → Cell = λ marks cells team problem. cells (mask_for seen.audience marks seen.now team) team problem in
+    ap (λ marks. by marks (cell_cached seen.cells.now)) (ap (λ f. f.marks) (c.fixed.ensures ∙ ap (λ l. l.fixed) shows.lists)) ∙ ap (by x.fixed.marks) shows.cells)

@@ -26,5 +26,5 @@ returns-in_ok-self-inside-in_default-clause-ok c = λ submissions may.
     } in
     let addable : is_addable (filed submissions was) c.args.entry.now ≡ true = subst (λ x. is_addable (filed submissions x) c.args.entry.now ≡ true) (sym c.self.view_is) may in
     fixed_changed was c.args.entry.now c.in_ok-self-inside-in_default.field-0.value other
-    (c.in_ok-self-inside-in_default.ensures (filed submissions was) (sym c.deref.ensures) addable ∙ fixed_whoever was submissions c.args.entry.now)
+    (c.in_ok-self-inside-in_default.ensures.changed (filed submissions was) (sym c.deref.ensures) addable ∙ fixed_whoever was submissions c.args.entry.now)
     ∙ ap (λ x. add x (unfiled c.args.entry.now)) c.self.view_is
