@@ -22,24 +22,24 @@ pub enum WordKind<'a> {
 /// One word, flag or option of a command.
 #[derive(Clone, Copy)]
 pub struct WordRow<'a> {
-    /// By which its value is asked for.
+    /// The name by which the value of the row is asked for.
     pub name: &'a str,
-    /// What it is.
+    /// Whether the row is a word, a flag or an option.
     pub kind: WordKind<'a>,
-    /// Its line of help.
+    /// The row's line of help.
     pub help: &'a str,
 }
 
 /// A command.
 #[derive(Clone, Copy)]
 pub struct CommandTable<'a> {
-    /// Its name.
+    /// The command's name.
     pub name: &'a str,
-    /// How it is called.
+    /// How the command is called.
     pub called: &'a str,
-    /// Its first line of help.
+    /// The command's first line of help.
     pub about: &'a str,
-    /// Its words, flags and options, in their order.
+    /// The command's words, flags and options, in their order.
     pub rows: &'a [WordRow<'a>],
 }
 

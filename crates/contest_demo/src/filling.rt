@@ -15,7 +15,7 @@ use std::alloc::{AllocError, Global};
 ///
 /// # Errors
 ///
-/// Those of the store, or want of memory. Nothing is kept then.
+/// An error of the store, or want of memory. If the store is still open, nothing is kept then.
 pub(crate) fn fill_store<S: ContestStore>(
     alloc: Global,
     store: &mut S,

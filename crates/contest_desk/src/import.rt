@@ -18,7 +18,7 @@ use std::alloc::Global;
 ///
 /// # Errors
 ///
-/// Those of the store, or want of memory. Every other refusal is an answer.
+/// An error of the store, or want of memory. Every other refusal is an answer.
 pub fn serve_import<S: ContestStore>(
     alloc: Global,
     store: &mut S,

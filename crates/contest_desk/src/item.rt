@@ -21,7 +21,7 @@ pub struct ImportItem {
     pub now: Moment,
     /// What the file holds.
     pub kind: ImportKind,
-    /// Its bytes.
+    /// The file's bytes.
     pub file: Rows<u8>,
 }
 

@@ -14,7 +14,7 @@ use std::alloc::Global;
 ///
 /// # Errors
 ///
-/// Those of the store. Nothing is kept then.
+/// An error of the store. If the store is still open, nothing is kept then.
 pub fn keep<S: ContestStore>(
     alloc: Global,
     store: &mut S,

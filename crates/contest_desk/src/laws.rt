@@ -24,7 +24,7 @@ pub fn imports_never_fail()
     ensures { ImportsNeverFail }
 {}
 
-/// A file that was imported adds nothing when it is imported again, whenever that is.
+/// A file that was imported adds nothing to the contest then, whenever it is imported again.
 pub fn imported_again_adds_nothing()
     ensures { ImportedAgainAddsNothing }
 {}

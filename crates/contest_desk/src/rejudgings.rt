@@ -12,8 +12,8 @@ pub fn unapplied_is_unseen()
     ensures { UnappliedIsUnseen }
 {}
 
-/// Nor can an audience notice that one is applied whose members are others' frozen submissions, or those
-/// of hidden teams.
+/// An audience can't notice that a rejudging is applied whose members are other teams' submissions,
+/// if each of them is frozen or its team is hidden.
 pub fn applied_is_unseen()
     ensures { AppliedIsUnseen }
 {}

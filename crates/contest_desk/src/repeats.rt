@@ -14,8 +14,9 @@ pub fn posts_repeat_once()
     ensures { PostsRepeatOnce }
 {}
 
-/// So it is with requests: whoever of the sender's accounts repeats one under its key gets the first reply,
-/// or `KeyReused`, and nothing changes.
+/// Once a request that posts under a key is answered as done, any account of the sender that posts
+/// the same under that key gets the first reply; one that posts something else gets `KeyReused`.
+/// Neither changes anything.
 pub fn repeats_once()
     ensures { RepeatsOnce }
 {}

@@ -23,7 +23,7 @@ use std::alloc::Global;
 ///
 /// # Errors
 ///
-/// Those of the store, or want of memory. Every other refusal is a reply.
+/// An error of the store, or want of memory. Every other refusal is a reply.
 pub fn serve<S: ContestStore>(
     alloc: Global,
     store: &mut S,

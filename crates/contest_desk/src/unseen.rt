@@ -10,7 +10,8 @@ pub fn unseen_entry()
     ensures { UnseenEntry }
 {}
 
-/// And so does any number of such changes, one after another.
+/// Any number of changes that an audience can't notice before the thaw, one after another, leave
+/// the contest alike for it.
 pub fn unseen_entries()
     ensures { UnseenEntries }
 {}
@@ -20,7 +21,7 @@ pub fn refused_step()
     ensures { RefusedStep }
 {}
 
-/// And so does one that reads.
+/// A request that reads leaves the contest exactly as it was.
 pub fn read_step()
     ensures { ReadStep }
 {}
@@ -36,7 +37,8 @@ pub fn refused_import()
     ensures { RefusedImport }
 {}
 
-/// And one that adds nothing, or only what an audience can't notice, leaves it alike for that audience.
+/// A file that adds nothing, or only what an audience can't notice, leaves the contest alike for
+/// that audience.
 pub fn unseen_import()
     ensures { UnseenImport }
 {}

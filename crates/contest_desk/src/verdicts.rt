@@ -8,7 +8,7 @@ pub fn imported_verdicts_are_unseen()
     ensures { ImportedVerdictsAreUnseen }
 {}
 
-/// Nor can it notice that verdicts are imported which somebody has to verify first.
+/// An audience can't notice that verdicts are imported which somebody has to verify first.
 pub fn pending_verdicts_are_unseen()
     ensures { PendingVerdictsAreUnseen }
 {}

@@ -16,7 +16,8 @@ use std::alloc::{AllocError, Global};
 
 /// The submissions of a contest, one at a time, by time, team id and number (Contest API 2023-06,
 /// submissions): those that were given are a front of the list, and at the end all of it. One file is in
-/// memory at a time, and no transaction stands between two steps.
+/// memory at a time. A step that has read calls `ContestStore::rest`. Only the store in SQLite
+/// tables promises that no transaction is open after it (`Store::rest` of contest_store_sqlite).
 #[derive(Drop)]
 pub struct Walk {
     // which submissions, in their order
@@ -30,7 +31,7 @@ impl Walk {
     ///
     /// # Errors
     ///
-    /// Those of the store, and want of memory. The contest is as before.
+    /// An error of the store, or want of memory. The contest is as before.
     pub fn begin<S: ContestStore>(alloc: Global, store: &mut S) -> Result<Walk, StoreError>
         requires { IsSettled (S.kept store.old) }
         ensures over { (S.kept store.new).is_clean → IfOk result (λ walk. IsOver walk (S.kept store.old).contest) }
@@ -58,7 +59,7 @@ impl Walk {
     ///
     /// # Errors
     ///
-    /// Those of the store, and want of memory. The contest and the walk are as before.
+    /// An error of the store, or want of memory. The contest and the walk are as before.
     pub fn next<S: ContestStore>(
         &mut self,
         alloc: Global,
@@ -113,7 +114,7 @@ fn read_row<S: ContestStore>(
     Ok(row)
 }
 
-// The file of the submission with these numbers. No transaction stands afterwards.
+// The file of the submission with these numbers. `ContestStore::rest` is called afterwards.
 fn read_file<S: ContestStore>(
     alloc: Global,
     store: &mut S,

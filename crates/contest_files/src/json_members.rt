@@ -60,7 +60,7 @@ pub fn id_member(alloc: Global, value: &Value, name: &str) -> Result<Option<Id>,
     }
 }
 
-/// The same, where there must be one.
+/// A member that has to be an id.
 ///
 /// # Errors
 ///
@@ -120,7 +120,7 @@ pub fn flag_in(value: &Value, name: &str) -> Option<bool>
     value.get(name).and_then(Value::as_bool)
 }
 
-/// The same, and false where the member isn't there or is null.
+/// A member that is true or false, if it is either; false if it isn't there or is null.
 pub fn flag_or_false(value: &Value, name: &str) -> Option<bool>
     ensures { result ≡ flag_or_false name.now (view value.now) }
 {
@@ -145,7 +145,8 @@ pub fn number_in(value: &Value, name: &str, most: u64) -> Option<u64>
     number_to(value.get(name)?, most)
 }
 
-/// The same, and a usual value where the member isn't there or is null.
+/// A member that is a whole number up to a limit, if it is one; a usual value if it isn't there or
+/// is null.
 pub fn number_or(value: &Value, name: &str, usual: u64, most: u64) -> Option<u64>
     ensures { result ≡ number_or usual most name.now (view value.now) }
 {

@@ -68,7 +68,8 @@ pub fn rehearsal(
     fixed_of(alloc, rehearsal_head(alloc, MEDALS)?, rows, accounts)
 }
 
-/// The same, where another judge verifies each verdict.
+/// The rehearsal with these rows and accounts, where nothing stands yet and another judge verifies
+/// each verdict.
 pub fn verified_rehearsal(
     alloc: Global,
     rows: &[SettingRow],

@@ -9,15 +9,15 @@ use std::test::Fail;
 /// A row of a contest's settings.
 #[derive(Clone, Copy)]
 pub enum SettingRow {
-    /// Its id, which is its name as well, whether it solves, and whether it is penalised.
+    /// A judgement type's id, which is its name as well, and whether it solves and is penalised.
     Type(&'static str, bool, bool),
-    /// Its id, which is its name as well, and whether it requires an entry point.
+    /// A language's id, which is its name as well, and whether it requires an entry point.
     Language(&'static str, bool),
-    /// Its id, its label, which is its name as well, and its ordinal.
+    /// A problem's id, its label, which is its name as well, and its ordinal.
     Problem(&'static str, &'static str, u16),
-    /// Its id and its name.
+    /// A group's id and its name.
     Group(&'static str, &'static str),
-    /// Its id, its name, the place of its group if it has one, and whether it is hidden.
+    /// A team's id, its name, the place of its group if it has one, and whether it is hidden.
     Team(&'static str, &'static str, Option<usize>, bool),
 }
 

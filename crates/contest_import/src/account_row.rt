@@ -15,9 +15,9 @@ pub enum NamedRole {
 /// An account whose team, if it has one, is told by its id.
 #[derive(Drop)]
 pub struct AccountRow {
-    /// Its id.
+    /// The account's id.
     pub id: Id,
-    /// Its role.
+    /// The account's role.
     pub role: NamedRole,
     /// The digest of its token.
     pub digest: Digest,

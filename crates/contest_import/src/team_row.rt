@@ -4,9 +4,9 @@ use contest_types::{Id, Name, Rows};
 /// A team whose groups are told by their ids.
 #[derive(Drop)]
 pub struct TeamRow {
-    /// Its id.
+    /// The team's id.
     pub id: Id,
-    /// Its name.
+    /// The team's name.
     pub name: Name,
     /// The ids of its groups.
     pub groups: Rows<Id>,

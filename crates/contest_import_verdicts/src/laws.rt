@@ -6,7 +6,8 @@ pub fn verdicts_are_addable()
     ensures { VerdictsAreAddable }
 {}
 
-/// A file of verdicts that was imported adds nothing when it is imported again, whenever that is.
+/// A file of verdicts that was imported adds nothing to the contest then, whenever it is imported
+/// again.
 pub fn verdicts_add_nothing_again()
     ensures { VerdictsAddNothingAgain }
 {}

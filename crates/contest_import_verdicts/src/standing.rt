@@ -28,7 +28,8 @@ pub(crate) struct StandingVerdicts {
 }
 
 impl StandingVerdicts {
-    /// Those of a contest, in one pass over its proposals and one over its releases.
+    /// The verdicts that stand in a contest, by one pass over its proposals and one over its
+    /// releases.
     ///
     /// # Errors
     ///

@@ -11,7 +11,7 @@ use std::alloc::{AllocError, Global};
 
 /// A row that can be copied.
 pub trait CopyRow {
-    /// The same row again.
+    /// A copy of the row.
     ///
     /// # Errors
     ///
@@ -20,7 +20,7 @@ pub trait CopyRow {
         ensures { IfOk result (λ row. row ≡ self.now) };
 }
 
-/// The same rows again.
+/// Copies of the rows.
 pub fn copies<T: CopyRow + Drop>(alloc: Global, rows: &[T]) -> Result<Vec<T>, AllocError>
     ensures { IfOk result (λ copies. copies.items ≡ rows.now) }
 {
@@ -31,7 +31,7 @@ pub fn copies<T: CopyRow + Drop>(alloc: Global, rows: &[T]) -> Result<Vec<T>, Al
     Ok(copies)
 }
 
-/// The same bytes again.
+/// A copy of the bytes.
 ///
 /// # Errors
 ///
@@ -58,7 +58,7 @@ pub fn without_file(alloc: Global, submission: &Submission) -> Result<Submission
     })
 }
 
-/// The same settings, accounts and marks again.
+/// A copy of the settings, the accounts and the marks.
 ///
 /// # Errors
 ///

@@ -112,7 +112,7 @@ impl<R: OnSubmission + Drop> IndexedRows<R> {
 }
 
 impl<R: OnSubmission + CopyRow + Drop> IndexedRows<R> {
-    /// The same rows again.
+    /// A copy of the rows.
     ///
     /// # Errors
     ///

@@ -94,7 +94,7 @@ impl IndexedSubmissions {
         }
     }
 
-    /// The same submissions again.
+    /// A copy of the submissions.
     ///
     /// # Errors
     ///

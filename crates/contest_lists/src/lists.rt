@@ -159,7 +159,7 @@ impl Lists {
         self.rejudgings.as_slice()
     }
 
-    /// The same lists again.
+    /// A copy of the lists.
     ///
     /// # Errors
     ///

@@ -8,14 +8,14 @@ pub fn step_alike()
     ensures { StepAlike }
 {}
 
-/// What an audience reads tells nothing that it may not learn: what it doesn't see is as what isn't
-/// there.
+/// Until the thaw, what an audience reads tells nothing that it may not learn: what it doesn't see
+/// is as what isn't there.
 pub fn reads_alike()
     ensures { ReadsAlike }
 {}
 
-/// Nor does what becomes of what a caller posts: a submission's number, its time, its repeats and its
-/// refusals depend on that team's submissions alone.
+/// What becomes of what a team posts tells nothing that the team may not learn: of all submissions,
+/// its own alone decide the number, the time, the repeats and the refusals of one that it posts.
 pub fn posts_alike()
     ensures { PostsAlike }
 {}

@@ -79,13 +79,13 @@ impl ReplyBody {
 /// A reply.
 #[derive(Drop)]
 pub struct Reply {
-    /// Its HTTP status.
+    /// The reply's HTTP status.
     pub status: u16,
     /// The media type of its body.
     pub content: ContentType,
     /// A field that only some replies have.
     pub extra: ExtraField,
-    /// Its body.
+    /// The reply's body.
     pub body: ReplyBody,
 }
 

@@ -18,7 +18,7 @@ pub struct Opening {
 /// A rejudging that is opened, and its number.
 #[derive(Drop)]
 pub struct OpenedRejudging {
-    /// Its number, from 1.
+    /// The rejudging's number, from 1.
     pub number: usize,
     /// The rejudging.
     pub rejudging: Rejudging,

@@ -46,7 +46,7 @@ pub struct Rejudge<'a> {
 /// A rejudging after a change, and what the change adds.
 #[derive(Drop)]
 pub struct RejudgingChange {
-    /// Its number, from 1.
+    /// The rejudging's number, from 1.
     pub number: usize,
     /// The rejudging, as it is then.
     pub rejudging: Rejudging,

@@ -30,11 +30,11 @@ pub enum KeyField {
 /// A request.
 #[derive(Drop)]
 pub struct Request {
-    /// Its method.
+    /// The request's method.
     pub method: Method,
     /// The bytes of its path, without a query.
     pub path: Rows<u8>,
-    /// Its idempotency key.
+    /// The request's idempotency key.
     pub key: KeyField,
     /// The bytes of its body.
     pub body: Rows<u8>,

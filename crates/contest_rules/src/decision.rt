@@ -4,6 +4,6 @@
 pub enum Decision<T, S> {
     /// A row is added.
     Add(T),
-    /// The same was asked before, under the same key: this row stands for it.
+    /// The same command was given before, under the same key, and this row stands for it.
     Stands(S),
 }

@@ -17,7 +17,7 @@ pub fn proposed_is_addable()
     ensures { ProposedIsAddable }
 {}
 
-/// And so does the release of one that is verified.
+/// The release of a verdict that is verified keeps a valid contest valid.
 pub fn verified_is_addable()
     ensures { VerifiedIsAddable }
 {}
@@ -38,12 +38,12 @@ pub fn opened_is_addable()
     ensures { OpenedIsAddable }
 {}
 
-/// So does each state that a verdict gives to a member of it.
+/// A state that a verdict gives to a member of a rejudging keeps a valid contest valid.
 pub fn rejudged_is_addable()
     ensures { RejudgedIsAddable }
 {}
 
-/// And so do the releases of one that is applied.
+/// The releases of a rejudging that is applied, and its state, keep a valid contest valid.
 pub fn applied_is_addable()
     ensures { AppliedIsAddable }
 {}
@@ -54,7 +54,8 @@ pub fn clock_is_addable()
     ensures { ClockIsAddable }
 {}
 
-/// So it is with results that are made final.
+/// Final results that are taken keep a valid contest valid, and the marks of this change are those
+/// of the contest then.
 pub fn final_is_addable()
     ensures { FinalIsAddable }
 {}

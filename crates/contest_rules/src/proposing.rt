@@ -12,7 +12,7 @@ use contest_types::{Fixed, Id, Moment, Proposal, Proposer, Release};
 pub struct NewVerdict {
     /// The proposal.
     pub proposal: Proposal,
-    /// Its release, where nobody has to verify it.
+    /// The proposal's release, if nobody has to verify the proposal.
     pub release: Option<Release>,
 }
 

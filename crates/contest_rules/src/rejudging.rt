@@ -13,7 +13,7 @@ use std::alloc::{AllocError, Global};
 pub struct MemberChange {
     /// The member's place, from 0.
     pub place: usize,
-    /// Its state.
+    /// The state that the member takes.
     pub state: MemberState,
 }
 

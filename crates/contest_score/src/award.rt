@@ -38,7 +38,7 @@ impl AwardText {
         Ok(AwardText { text })
     }
 
-    /// Its characters.
+    /// The text's characters.
     pub fn as_str(&self) -> &str
         ensures { result.now ≡ self.now }
     {
@@ -49,8 +49,8 @@ impl AwardText {
 /// An award (Contest API 2023-06, awards).
 #[derive(Drop)]
 pub struct Award {
-    /// Its id, such as `winner` or `first-to-solve-a`. With a problem's or a group's id in it, it may
-    /// be longer than the 36 characters of an id.
+    /// The award's id, such as `winner` or `first-to-solve-a`. With a problem's or a group's id in
+    /// it, it may be longer than the 36 characters of an id.
     pub id: AwardText,
     /// What it is for, such as `Contest winner` or `First to solve problem A`.
     pub citation: AwardText,

@@ -29,12 +29,12 @@ pub fn cells_alike()
     ensures { AlikeScoreTheSame }
 {}
 
-/// And the same board.
+/// Until the thaw, contests that are alike for an audience show it the same board.
 pub fn board_alike()
     ensures { AlikeRankTheSame }
 {}
 
-/// And the same awards.
+/// Until the thaw, contests that are alike for an audience show it the same awards.
 pub fn awards_alike()
     ensures { AlikeAwardTheSame }
 {}

@@ -59,6 +59,6 @@ pub struct Row {
     pub rank: u32,
     /// How the team stands.
     pub score: Score,
-    /// Its cells, in the order of the problems on the board.
+    /// The team's cells, in the order of the problems on the board.
     pub cells: CellRow,
 }

@@ -9,22 +9,22 @@ pub fn cells_score_the_seen()
     ensures { CellsScoreTheSeen }
 {}
 
-/// And each board ranks by these cells.
+/// Each board ranks by the cells of the verdicts that its reader may see.
 pub fn boards_score_the_seen()
     ensures { BoardsScoreTheSeen }
 {}
 
-/// Once it is thawed, and where there is no freeze, everybody reads the jury's cells.
+/// Once a contest is thawed, or if it has no freeze, everybody reads the jury's cells.
 pub fn all_read_the_jurys_cells()
     ensures { AllReadTheJurysCells }
 {}
 
-/// And the jury's board.
+/// Once a contest is thawed, or if it has no freeze, everybody reads the jury's board.
 pub fn all_read_the_jurys_board()
     ensures { AllReadTheJurysBoard }
 {}
 
-/// And the jury's awards.
+/// Once a contest is thawed, or if it has no freeze, everybody reads the jury's awards.
 pub fn all_read_the_jurys_awards()
     ensures { AllReadTheJurysAwards }
 {}
@@ -34,7 +34,7 @@ pub fn jurys_board_stays()
     ensures { JurysBoardStays }
 {}
 
-/// And whatever the freeze and the thaw.
+/// The jury's board is the same whatever the freeze and the thaw.
 pub fn jurys_board_ignores_the_freeze()
     ensures { JurysBoardIgnoresTheFreeze }
 {}
@@ -44,7 +44,7 @@ pub fn hidden_moves_no_board()
     ensures { HiddenMovesNoBoard }
 {}
 
-/// Nor any award.
+/// Whatever a hidden team submits and gets changes no award.
 pub fn hidden_moves_no_award()
     ensures { HiddenMovesNoAward }
 {}
@@ -55,7 +55,8 @@ pub fn nothing_else_scores()
     ensures { NothingElseScores }
 {}
 
-/// Nor the awards, which finalizing and a new group may change too.
+/// No proposal, rejudging or clarification changes an award; only submissions, releases, the start,
+/// the thaw, finalizing, and new types, problems, groups and teams may.
 pub fn nothing_else_awards()
     ensures { NothingElseAwards }
 {}

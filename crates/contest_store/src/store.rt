@@ -54,8 +54,9 @@ pub trait ContestStore {
         ensures value { (kept self.new).is_clean → IfOk result (λ found. found ≡ file_of (kept self.old).contest team number) }
         ensures leaves { Reads result (kept self.old) (kept self.new) };
 
-    /// Ends the transaction that a read began, where no change stands that wasn't committed: none stands
-    /// until the next call.
+    /// Ends the transaction that a read began, where no change stands that wasn't committed. Every
+    /// store promises that the contest is as before. Each store says for itself whether a
+    /// transaction is open afterwards.
     fn rest(&mut self) -> Result<(), StoreError>
         requires { (kept self.old).is_clean → IsTrue (kept self.old).is_open → (kept self.old).contest ≡ (kept self.old).committed }
         ensures { Reads result (kept self.old) (kept self.new) };

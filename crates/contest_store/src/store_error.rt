@@ -5,7 +5,7 @@ ghost use Rattle.contest_store.specs.StoreErrors.{refusal_of};
 use contest_types::Refusal;
 use std::alloc::AllocError;
 
-/// Why a call of a store fails. It changes nothing then.
+/// Why a call of a store fails. `ContestStore` says what is left then.
 #[derive(Clone, Copy, Debug, PartialEq, Eq)]
 pub enum StoreError {
     /// What lies under the store failed, or what it holds isn't what was written.

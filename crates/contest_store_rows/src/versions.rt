@@ -13,7 +13,7 @@ pub enum Version {
 pub const VERSION: Version = Version::First;
 
 impl Version {
-    /// Its number, which the tables keep.
+    /// The version's number, which the tables keep.
     pub fn number(self) -> u64
         ensures number { result ≡ version_number self }
         ensures fits { result < 2 ^ 63 }

@@ -16,7 +16,7 @@ pub enum Role {
 /// An account. Its token is known by its digest alone.
 #[derive(Drop)]
 pub struct Account {
-    /// Its id.
+    /// The account's id.
     pub id: Id,
     /// What it may do.
     pub role: Role,

@@ -8,9 +8,9 @@ use std::alloc::AllocError;
 /// contest object).
 #[derive(PartialEq, Eq, Drop)]
 pub struct ContestHead {
-    /// Its id, which stands in every path.
+    /// The contest's id, which stands in every path under `/contests/`.
     pub id: Id,
-    /// Its name.
+    /// The contest's name.
     pub name: Name,
     /// How long it runs: over zero and at most 1000 hours.
     pub duration: TimeSpan,
@@ -26,7 +26,7 @@ pub struct ContestHead {
 }
 
 impl ContestHead {
-    /// The same head again.
+    /// A copy of the head.
     ///
     /// # Errors
     ///

@@ -29,7 +29,7 @@ impl Digest {
         Digest { bytes }
     }
 
-    /// Its bytes.
+    /// The digest's bytes.
     pub fn as_bytes(&self) -> &[u8]
         ensures bytes { result.now ≡ self.now }
         ensures length { length self.now ≡ 32 }

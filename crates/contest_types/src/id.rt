@@ -70,7 +70,7 @@ impl Id {
         }
     }
 
-    /// Its characters.
+    /// The id's characters.
     pub fn as_str(&self) -> &str
         ensures text { result.now ≡ self.now }
         ensures id { IsId self.now }
@@ -78,7 +78,7 @@ impl Id {
         self.text.as_str()
     }
 
-    /// Its bytes.
+    /// The id's bytes.
     pub fn as_bytes(&self) -> &[u8]
         ensures bytes { result.now ≡ self.now }
         ensures id { IsId self.now }

@@ -16,11 +16,11 @@ pub trait Identified {
 
     ghost id: { Self → List ℕ };
 
-    /// Its id.
+    /// The row's id.
     fn id(&self) -> &Id
         ensures { result.now ≡ id self.now };
 
-    /// The same row again.
+    /// A copy of the row.
     ///
     /// # Errors
     ///
@@ -108,7 +108,7 @@ impl<T: Identified + Drop> IdList<T> {
 }
 
 impl<T: Identified + Drop> IdList<T> {
-    /// The same rows again.
+    /// A copy of the rows.
     ///
     /// # Errors
     ///

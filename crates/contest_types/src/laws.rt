@@ -16,7 +16,7 @@ pub fn seen_alike()
     ensures { AlikeShowTheSame }
 {}
 
-/// And they let it hear the same clarifications.
+/// Until the thaw, contests that are alike for an audience let it hear the same clarifications.
 pub fn heard_alike()
     ensures { AlikeTellTheSame }
 {}

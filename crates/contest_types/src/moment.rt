@@ -119,7 +119,7 @@ pub fn one_text()
     ensures { (a b : List ℕ) (m : ℕ) → ShowsMoment a m → ShowsMoment b m → a ≡ b }
 {}
 
-/// That text is a function of the moment, by counting the years, months and days that have begun.
+/// The text of a moment is a function of it: it counts the years, months and days that have begun.
 pub fn text_is_counted()
     ensures { (text : List ℕ) (m : ℕ) → ShowsMoment text m → text ≡ moment_text m }
 {}

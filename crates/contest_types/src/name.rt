@@ -67,7 +67,7 @@ impl Name {
         }
     }
 
-    /// Its characters.
+    /// The name's characters.
     pub fn as_str(&self) -> &str
         ensures text { result.now ≡ self.now }
         ensures name { name_from self.now ≡ Some self.now }

@@ -6,9 +6,9 @@ use std::alloc::{AllocError, Global};
 /// A judgement type (Contest API 2023-06, judgement-types).
 #[derive(PartialEq, Eq, Drop)]
 pub struct JudgementType {
-    /// Its id, such as `AC`.
+    /// The judgement type's id, such as `AC`.
     pub id: Id,
-    /// Its name.
+    /// The judgement type's name.
     pub name: Name,
     /// Whether it solves the problem.
     pub solved: bool,
@@ -19,9 +19,9 @@ pub struct JudgementType {
 /// A language (Contest API 2023-06, languages).
 #[derive(PartialEq, Eq, Drop)]
 pub struct Language {
-    /// Its id.
+    /// The language's id.
     pub id: Id,
-    /// Its name.
+    /// The language's name.
     pub name: Name,
     /// Whether a submission in it needs an entry point.
     pub entry_point_required: bool,
@@ -30,11 +30,11 @@ pub struct Language {
 /// A problem (Contest API 2023-06, problems).
 #[derive(PartialEq, Eq, Drop)]
 pub struct Problem {
-    /// Its id.
+    /// The problem's id.
     pub id: Id,
     /// What heads its column on the board. No two problems share a label.
     pub label: Name,
-    /// Its name.
+    /// The problem's name.
     pub name: Name,
     /// Problems are shown by ordinal, then by id.
     pub ordinal: u16,
@@ -43,18 +43,18 @@ pub struct Problem {
 /// A group of teams (Contest API 2023-06, groups).
 #[derive(PartialEq, Eq, Drop)]
 pub struct Group {
-    /// Its id.
+    /// The group's id.
     pub id: Id,
-    /// Its name.
+    /// The group's name.
     pub name: Name,
 }
 
 /// A team (Contest API 2023-06, teams).
 #[derive(PartialEq, Eq, Drop)]
 pub struct Team {
-    /// Its id.
+    /// The team's id.
     pub id: Id,
-    /// Its name.
+    /// The team's name.
     pub name: Name,
     /// The places of its groups in the settings, from 0 and in the order in which they were given.
     pub groups: Rows<usize>,

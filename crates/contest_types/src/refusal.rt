@@ -89,9 +89,9 @@ pub enum RowFault {
 /// What is told of a refusal, wherever it is told.
 #[derive(Clone, Copy)]
 pub struct RefusalRow {
-    /// Its number, from 1 to 25.
+    /// The refusal's number, from 1 to 25.
     pub number: u8,
-    /// Its name, one word.
+    /// The refusal's name, one word.
     pub name: &'static str,
     /// The HTTP status that it is answered with (RFC 9110, section 15).
     pub status: u16,
@@ -147,7 +147,7 @@ impl Refusal {
 }
 
 impl Cause {
-    /// Its name, one word.
+    /// The cause's name, one word.
     pub fn name(self) -> &'static str
         ensures { result.now ≡ cause_name self }
     {

@@ -4,7 +4,7 @@ use crate::{Id, Name, Rows};
 /// How far a rejudging is (DOMjudge manual, "Rejudging": applied or cancelled).
 #[derive(Clone, Copy, PartialEq, Eq)]
 pub enum RejudgingState {
-    /// Its members are being judged.
+    /// The members of the rejudging are being judged.
     Open,
     /// The verdicts of all members were released together.
     Applied,
@@ -20,7 +20,7 @@ pub enum MemberState {
     Empty,
     /// An account proposed a verdict, which another has to verify.
     Proposed { verdict: usize, account: Id },
-    /// Its verdict stands.
+    /// The member's verdict stands.
     Ready(usize),
 }
 
@@ -42,6 +42,6 @@ pub struct Rejudging {
     pub reason: Name,
     /// How far it is.
     pub state: RejudgingState,
-    /// Its members, in the order in which they were named.
+    /// The rejudging's members, in the order in which they were named.
     pub members: Rows<Member>,
 }

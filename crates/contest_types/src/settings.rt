@@ -59,7 +59,7 @@ impl Settings {
         })
     }
 
-    /// The same settings again.
+    /// A copy of the settings.
     ///
     /// # Errors
     ///

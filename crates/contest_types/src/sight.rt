@@ -74,9 +74,9 @@ pub fn sees_clarification(
 /// Which of a team's verdicts are seen.
 #[derive(Clone, Copy, PartialEq, Eq)]
 pub enum Mask {
-    /// Those on submissions from before the freeze.
+    /// The verdicts on submissions from before the freeze.
     Held,
-    /// All.
+    /// All verdicts.
     Full,
 }
 

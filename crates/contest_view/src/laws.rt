@@ -8,7 +8,7 @@ pub fn submissions_alike()
     ensures { AlikeReadTheSame }
 {}
 
-/// And the same files, by any id.
+/// Until the thaw, contests that are alike for an audience give it the same file by any id.
 pub fn files_alike()
     ensures { AlikeReadTheSameFiles }
 {}
@@ -41,7 +41,8 @@ pub fn judgements_alike()
     ensures { AlikeReadTheSameJudgements }
 {}
 
-/// And no proposals, whatever judges propose.
+/// Until the thaw, contests that are alike for an audience give it the same proposals to read,
+/// whatever judges propose.
 pub fn proposals_alike()
     ensures { AlikeReadTheSameProposals }
 {}
@@ -62,7 +63,8 @@ pub fn scoreboard_alike()
     ensures { AlikeShowTheSameScoreboard }
 {}
 
-/// And the same awards, all of them and by any id.
+/// Until the thaw, contests that are alike for an audience give it the same awards to read, all of
+/// them and by any id.
 pub fn awards_alike()
     ensures { AlikeReadTheSameAwards }
 {}

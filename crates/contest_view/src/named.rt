@@ -36,7 +36,7 @@ pub(crate) fn named_rows<'a>(lists: &'a Lists, id: &[u8]) -> &'a [Submission]
 /// A rejudging, and its number.
 #[derive(Clone, Copy)]
 pub struct NumberedRejudging<'a> {
-    /// Its number, from 1.
+    /// The rejudging's number, from 1.
     pub number: usize,
     /// The rejudging.
     pub rejudging: &'a Rejudging,

@@ -8,11 +8,11 @@ use contest_types::Refusal;
 use sqlite::{Alter, Connection};
 use std::alloc::Global;
 
-/// Makes it, with the first so many teams and problems, where no table stands.
+/// Makes the demo contest, with the first so many teams and problems, where no table stands.
 ///
 /// # Errors
 ///
-/// Those of the store, and `Memory`.
+/// An error of the store, or `Memory`.
 pub(crate) fn make_demo<S: Alter + Drop>(
     alloc: Global,
     conn: Connection<S>,

@@ -14,7 +14,7 @@ use std::alloc::Global;
 ///
 /// # Errors
 ///
-/// Those of the store.
+/// An error of the store.
 pub(crate) fn thaw<S: ContestStore>(
     alloc: Global,
     store: &mut S,

@@ -13,7 +13,7 @@ use contest_types::{
 use std::alloc::Global;
 use std::test::Fail;
 
-/// Its files, in an order in which each names what is there.
+/// The files of the demo contest, in an order in which each names what is there.
 static FILES: [(ImportKind, &str); 5] = [
     (
         ImportKind::Fixed(FixedKind::Settings(SettingsKind::JudgementTypes)),

@@ -15,14 +15,14 @@ use std::test::Fail;
 pub const POST: &str =
     "POST /contests/rehearsal/submissions HTTP/1.1\r\nHost: x\r\nAuthorization: Bearer token-a1\r\nContent-Length: 64\r\n\r\n{\"problem_id\":\"a\",\"language_id\":\"cpp\",\"files\":[{\"data\":\"YWJj\"}]}";
 
-/// The same of a team that waits for the interim reply before it sends the body.
+/// A team's program, from a team that waits for the interim reply before it sends the body.
 pub const EXPECTING: &str =
     "POST /contests/rehearsal/submissions HTTP/1.1\r\nHost: x\r\nAuthorization: Bearer token-a1\r\nExpect: 100-continue\r\nContent-Length: 64\r\n\r\n{\"problem_id\":\"a\",\"language_id\":\"cpp\",\"files\":[{\"data\":\"YWJj\"}]}";
 
 /// The interim reply.
 pub const INTERIM: &str = "HTTP/1.1 100 Continue\r\n\r\n";
 
-/// The reply to either.
+/// The reply to `POST` and to `EXPECTING`.
 pub const TAKEN: &str =
     "HTTP/1.1 200 OK\r\nDate: Sat, 02 Mar 2024 09:05:00 GMT\r\nContent-Type: application/json\r\nContent-Length: 221\r\nConnection: close\r\n\r\n{\"contest_time\":\"0:05:00.000\",\"files\":[{\"href\":\"contests/rehearsal/submissions/s1-1/files\",\"mime\":\"application/zip\"}],\"id\":\"s1-1\",\"language_id\":\"cpp\",\"problem_id\":\"a\",\"team_id\":\"t1\",\"time\":\"2024-03-02T09:05:00.000+00:00\"}";
 

@@ -47,7 +47,7 @@ impl ReplayContest {
         &self.settings
     }
 
-    /// Its marks: it starts at moment 0 and, where it is thawed, it is from its end on.
+    /// The contest's marks: it starts at moment 0 and, if it is `thawed`, it is so from its end on.
     pub fn marks(&self, thawed: bool) -> Marks
         ensures { result ≡ marks_for self.now.settings thawed }
     {
@@ -59,7 +59,7 @@ impl ReplayContest {
         }
     }
 
-    /// Its submissions in the order of the file, which can be scored, thawed or not.
+    /// The contest's submissions in the order of the file, which can be scored, thawed or not.
     pub fn submissions(&self) -> &[JudgedSubmission]
         ensures value { result.now ≡ self.now.submissions }
         ensures few { length result.now < 2 ^ 32 }

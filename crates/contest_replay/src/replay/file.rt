@@ -53,7 +53,7 @@ impl Reading {
         }
     }
 
-    /// The same, and notes whether the record names a contest.
+    /// Judges record n, and notes whether it names a contest.
     fn take(&mut self, alloc: Global, n: u64, row: &ByteRecord) -> Result<(), Refusal>
         ensures ok { OnOk result ((rest : List (List (List ℕ)))
             → result_from self.old.so_far self.old.fault self.old.named n (fields_of row.now ∷ rest) ≡ result_from self.new.so_far self.new.fault self.new.named (n + 1) rest) }
