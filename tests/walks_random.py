@@ -187,7 +187,7 @@ def try_walks(test):
         text, kinds = text + made, kinds + counted
     status, out, err = ran([test.path], input=text.encode(), timeout=600)
     print(err.decode(), end="")
-    met = re.findall(r"(?m)^Walk \d+: (\d+) of (\d+), .*, faults of the store: 0$", out.decode())
+    met = re.findall(r"(?m)^Walk \d+: (\d+) of (\d+), .*, faults of the store: 0, cells as counted$", out.decode())
     test.passed = sum(int(one) for one, _ in met)
     test.failed = walks * steps - test.passed
     if test.failed or status:
