@@ -225,7 +225,7 @@ def scoreboard(contest, now, caller):
     shown = []
     for key, _, row in sorted(rows, key=lambda one: (one[0], one[1]["name"].encode(), one[1]["id"].encode())):
         shown.append({**row, "rank": 1 + sum(other < key for other, _, _ in rows)})
-    time = None if contest["start"] is None else signed(now - contest["start"])
+    time = None if contest["start"] is None else reltime_text(now - contest["start"])
     return {"contest_time": time, "rows": shown, "state": state_object(contest, now), "time": moment(now)}
 
 
@@ -246,10 +246,6 @@ def awards(contest, now, caller):
     if not awards_opinion.are_shown(contest, now, is_jury(caller)):
         return []
     return awards_opinion.made(contest, scoreboard(contest, now, {"role": "judge", "team": None})["rows"], solves(contest))
-
-
-def signed(milliseconds):
-    return reltime_text(milliseconds) if milliseconds >= 0 else "-" + reltime_text(-milliseconds)
 
 
 def collection(contest, now, name, caller):

@@ -371,8 +371,9 @@ def right(text, width):
 
 
 def reltime_text(time):
-    seconds, millis = divmod(time, 1000)
-    return f"{seconds // 3600}:{seconds // 60 % 60:02}:{seconds % 60:02}.{millis:03}"
+    """A relative time, with its sign before the whole."""
+    seconds, millis = divmod(abs(time), 1000)
+    return f"{'-' if time < 0 else ''}{seconds // 3600}:{seconds // 60 % 60:02}:{seconds % 60:02}.{millis:03}"
 
 
 def word(contest, shown):
