@@ -20,37 +20,24 @@ Takes faketime. Ends with the line `N passed, M failed`; the exit status is 0 if
 import base64
 import collections
 import copy
-import hashlib
 import re
 import shutil
 import sys
 
 from lib import demo, desk_opinion, program
-from lib.clarifier import AT_ALL, TEXTS, Clarifier
+from lib.clarifier import AT_ALL, TEXTS
 from lib.clock import text_of
-from lib.demo import AT_REHEARSAL, REHEARSAL, START
+from lib.demo import AT_REHEARSAL, START
 from lib.desk_opinion import moment
 from lib.import_opinion import compact
 from lib.program import ROOT, Program
-from lib.rejudger import AT_REJUDGINGS, JURY, NUMBERS, REASONS, Rejudger
-from lib.replay_opinion import reltime_text
+from lib.rehearsal import END, FREEZE, PROBLEMS, TEAMS, TYPES, contest_of, files_of, sent
+from lib.requester import Requester
+from lib.rejudger import AT_REJUDGINGS, JURY, NUMBERS, REASONS
 from lib.server import Server
 from lib.sqlite import insert, opened
-from lib.timekeeper import Timekeeper
 
-END = START + 18_000_000
-FREEZE = START + 14_400_000
 OPEN, APPLIED, CANCELLED = 0, 1, 2
-TYPES = [{"id": "AC", "name": "correct", "solved": True, "penalty": False},
-         {"id": "WA", "name": "wrong answer", "solved": False, "penalty": True},
-         {"id": "CE", "name": "compile error", "solved": False, "penalty": False}]  # fmt: skip
-LANGUAGES = [{"id": "cpp", "name": "C++", "entry_point_required": False}, {"id": "java", "name": "Java", "entry_point_required": True}]
-PROBLEMS = [{"id": "b", "label": "B", "name": "B", "ordinal": 1}, {"id": "c", "label": "C", "name": "C", "ordinal": 0},
-            {"id": "a", "label": "A", "name": "A", "ordinal": 0}]  # fmt: skip
-GROUPS = [{"id": "north", "name": "North"}]
-TEAMS = [("t1", "Alpha", False, []), ("t2", "Beta", False, []), ("t9", "Staff", True, []), ("t3", "Gamma", False, ["north"])]
-ACCOUNTS = [("a1", "team", "t1"), ("a2", "team", "t2"), ("a3", "team", "t3"), ("a9", "team", "t9"), ("adm", "admin", ""),
-            ("b1", "team", "t1"), ("j1", "judge", ""), ("j2", "judge", "")]  # fmt: skip
 WALKS = ["Judgements, where nobody verifies", "Verdicts are verified", "The scoreboard in the freeze", "Ranks",
          "A team asks, and the jury answers", "When clarifications are taken", "No clarifications beside final results",
          "What a clarification says", "What refuses a clarification first", "Keys of clarifications", "How many requests a team makes",
@@ -59,27 +46,9 @@ WALKS = ["Judgements, where nobody verifies", "Verdicts are verified", "The scor
          "Members are verified", "Alpha beside a rejudging", "Alpha beside none"]  # fmt: skip
 
 
-def contest_of(verification, thaw=None):
-    """The contest, as the second opinion keeps it."""
-    contest = desk_opinion.new_contest({**REHEARSAL, "verification": verification}, START, thaw, None)
-    rows = {"types": TYPES, "languages": LANGUAGES, "problems": PROBLEMS, "groups": GROUPS}
-    rows["teams"] = [{"id": row, "name": name, "hidden": hidden, "group_ids": groups} for row, name, hidden, groups in TEAMS]
-    digest = hashlib.sha256
-    rows["accounts"] = [{"id": row, "role": role, "team": team or None, "digest": digest(f"token-{row}".encode()).hexdigest()}
-                        for row, role, team in ACCOUNTS]  # fmt: skip
-    return {**contest, **copy.deepcopy(rows)}
-
-
 def made(desk, verification, thaw=None, finalized=None):
-    """A folder with the same contest in cup.db, made by the program at eight o'clock."""
-    head = {"id": REHEARSAL["id"], "name": REHEARSAL["name"], "duration": reltime_text(REHEARSAL["duration"]),
-            "scoreboard_freeze_duration": reltime_text(REHEARSAL["freeze"]), "start_time": moment(START),
-            "verification": verification}  # fmt: skip
-    files = {"init": head, "judgement-types": TYPES, "languages": LANGUAGES, "problems": PROBLEMS, "groups": GROUPS}
-    files = {name: compact(rows) for name, rows in {**files, "teams": contest_of(False)["teams"]}.items()}
-    records = [",".join([row, role, team, f"token-{row}"]) for row, role, team in ACCOUNTS]
-    files["accounts-csv"] = "\n".join(["id,role,team_id,token", *records]) + "\n"
-    folder = demo.made(desk, files)
+    """A folder with the rehearsal in cup.db, made by the program at eight o'clock."""
+    folder = demo.made(desk, files_of(verification))
     mark(folder, thaw, finalized)
     return folder
 
@@ -88,13 +57,6 @@ def mark(folder, thaw, finalized):
     """Sets the marks, whatever stands."""
     with opened(folder / "cup.db") as database:
         database.execute("UPDATE contest SET thaw = ?, finalized = ?", (thaw, finalized))
-
-
-def sent(who, key, method, path, body):
-    fields = "" if who == "public" else f"Authorization: Bearer {who}\r\n"
-    fields += f"Idempotency-Key: {key}\r\n" if key is not None else ""
-    data = body.encode()
-    return f"{method} {path} HTTP/1.1\r\nHost: x\r\n{fields}Content-Length: {len(data)}\r\n\r\n".encode() + data
 
 
 def told(reply, method):
@@ -153,37 +115,6 @@ def milliseconds_of(text):
     return START + ((hours - 9) * 3600 + minutes * 60 + seconds) * 1000 + int(found[4] or 0)
 
 
-class Asker(Clarifier, Rejudger, Timekeeper):
-    """What is asked next, by a seed."""
-
-    def submission(self, contest):
-        made = contest["submissions"]
-        return desk_opinion.submission_id(contest, self.one(made)) if made and self.random.random() < 0.95 else "s1-99"
-
-    def request(self, contest):
-        """Who asks, a key, a method, a path and a body."""
-        what, accounts = self.random.random(), [row for row, _, _ in ACCOUNTS]
-        if what > 0.96:
-            return self.about_clock(contest, accounts)
-        if what < 0.5:
-            return (self.about_clarifications if what < 0.25 else self.about_rejudgings)(contest, accounts)
-        role = self.random.random()
-        if role < 0.3:
-            team = self.one(["1", "2", "3", "9"])
-            body = {"problem_id": self.one("abc"), "language_id": "cpp", "files": [{"data": self.one(["YWJj", "", "YWJk"])}]}
-            return f"token-a{team}", self.often(None, ["k1", "k2", "k3"], 0.8), "POST", f"{AT_REHEARSAL}/submissions", compact(body)
-        if role < 0.6:
-            judge = self.often(f"token-{self.one(['j1', 'j2', 'adm'])}", ["token-a1", "public"], 0.95)
-            body = {"submission_id": self.submission(contest), "judgement_type_id": self.often(self.one(["AC", "WA"]), ["CE", "TLE"], 0.9)}
-            return judge, None, "POST", self.one(["/jury/proposals", "/jury/verifications"]), compact(body)
-        who = self.often(f"token-{self.one(ACCOUNTS)[0]}", ["public"], 0.75)
-        which = self.submission(contest)
-        paths = ["scoreboard", "scoreboard", "judgements", f"judgements/{which}.{self.often('1', ['2', '2', '3', '01'], 0.7)}",
-                 "submissions", f"submissions/{which}", f"submissions/{which}/files", "state", "awards", "awards/winner"]  # fmt: skip
-        path = self.often(f"{AT_REHEARSAL}/{self.one(paths)}", ["/jury/proposals", "/jury/verifications"], 0.85)
-        return who, None, self.often("GET", ["HEAD"], 0.95), path, ""
-
-
 def try_limits(desk):
     """The last clarification that the jury may write to one team, and one more."""
     folder, room = made(desk, False), desk_opinion.JURY_LIMIT - 1
@@ -202,7 +133,7 @@ def try_requests(desk):
     """Requests of every role at contests that grow, beside the second opinion."""
     kinds, left, number = collections.Counter(), desk.options.requests, 0
     while left > 0:
-        chance = Asker(f"{desk.options.seed}/{number}")
+        chance = Requester(f"{desk.options.seed}/{number}")
         verification, thaw = bool(number % 2), chance.one([None, END + 600_000, FREEZE + 1_200_000])
         contest, folder = contest_of(verification, thaw), made(desk, verification, thaw)
         server = Server(desk, folder)
@@ -444,7 +375,7 @@ def try_worlds(desk):
     shutil.copy(first / "cup.db", second / "cup.db")
     differed = 0
     for number in range(desk.options.pairs):
-        chance = Asker(f"{desk.options.seed}/pair {number}")
+        chance = Requester(f"{desk.options.seed}/pair {number}")
         own = chance.random.randint(0, len(TEAMS))
         who = "public" if own == len(TEAMS) else f"token-a{TEAMS[own][0][1:]}"
         rows, told_first = world(chance), told_words(chance)

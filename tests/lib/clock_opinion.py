@@ -4,9 +4,9 @@ Written to be read beside docs/FORMATS.md, as desk_opinion.py is, which asks it:
 """
 
 import datetime
-import json
 
-from .import_opinion import Refused, has_come
+from .import_opinion import Refused, has_come, json_of
+from .replay_opinion import Fault
 
 EPOCH = datetime.datetime(1970, 1, 1, tzinfo=datetime.timezone.utc)
 LAST_MOMENT = 253_370_764_799_999
@@ -27,8 +27,8 @@ def time_of(value):
 def wanted(contest, body):
     """The mark that a body names, and its moment; a start may be None."""
     try:
-        row = json.loads(body)
-    except json.JSONDecodeError:
+        row = json_of(body)
+    except Fault:
         raise Refused("Malformed")
     named = [name for name in MARKS if isinstance(row, dict) and name in row]
     if len(named) != 1 or row.get("id", contest["id"]) != contest["id"]:

@@ -11,10 +11,9 @@ import binascii
 import copy
 import datetime
 import hashlib
-import json
 
 from . import awards_opinion, clock_opinion, rejudging_opinion
-from .import_opinion import COLLECTIONS, Refused, compact, has_come, is_id, is_name, member
+from .import_opinion import COLLECTIONS, Refused, compact, has_come, is_id, is_name, member, json_of
 from .replay_opinion import Fault, reltime_text
 
 FILE_LIMIT = 262_144
@@ -264,7 +263,7 @@ def collection(contest, now, name, caller):
 def posted(body, team):
     """What a team posts: problem, language, entry point and file."""
     try:
-        row = json.loads(body)
+        row = json_of(body)
         problem, language = member(row, "problem_id", is_id), member(row, "language_id", is_id)
         entry = member(row, "entry_point", lambda text: text == "" or is_name(text), "")
         files = member(row, "files", lambda files: isinstance(files, list) and len(files) == 1)
@@ -272,7 +271,7 @@ def posted(body, team):
         file = base64.b64decode(data.encode(), validate=True)
         if base64.b64encode(file).decode() != data or member(row, "team_id", is_id, team) != team:
             raise Fault("Malformed")
-    except (Fault, json.JSONDecodeError, UnicodeEncodeError, binascii.Error):
+    except (Fault, UnicodeEncodeError, binascii.Error):
         raise Refused("Malformed")
     if len(file) > FILE_LIMIT:
         raise Refused("BodyTooLarge")
@@ -315,11 +314,11 @@ def is_text(value):
 def said(body, caller):
     """What a clarification's post says: whose it is, which is a team's or for all, and its problem, its reply and its text."""
     try:
-        row = json.loads(body)
+        row = json_of(body)
         text = member(row, "text", is_text)
         names = ("problem_id", "reply_to_id", "from_team_id", "to_team_id")
         problem, reply, sender, receiver = [member(row, name, is_id, "") or None for name in names]
-    except (Fault, json.JSONDecodeError, UnicodeEncodeError):
+    except Fault:
         raise Refused("Malformed")
     if is_jury(caller) and sender is None:
         return {"team": receiver, "problem": problem, "reply": reply, "text": text}
@@ -371,9 +370,9 @@ def judged(contest, caller, body):
     if not is_jury(caller):
         raise Refused("RoleForbids")
     try:
-        row = json.loads(body)
+        row = json_of(body)
         which, verdict = member(row, "submission_id", is_id), member(row, "judgement_type_id", is_id)
-    except (Fault, json.JSONDecodeError):
+    except Fault:
         raise Refused("Malformed")
     if all(submission_id(contest, one) != which for one in contest["submissions"]):
         raise Refused("UnknownReference")
@@ -508,10 +507,10 @@ def value_of(contest, now, who, key, method, path, body):
 
 def handled(contest, now, who, key, method, path, body):
     """What is answered to a request, and the contest after it."""
-    after = copy.deepcopy(contest)
+    after = copy.deepcopy(contest) if method in ("POST", "PATCH") else contest
     try:
         value = value_of(after, now, who, key, method, path, body)
-        return "200 " + (f"application/zip {value.decode()}" if isinstance(value, bytes) else compact(value)), after
+        return "200 " + (f"application/zip {value.decode(errors='surrogateescape')}" if isinstance(value, bytes) else compact(value)), after
     except Refused as refused:
         name, field = refused.args[0], refused.args[1] if len(refused.args) > 1 else ""
         field = " WWW-Authenticate: Bearer" if name == "UnknownToken" else field

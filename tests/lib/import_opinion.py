@@ -5,13 +5,17 @@ docs/FORMATS.md says what may stand in a file; fields of CSV files are read as r
 
 import copy
 import hashlib
+import itertools
 import json
+import math
 import re
 
 from . import replay_opinion
 from .replay_opinion import Fault
 
 LIMITS = {"types": 40, "languages": 40, "problems": 40, "groups": 50, "teams": 500, "accounts": 2000}
+NESTING = 127
+STRING = re.compile(r'"(?:[^"\\]|\\.)*"', re.DOTALL)
 NUMBERS = {"Malformed": 1, "BodyTooLarge": 6, "SettingsClosed": 23}
 COLLECTIONS = {"judgement-types": "types", "languages": "languages", "problems": "problems", "groups": "groups", "teams": "teams"}
 HEADERS = {"teams-csv": b"id,name,group_ids,hidden", "accounts-csv": b"id,role,team_id,token"}
@@ -46,6 +50,33 @@ def member(row, name, is_right, usual=None):
     if value is None and usual is not None:
         return usual
     if not is_right(value):
+        raise Fault("Malformed")
+    return value
+
+
+def number_of(text):
+    """A number of JSON: a whole one as it is, any other as a fraction, unless it is out of range."""
+    if math.isinf(float(text)):
+        raise Fault("Malformed")
+    return int(text) if len(text) < 400 and text.lstrip("-").isdigit() else float(text)
+
+
+def no_number(text):
+    raise Fault("Malformed")
+
+
+def json_of(data):
+    """The value that bytes are the JSON of; of two members of one name the last. It nests so deep at most, and is UTF-8."""
+    try:
+        text = data.decode("utf-8") if isinstance(data, bytes) else data
+        value = json.loads(text, parse_int=number_of, parse_float=number_of, parse_constant=no_number)
+        strings = STRING.findall(text) if "\\" in text else []
+        "".join(map(json.loads, strings)).encode("utf-8")
+    except (json.JSONDecodeError, UnicodeError, RecursionError):
+        raise Fault("Malformed")
+    marks = re.sub(r"[^\[\]{}]", "", STRING.sub("", text))
+    depths = itertools.accumulate(1 if mark in "[{" else -1 for mark in marks)
+    if max(depths, default=0) > NESTING:
         raise Fault("Malformed")
     return value
 
@@ -131,8 +162,8 @@ def records_in(kind, data):
             raise Refused("Malformed")
         return records[1:], csv_row
     try:
-        rows = json.loads(data.decode("utf-8"))
-    except (UnicodeDecodeError, json.JSONDecodeError):
+        rows = json_of(data)
+    except Fault:
         raise Refused("Malformed")
     if not isinstance(rows, list):
         raise Refused("Malformed")

@@ -3,9 +3,7 @@
 Written to be read beside docs/FORMATS.md, as desk_opinion.py is, which asks it: whole lists, and nothing kept along the way.
 """
 
-import json
-
-from .import_opinion import Refused, is_id, is_name, member
+from .import_opinion import Refused, is_id, is_name, member, json_of
 from .replay_opinion import Fault
 
 MEMBER_LIMIT = 500
@@ -49,9 +47,9 @@ def members_of_open(contest):
 def read(body, **rights):
     """The members of a posted object, each right by a test."""
     try:
-        row = json.loads(body)
+        row = json_of(body)
         return [member(row, name, is_right) for name, is_right in rights.items()]
-    except (Fault, json.JSONDecodeError, UnicodeEncodeError):
+    except Fault:
         raise Refused("Malformed")
 
 

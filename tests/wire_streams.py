@@ -1,0 +1,179 @@
+#!/usr/bin/env -S python3 -B
+"""Gives the desk requests in pieces, cut, interrupted and over streams that fail, each at each byte.
+
+    wire_streams.py [--program PATH]
+
+The program is wire, which serves each connection over a contest in memory by itself; the contest is that of lib/rehearsal.py.
+
+- A post in pieces of 1, 2, 3, 17 and 4,096 bytes, with a second request behind it: the same reply, and the second is never read. A
+  reader that fills what it is asked for is asked at most h + 2 times for a head of h bytes and a body of 131,072 bytes, once more for each 65,536 bytes more.
+- A post that waits for the interim reply, cut after each byte. Reads that are interrupted 1,000 times, and once more. A reader that
+  fails at each byte, and a writer that fails or takes nothing at each byte: what went out is a front of the replies, and what was
+  asked for stands if, and only if, the reply was begun. The same of a rejudging that is applied and of a clarification.
+
+What stands is asked by a judge, of all lists, after each. Ends with the line `N passed, M failed`; the exit status is 0 if M is 0.
+"""
+
+import base64
+import sys
+
+from lib import program, wire, wire_opinion
+from lib.clarifier import AT_ALL
+from lib.demo import AT_REHEARSAL, START
+from lib.import_opinion import compact
+from lib.rehearsal import contest_of, sent
+from lib.rejudger import AT_REJUDGINGS
+from lib.wire import Streams, Wire
+
+NOW = START + 300_000
+PIECES = (1, 2, 3, 17, 4_096)
+PIECE = 65_536  # bytes of a body that are read at once
+LISTS = [f"{AT_REHEARSAL}/{name}" for name in ("submissions", "judgements", "clarifications", "scoreboard")] + ["/jury/proposals", AT_REJUDGINGS]
+SECOND = sent("token-a2", None, "GET", "/contests", "")
+
+
+def post(size=3):
+    return compact({"problem_id": "a", "language_id": "cpp", "files": [{"data": base64.b64encode(b"abc"[:size] + bytes(max(0, size - 3))).decode()}]})
+
+
+def judged(which, verdict):
+    return compact({"submission_id": which, "judgement_type_id": verdict})
+
+
+# What is asked, and what was asked before it so that it is taken.
+SUBMISSION = ("token-a1", "k1", "POST", f"{AT_REHEARSAL}/submissions", post())
+CLARIFICATION = ("token-a1", None, "POST", AT_ALL, compact({"text": "Is 0 allowed?", "problem_id": "a"}))
+APPLY = ("token-j1", None, "POST", f"{AT_REJUDGINGS}/1/apply", "{}")
+BEFORE_APPLY = [
+    ("token-a1", None, "POST", f"{AT_REHEARSAL}/submissions", post()),
+    ("token-a2", None, "POST", f"{AT_REHEARSAL}/submissions", post()),
+    ("token-j1", None, "POST", "/jury/proposals", judged("s1-1", "WA")),
+    ("token-j1", None, "POST", "/jury/proposals", judged("s2-1", "WA")),
+    ("token-j1", None, "POST", AT_REJUDGINGS, compact({"reason": "data", "submission_ids": ["s1-1", "s2-1"]})),
+    ("token-j1", None, "POST", f"{AT_REJUDGINGS}/1/verdicts", judged("s1-1", "AC")),
+    ("token-j1", None, "POST", f"{AT_REJUDGINGS}/1/verdicts", judged("s2-1", "CE")),
+]
+ASKED = {"a submission": ([], SUBMISSION), "a clarification": ([], CLARIFICATION), "an applied rejudging": (BEFORE_APPLY, APPLY)}
+
+
+def waiting(data):
+    """The same request from a client that waits for the interim reply."""
+    return data.replace(b"\r\n\r\n", b"\r\nExpect: 100-continue\r\n\r\n", 1)
+
+
+def reads():
+    return [wire.served(NOW, sent("token-j1", None, "GET", path, "")) for path in LISTS]
+
+
+class Case:
+    """Connections at contests of their own, and what must come of them."""
+
+    def __init__(self, before):
+        self.contest, self.before = contest_of(False), []
+        for request in before:
+            data = sent(*request)
+            _, status, _, self.contest = wire_opinion.served(self.contest, NOW, data)
+            assert status == 200, request
+            self.before.append(wire.served(NOW, data))
+
+    def written(self, data):
+        return wire_opinion.served(self.contest, NOW, data)
+
+    def lists(self, contest):
+        return [wire_opinion.served(contest, NOW, sent("token-j1", None, "GET", path, ""))[2] for path in LISTS]
+
+    def steps(self, data, streams):
+        return wire.begun() + self.before + [wire.served(NOW, data, streams), *reads()]
+
+    def try_all(self, test, cases):
+        """Each case has a name, bytes, streams, what must come (how, status, left, written), and the contest after it."""
+        found = test.answers_to([step for _, data, streams, _, _ in cases for step in self.steps(data, streams)])
+        size = len(self.steps(b"", Streams()))
+        lists = {id(contest): self.lists(contest) for _, _, _, _, contest in cases}
+        for number, (name, _, _, wanted, contest) in enumerate(cases):
+            given = test.begins(found[number * size : (number + 1) * size])[len(self.before) :]
+            one, after, end = given[0], given[1:-1], given[-1]
+            test.same(name, (one.how, one.status, one.left, one.written), wanted)
+            test.same(f"what stands after {name}", [one.written for one in after], lists[id(contest)])
+            test.same(f"faults of the store after {name}", (end.faults, end.refusals), (0, 0))
+
+
+def try_pieces(test):
+    """In pieces, with a second request behind it."""
+    case = Case([])
+    for size in (3, 98_000):
+        data = waiting(sent("token-a1", "k1", "POST", f"{AT_REHEARSAL}/submissions", post(size)))
+        count, status, written, contest = case.written(data)
+        test.same(f"the bytes of a post of {size} bytes", (count, status), (len(data), 200))
+        wanted = "answered", 200, len(SECOND), written
+        case.try_all(test, [(f"{size} bytes in pieces of {piece}", data + SECOND, Streams(piece), wanted, contest) for piece in PIECES])
+
+
+def try_reads(test):
+    """How often a reader is asked that fills what it is asked for: once for each byte of a head, and for each piece of a body."""
+    for size in (0, 1, PIECE, PIECE + 1, 2 * PIECE, 524_288):
+        data = sent("token-a1", None, "POST", AT_ALL, "x" * size)
+        head = len(data) - size
+        one = test.begins(test.answers_to([*wire.begun(), wire.served(NOW, data + SECOND, Streams(1_000_000))]))[0]
+        test.note(one.reads <= head + -(-size // PIECE) and one.left == len(SECOND), f"a head of {head} bytes and a body of {size}: {one.reads} reads, {one.left} left")
+        test.same(f"a body of {size} bytes", (one.how, one.status), ("answered", 400))
+
+
+def try_cuts(test):
+    """Cut after each byte."""
+    for name, (before, request) in ASKED.items():
+        case = Case(before)
+        data = waiting(sent(*request))
+        head, whole = data.index(b"\r\n\r\n") + 4, case.written(data)
+        test.same(f"{name}, whole", whole[:2], (len(data), 200))
+        malformed = wire_opinion.reply(NOW, 400, b'{"code":400,"message":"Malformed"}')
+        cases = [(f"no byte of {name}", b"", Streams(), ("nothing", 0, 0, b""), case.contest), (name, data, Streams(), ("answered", 200, 0, whole[2]), whole[3])]
+        for size in range(1, len(data)):
+            interim = wire_opinion.INTERIM if size >= head else b""
+            cases.append((f"{size} bytes of {name}", data[:size], Streams(1 + size % 7), ("answered", 400, 0, interim + malformed), case.contest))
+        case.try_all(test, cases)
+
+
+def try_interrupts(test):
+    """Reads that are interrupted a thousand times, and once more."""
+    for name, (before, request) in ASKED.items():
+        case = Case(before)
+        data = sent(*request)
+        _, _, written, contest = case.written(data)
+        cases = [(f"{name}, {count} times interrupted", data, Streams(interrupts=count), ("answered", 200, 0, written), contest) for count in (1, 999, 1_000)]
+        cases += [(f"{name}, {count} times interrupted", data, Streams(interrupts=count), ("read", 0, len(data), b""), case.contest) for count in (1_001, 5_000)]
+        case.try_all(test, cases)
+
+
+def try_readers(test):
+    """A reader that fails at each byte."""
+    for name, (before, request) in ASKED.items():
+        case = Case(before)
+        data = waiting(sent(*request))
+        head = data.index(b"\r\n\r\n") + 4
+        cases = []
+        for size in range(len(data)):
+            interim = wire_opinion.INTERIM if size >= head else b""
+            cases.append((f"{name}, whose reader fails after {size} bytes", data[:size], Streams(1 + size % 5, end="fails"), ("read", 0, 0, interim), case.contest))
+        case.try_all(test, cases)
+
+
+def try_writers(test):
+    """A writer that fails or takes nothing at each byte."""
+    for name, (before, request) in ASKED.items():
+        case = Case(before)
+        data = waiting(sent(*request))
+        head, (_, _, written, after) = data.index(b"\r\n\r\n") + 4, case.written(data)
+        cases = []
+        for stop in ("fails", "full"):
+            for room in range(len(written)):
+                is_kept = room > len(wire_opinion.INTERIM) or (room == len(wire_opinion.INTERIM) and stop == "full")
+                left, contest = (0, after) if is_kept else (len(data) - head, case.contest)
+                wanted = "write", 0, left, written[:room]
+                cases.append((f"{name}, of whose replies {room} bytes are taken, {stop}", data, Streams(room=room, stop=stop), wanted, contest))
+        case.try_all(test, cases)
+
+
+if __name__ == "__main__":
+    PARTS = try_pieces, try_reads, try_cuts, try_interrupts, try_readers, try_writers
+    sys.exit(program.main(__doc__, Wire, PARTS, program="wire"))
