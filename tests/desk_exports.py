@@ -1,13 +1,14 @@
 #!/usr/bin/env -S python3 -B
 """Holds what `desk awards` and `desk export` print beside what they must of a contest in a file.
 
-    desk_exports.py [--program PATH] [--made N] [--seed N]
+    desk_exports.py [--program PATH] [--made N] [--every N] [--seed N]
 
 N made contests (120) of the demo contest's teams and problems, some of them with final results and some thawed: their awards,
 for anyone and for the jury, before and after each of these moments, and all their submissions. Then an export whose output takes
-so many bytes and no more, other outputs that fail, and what is refused.
+so many bytes and no more, other outputs that fail, and what is refused. At the end each Nth call for memory (7th) of an export, of
+awards and of a board is refused, each alone: the answer is E25, after the front of an export that was written by then, or the text.
 
-Takes faketime. Ends with the line `N passed, M failed`; the exit status is 0 if M is 0.
+Takes faketime and a C compiler. Ends with the line `N passed, M failed`; the exit status is 0 if M is 0.
 """
 
 import concurrent.futures
@@ -18,15 +19,16 @@ import json
 import os
 import random
 import resource
+import shutil
 import signal
 import sys
 
 from lib import clock, demo, desk_opinion, program
 from lib.demo import START
 from lib.desk_opinion import moment, submission_id
-from lib.program import FAULT, FILE, Program, refused
+from lib.program import FAULT, FILE, Program, compiled, ran_refused, refused
 from lib.replay_opinion import reltime_text
-from lib.sqlite import insert, opened
+from lib.sqlite import dump, insert, opened
 
 FIELDS = ["id", "team_id", "problem_id", "language_id", "time", "contest_time", "judgement_type_id", "sha256"]
 MINUTE = 60_000
@@ -161,5 +163,31 @@ def try_refused(desk):
     desk.answers("nothing to award", (0, "", ""), unset, "awards", "cup.db", "--jury", before=then)
 
 
+def try_memory(desk):
+    """Calls for memory that are refused: the file shows what it did before."""
+    contest = next(one for one in map(made_contest, range(100)) if len(one["submissions"]) > 2 and one["finalized"])
+    folder, library = kept(desk, contest), compiled("refuse_call", desk.folder)
+    before, contents = dump(folder / "cup.db"), (folder / "cup.db").read_bytes()
+    for words in (("export", "cup.db"), ("awards", "cup.db", "--jury", "--at", moment(FINAL)), ("board", "cup.db", "--at", moment(END))):
+        text = desk.run(folder, *words)[1].encode()
+        desk.note(text != b"", f"{words[0]} with all memory")
+
+        def one(call):
+            own = desk.new_folder()
+            (own / "cup.db").write_bytes(contents)
+            (status, out, err), refused = ran_refused([desk.path, *words], library, call, False, cwd=own)
+            is_kept = (own / "cup.db").read_bytes() == contents or dump(own / "cup.db") == before
+            shutil.rmtree(own)
+            is_front = words[0] == "export" and text.startswith(out)
+            is_right = (status, out, err) == (0, text, b"") or (status == 1 and err == b"refused: E25 Memory\n" and (out == b"" or is_front))
+            desk.note(is_right and is_kept, f"{words[0]}, call {call} refused: {status}, {out!r:.300}, {err!r}")
+            return refused
+
+        call, step = 1, desk.options.every
+        with concurrent.futures.ThreadPoolExecutor(os.cpu_count() or 1) as pool:
+            while all(pool.map(one, range(call, call + 100 * step, step))):
+                call += 100 * step
+
+
 if __name__ == "__main__":
-    sys.exit(program.main(__doc__, Program, (try_made, try_cuts, try_refused), program="desk", made=120, seed=42))
+    sys.exit(program.main(__doc__, Program, (try_made, try_cuts, try_refused, try_memory), program="desk", made=120, every=7, seed=42))

@@ -31,7 +31,7 @@ from lib.demo import AT_REHEARSAL, START
 from lib.desk_opinion import moment
 from lib.import_opinion import compact
 from lib.program import ROOT, Program
-from lib.rehearsal import END, FREEZE, PROBLEMS, TEAMS, TYPES, contest_of, files_of, sent
+from lib.rehearsal import ACCOUNTS, END, FREEZE, PROBLEMS, TEAMS, TYPES, contest_of, files_of, sent
 from lib.requester import Requester
 from lib.rejudger import AT_REJUDGINGS, JURY, NUMBERS, REASONS
 from lib.server import Server

@@ -18,77 +18,18 @@ from lib import desk_opinion, program, verdict_file_opinion
 from lib.clarifier import Clarifier
 from lib.demo import AT_REHEARSAL, REHEARSAL, START
 from lib.desk_opinion import moment
-from lib.import_opinion import HEADERS, compact
+from lib.director import ACCOUNTS, IDS, SETTINGS, Director
+from lib.import_opinion import compact
 from lib.program import Program, ran
 from lib.rejudger import JURY, Rejudger
 from lib.timekeeper import Timekeeper
 
-SETTINGS = ["judgement-types", "languages", "groups", "problems", "teams"]
-NAMES = ["Alpha", "Beta", "Gamma, the third", 'The "Deltas"', "Łódź", "東京", ""]
-IDS = {"judgement-types": ["AC", "WA", "CE"], "languages": ["cpp", "java"], "groups": ["north", "south"],
-       "problems": ["a", "b", "c"], "teams": ["t1", "t2", "t3", "t9"]}  # fmt: skip
-ACCOUNTS = ["a1", "b1", "a2", "a3", "a9", "j1", "j2", "adm"]
 KEYS = [None, None, "k1", "k2", "k3", "?"]
 FILES = [b"abc", b"", b"abd", bytes(7)]
 
 
-class Asker(Clarifier, Rejudger, Timekeeper):
+class Asker(Clarifier, Director, Rejudger, Timekeeper):
     """What is asked next, by a seed."""
-
-    def settings_row(self, kind):
-        row = {"id": self.often(self.one(IDS[kind]), ["x", "-x", "", None, 7], 0.95)}
-        row["name"] = self.often(f"Name {row['id']}", NAMES, 0.9)
-        if kind == "judgement-types":
-            row["solved"] = self.often(row["id"] == "AC", [True, "true", None], 0.97)
-            row["penalty"] = self.often(row["id"] == "WA", [True, None], 0.9)
-        elif kind == "languages":
-            row["entry_point_required"] = self.often(row["id"] == "java", [None, 1, True], 0.95)
-        elif kind == "problems":
-            row["label"] = self.often(str(row["id"]).upper(), ["A", "B", "", None], 0.9)
-            row["ordinal"] = self.often(len(str(row["id"])), [0, 65535, 65536, 1.5, None, "1"], 0.9)
-        elif kind == "teams":
-            row["hidden"] = self.often(row["id"] == "t9", [True, False, None, "false"], 0.95)
-            row["group_ids"] = self.often([], [["north"], ["north", "south"], ["south", "south"], ["east"], None, ["-"]], 0.7)
-        return {name: value for name, value in row.items() if self.random.random() < 0.98}
-
-    def quoted(self, field):
-        """A field of a CSV file, with quotation marks if it needs them, and sometimes if it doesn't."""
-        return '"' + field.replace('"', '""') + '"' if re.search('[",]', field) or self.random.random() < 0.05 else field
-
-    def teams_record(self):
-        row = self.settings_row("teams")
-        groups = row.get("group_ids") or []
-        fields = [str(row.get("id", "")), row.get("name", ""), self.often(" ", ["  ", ","], 0.98).join(groups)]
-        return fields + [self.often({True: "true", False: ""}.get(row.get("hidden"), "false"), ["TRUE", "no", "false"], 0.97)]
-
-    def accounts_record(self):
-        account = self.often(self.one(ACCOUNTS), ["j2", "-", "import"], 0.97)
-        role = {"a": "team", "b": "team", "j": "judge", "i": "judge"}.get(account[:1], "judge") if account != "adm" else "admin"
-        team = "t" + account[1:] if role == "team" else ""
-        token = self.often(f"token-{account}", ["token-j1", "short", "token j1", "token-x==", "=token-x"], 0.95)
-        return [account, self.often(role, ["Team", "judge", ""], 0.97), self.often(team, ["t1", "t7", ""], 0.96), token]
-
-    def file(self, kind):
-        """A file of some kind, mostly one that is taken."""
-        if kind in SETTINGS:
-            text = compact([self.settings_row(kind) for _ in range(self.random.randint(0, 3))])
-            return self.often(text, ["{}", "", text[:-1], "[7]"], 0.96) + "\n"
-        made = self.teams_record if kind == "teams-csv" else self.accounts_record
-        rows = [made() for _ in range(self.random.randint(0, 4))]
-        return self.csv_file(HEADERS[kind].decode(), rows)
-
-    def csv_file(self, header, rows):
-        lines = [",".join(map(self.quoted, row[: self.often(len(row), [len(row) - 1], 0.98)])) for row in rows]
-        return "\n".join([self.often(header, ["id,name", ""], 0.97), *lines]) + "\n"
-
-    def verdicts_file(self, contest):
-        """A file of verdicts, for submissions that stand or don't."""
-        made = [desk_opinion.submission_id(contest, one) for one in contest["submissions"]] or ["s1-1"]
-        rows = []
-        for _ in range(self.random.choice([0, 1, 1, 2, 3])):
-            which = self.often(self.one(made), [f"s{self.random.randint(1, 4)}-{self.random.randint(1, 4)}", "s1-01", "-s1"], 0.93)
-            rows.append([which, self.often("AC", ["WA", "WA", "CE", "TLE", ""], 0.6)])
-        return self.csv_file("submission_id,judgement_type_id", rows)
 
     def post(self):
         problem, language = self.often(self.one("abc"), ["x", "-x", None], 0.9), self.often("cpp", ["java", "java", "c", None], 0.7)

@@ -1,40 +1,46 @@
 #!/usr/bin/env -S python3 -B
 """Gives the desk the bytes of requests made from a seed, valid ones and spoiled ones, and holds each reply beside a second opinion.
 
-    wire_random.py [--program PATH] [--requests N] [--seed N]
+    wire_random.py [--program PATH] [--desk PATH] [--requests N] [--files N] [--http N] [--seed N]
 
 The program is wire, which serves each connection over a contest in memory by itself. Contests are those of lib/rehearsal.py. Each has
 some hundred requests of every route, role and moment, from before the start to beside final results; half of them are spoiled by
 lib/spoiler.py: bytes that are changed, cut or repeated, second requests that are smuggled in, wrong lengths, odd UTF-8, numbers out of
 range, JSON that nests too deep, members that stand twice, files that are none or two, base64 that is off its form, odd heads. The
 bytes come in pieces, some reads are interrupted. What goes out, how many bytes are read and what stands after that are those of
-lib/wire_opinion.py, byte for byte; none is without a reply that has to have one, and none is 503. N requests (20,000) are asked.
+lib/wire_opinion.py, byte for byte; none is without a reply that has to have one, and none is 503. N requests (20,000) are asked so.
+Then N files (10,000) of settings, teams and accounts are imported, half of them spoiled, and N requests (2,000) are sent to `desk
+serve` over sockets, on contests in files, at moments that faketime sets; half-way each server is killed and started again.
 
-Ends with the line `N passed, M failed`; the exit status is 0 if M is 0.
+Takes faketime. Ends with the line `N passed, M failed`; the exit status is 0 if M is 0.
 """
 
 import collections
-import concurrent.futures
-import os
+import re
+import shutil
+import signal
 import sys
 
-from lib import program, wire, wire_opinion
-from lib.demo import AT_REHEARSAL, START
-from lib.rehearsal import ACCOUNTS, END, contest_of, sent
+from lib import demo, desk_opinion, program, verdict_file_opinion, wire, wire_opinion
+from lib.clock import text_of
+from lib.demo import AT_REHEARSAL, REHEARSAL, START
+from lib.director import SETTINGS, Director
+from lib.rehearsal import ACCOUNTS, END, contest_of, files_of, sent
 from lib.rejudger import AT_REJUDGINGS
 from lib.requester import Requester, closing
+from lib.server import Server
 from lib.spoiler import Spoiler, can_say
 from lib.wire import Streams, Wire
 
 LENGTH = 400  # requests at one contest
+FILES = 40  # files at one contest
 BATCH = 8  # contests of one script
 PIECES = [1, 2, 3, 17, 4_096, 65_536]
-SETTINGS = ["judgement-types", "languages", "groups", "problems", "teams"]
 IDS = ["AC", "cpp", "north", "a", "t1", "t9", "x", "", "a/b"]
 READS = ["submissions", "judgements", "clarifications", "scoreboard", "awards", "state", *SETTINGS]
 
 
-class Asker(Requester, Spoiler):
+class Asker(Requester, Spoiler, Director):
     """What is asked next, and how it is spoiled."""
 
     def whole_request(self, contest):
@@ -43,7 +49,8 @@ class Asker(Requester, Spoiler):
             return self.request(contest)
         who = self.often(f"token-{self.one(ACCOUNTS)[0]}", ["public", "token-none"], 0.7)
         path = f"{AT_REHEARSAL}/{self.one(SETTINGS)}" + self.often("", [f"/{self.one(IDS)}"], 0.5)
-        path = self.often(path, ["/contests", AT_REHEARSAL, "/", f"{AT_REHEARSAL}/", "/jury/finalize", AT_REJUDGINGS, "/contests/demo/teams"], 0.8)
+        others = ["/contests", AT_REHEARSAL, "/", f"{AT_REHEARSAL}/", "/jury/finalize", AT_REJUDGINGS, "/contests/demo/teams"]
+        path = self.often(path, others, 0.8)
         return who, None, self.often("GET", ["HEAD", "POST", "PATCH", "DELETE", "get", "PUT"], 0.7), path, ""
 
     def connection(self, contest, kinds):
@@ -63,66 +70,127 @@ class Asker(Requester, Spoiler):
         return Streams(piece=self.one(PIECES), interrupts=self.often(0, [1, 7, 1_000], 0.95))
 
 
+def at_the_end(contest, now):
+    """What a judge reads then, and the public where there is no judge."""
+    who, made = "token-j1" if any(one["id"] == "j1" for one in contest["accounts"]) else "public", []
+    for path in READS:
+        data = sent(who, None, "GET", f"{AT_REHEARSAL}/{path}", "")
+        _, status, written, _ = wire_opinion.served(contest, now, data)
+        made.append((now, data, Streams(), ("answered", status, 0, written)))
+    return made
+
+
 def session(seed, count):
-    """Connections at one contest, each with what must come of it: how many bytes are left, a status, and what goes out."""
+    """Connections at one contest, each with its moment, its bytes, its streams and what must come of it: how it ends, a status, how
+    many bytes are left, and what goes out. Also whether another judge verifies verdicts, and how many there were of each kind."""
     chance, kinds, verification = Asker(seed), collections.Counter(), int(seed.rpartition("/")[2]) % 2 == 1
-    contest, now, steps, wanted = contest_of(verification), START - 600_000, wire.begun(verification), []
-    asked = []
+    contest, now, asked, made = contest_of(verification), START - 600_000, [], []
     for number in range(count):
         if number == count * 7 // 10:
             now, asked = max(now, END), [sent(*one) for one in closing(contest)]
         now += chance.random.randint(0, 44_000_000 // count)
         data = asked.pop(0) if asked else chance.connection(contest, kinds)
-        streams = chance.streams()
         read, status, written, contest = wire_opinion.served(contest, now, data)
-        steps.append(wire.served(now, data, streams))
-        wanted.append((now, data, ("answered" if status else "nothing", status, len(data) - read, written)))
+        made.append((now, data, chance.streams(), ("answered" if status else "nothing", status, len(data) - read, written)))
     kinds["contests with final results"] += contest["finalized"] is not None
     kinds["contests with a thaw"] += contest["thaw"] is not None
-    for path in READS:
-        data = sent("token-j1", None, "GET", f"{AT_REHEARSAL}/{path}", "")
-        read, status, written, contest = wire_opinion.served(contest, now, data)
-        steps.append(wire.served(now, data))
-        wanted.append((now, data, ("answered", status, 0, written)))
-    return steps, wanted, kinds
+    made += at_the_end(contest, now)
+    return verification, made, kinds + collections.Counter(f"{right[0]} {right[1]}" for *_, right in made)
 
 
-def hold(desk, seed, wanted, given):
+def hold(desk, seed, made, given):
     """Holds what came of a session beside what must."""
-    connections, ends = given[: len(wanted)], given[len(wanted) :]
-    for (now, data, right), one in zip(wanted, connections):
-        is_served = isinstance(one, wire.Served)
-        found = (one.how, one.status, one.left, one.written) if is_served else one
+    connections, ends = given[: len(made)], given[len(made) :]
+    for (now, data, _, right), one in zip(made, connections):
+        found = (one.how, one.status, one.left, one.written) if isinstance(one, wire.Served) else one
         desk.note(found == right, f"{seed} at {now}: {data!r}: {found}, wanted {right}")
-    desk.note(len(connections) == len(wanted), f"{seed}: {len(connections)} of {len(wanted)} were answered")
+    desk.note(len(connections) == len(made), f"{seed}: {len(connections)} of {len(made)} were answered")
     is_sound = len(ends) == 1 and isinstance(ends[0], wire.Ended) and ends[0].faults == ends[0].refusals == 0
     desk.note(is_sound, f"{seed}: the store ended with {ends}")
 
 
-def batch(desk, first, counts):
-    """Sessions in one script; the kinds of requests and of replies."""
-    seeds = [f"{desk.options.seed}/{number}" for number in range(first, first + len(counts))]
-    sessions = [session(seed, count) for seed, count in zip(seeds, counts)]
-    found, kinds = desk.answers_to([step for steps, _, _ in sessions for step in steps]), collections.Counter()
-    for seed, (steps, wanted, counted) in zip(seeds, sessions):
-        given, found = desk.begins(found[: len(steps)]), found[len(steps) :]
-        hold(desk, seed, wanted, given)
+def seeds_of(desk, first, counts):
+    return [(f"{desk.options.seed}/{number}", count) for number, count in enumerate(counts, first)]
+
+
+def lengths(whole, length):
+    """So many requests or files, as the lengths of sessions."""
+    return [length] * (whole // length) + ([whole % length] if whole % length else [])
+
+
+def batch(desk, seeds):
+    """Sessions in one script; how many requests and replies there were of each kind."""
+    sessions, scripts = [session(*one) for one in seeds], []
+    for verification, made, _ in sessions:
+        scripts.append(wire.begun(verification) + [wire.served(now, data, streams) for now, data, streams, _ in made])
+    found, kinds = desk.answers_to([step for script in scripts for step in script]), collections.Counter()
+    for (seed, _), (_, made, counted), script in zip(seeds, sessions, scripts):
+        given, found = desk.begins(found[: len(script)]), found[len(script) :]
+        hold(desk, seed, made, given)
         kinds += counted
-        kinds += collections.Counter(f"{right[0]} {right[1]}" for _, _, right in wanted)
     return kinds
 
 
-def try_requests(desk):
-    """So many requests, in sessions."""
-    left, kinds, first = desk.options.requests, collections.Counter(), 0
-    sizes = [LENGTH] * (left // LENGTH) + ([left % LENGTH] if left % LENGTH else [])
-    batches = [(at, sizes[at : at + BATCH]) for at in range(first, len(sizes), BATCH)]
-    with concurrent.futures.ThreadPoolExecutor(2) as pool:
-        for counted in pool.map(lambda one: batch(desk, *one), batches):
-            kinds += counted
+def imports(seed, count):
+    """Files that are imported before the start, half of them spoiled, each with the line that must come of it; and how many came to
+    each line."""
+    chance, kinds, made = Asker(seed), collections.Counter(), []
+    contest = desk_opinion.new_contest({**REHEARSAL, "verification": False}, START, None, None)
+    for _ in range(count):
+        kind = chance.one([*SETTINGS, "teams-csv", "accounts-csv"])
+        data = chance.file(kind).encode()
+        data = chance.spoiled_file(data) if chance.random.random() < 0.5 else data
+        line, contest = verdict_file_opinion.imported(contest, wire.MORNING, kind, data)
+        made.append((kind, data, None, line))
+        kinds[re.sub(r"\d+( |$)", r"n\1", line.replace("added 0", "added none"))] += 1
+    return contest, made, kinds
+
+
+def try_files(desk):
+    """So many files, in sessions, each at a contest of its own."""
+    seeds, kinds = seeds_of(desk, 2_000_000, lengths(desk.options.files, FILES)), collections.Counter()
+    for seed, count in seeds:
+        contest, made, counted = imports(seed, count)
+        reads = at_the_end(contest, wire.MORNING)
+        steps = [wire.begun()[0], *(wire.imported(wire.MORNING, kind, data) for kind, data, _, _ in made)]
+        hold(desk, seed, made + reads, desk.answers_to(steps + [wire.served(now, data) for now, data, _, _ in reads]))
+        kinds += counted
+    show(kinds)
+
+
+def show(kinds):
     for what, count in sorted(kinds.items()):
         print(f"{count:8}  {what}")
 
 
+def try_library(desk):
+    """So many requests, in sessions, over contests in memory."""
+    seeds, kinds = seeds_of(desk, 0, lengths(desk.options.requests, LENGTH)), collections.Counter()
+    for at in range(0, len(seeds), BATCH):
+        kinds += batch(desk, seeds[at : at + BATCH])
+    show(kinds)
+
+
+def try_http(desk):
+    """So many requests over sockets, on contests in files; the server of each is killed once, and started again."""
+    desk.path, kinds = str(desk.options.desk.resolve()), collections.Counter()
+    for seed, count in seeds_of(desk, 1_000_000, lengths(desk.options.http, LENGTH)):
+        verification, made, counted = session(seed, count)
+        folder = demo.made(desk, files_of(verification))
+        server, half = Server(desk, folder), len(made) // 2
+        for number, (now, data, _, right) in enumerate(made):
+            if number == half:
+                server.stop(signal.SIGKILL)
+                server = Server(desk, folder)
+            server.at(text_of(now))
+            given = server.ask(data)
+            desk.note(given == right[3], f"{seed} at {now}: {data!r}: {given}, wanted {right}")
+        server.stop()
+        shutil.rmtree(folder)
+        kinds += counted
+    show(kinds)
+
+
 if __name__ == "__main__":
-    sys.exit(program.main(__doc__, Wire, [try_requests], program="wire", requests=20_000, seed=45))
+    USUAL = {"program": "wire", "desk": "desk", "requests": 20_000, "files": 10_000, "http": 2_000, "seed": 45}
+    sys.exit(program.main(__doc__, Wire, (try_library, try_files, try_http), **USUAL))

@@ -13,7 +13,7 @@ and files of teams with a record that is cut, unclosed or no UTF-8. Each answer 
 Ends with the line `N passed, M failed`; the exit status is 0 if M is 0.
 """
 
-import re
+import json
 import sys
 
 from lib import program, verdict_file_opinion, wire, wire_opinion
@@ -41,8 +41,8 @@ ROUTES = {
     **{f"{AT_REHEARSAL}/{name}": "" for name in COLLECTIONS}, **{f"{AT_REHEARSAL}/{name}/{one}": "" for name, one in COLLECTIONS.items()},
     SUBMISSIONS: POST, AT_ALL: QUESTION, f"{SUBMISSIONS}/s1-1/files": "", f"{AT_REHEARSAL}/scoreboard": "", f"{AT_REHEARSAL}/state": "",
     "/contests": "", AT_REHEARSAL: compact({"scoreboard_thaw_time": moment(END)}), "/jury/proposals": JUDGED, "/jury/verifications": JUDGED,
-    AT_REJUDGINGS: OPENED, f"{AT_REJUDGINGS}/1": "", f"{AT_REJUDGINGS}/1/verdicts": JUDGED, f"{AT_REJUDGINGS}/1/apply": "", f"{AT_REJUDGINGS}/1/cancel": "",
-    "/jury/finalize": "",
+    AT_REJUDGINGS: OPENED, f"{AT_REJUDGINGS}/1": "", f"{AT_REJUDGINGS}/1/verdicts": JUDGED, f"{AT_REJUDGINGS}/1/apply": "",
+    f"{AT_REJUDGINGS}/1/cancel": "", "/jury/finalize": "",
 }  # fmt: skip
 MOMENTS = {"before the start": START - 1, "at 9:05": START + 300_000, "at 13:20": FREEZE + 1_200_000, "final": END}
 # One of each command comes first, so that there is something to read.
@@ -133,19 +133,24 @@ def try_teams(test):
     session.hold(test, "files of teams")
 
 
+# Values of a member that isn't read, which leave a body as it is, or spoil it.
+HARMLESS = [nested(126), b"1e308", b"9" * 308, b"18446744073709551616", b"1e-999", b"0e99999", b"-0", b'"\\ud83d\\udc88"', b'"\xc3\xa9"', b'"\\u0000"',
+            b'"\x7f"']  # fmt: skip
+SPOILING = [nested(127), nested(900), b"1e309", b"-1e309", b"9" * 309, b"01", b"1.", b"+1", b".5", b"NaN", b"Infinity", b"0x1", b'"\\ud800"',
+            b'"\\udc00\\ud800"', b'"\xc3("', b'"\xed\xa0\x80"', b'"\xc0\x80"', b'"\xf5\x80\x80\x80"', b'"\x01"', b"tru", b"nul", b"[1,]", b'{"a":1,}',
+            b""]  # fmt: skip
+
+
 def spoiled_bodies(body):
-    """A body that is taken, spoiled: each way with the status that it has to get, 0 for that of the body itself."""
-    members = [body[1:-1] + b',"x":', b""], [b'"x":', b"," + body[1:-1]]
-    for front, end in members:
-        yield from ((b"{" + front + value + end + b"}", status) for value, status in (
-            (nested(126), 0), (nested(127), 400), (nested(900), 400), (b"1e308", 0), (b"1e309", 400), (b"-1e309", 400), (b"9" * 308, 0), (b"9" * 309, 400),
-            (b"18446744073709551616", 0), (b"1e-999", 0), (b"0e99999", 0), (b"-0", 0), (b"01", 400), (b"1.", 400), (b"+1", 400), (b".5", 400),
-            (b"NaN", 400), (b"Infinity", 400), (b"0x1", 400), (b'"\\ud800"', 400), (b'"\\udc00\\ud800"', 400), (b'"\\ud83d\\udc88"', 0),
-            (b'"\xc3("', 400), (b'"\xed\xa0\x80"', 400), (b'"\xc0\x80"', 400), (b'"\xf5\x80\x80\x80"', 400), (b'"\xc3\xa9"', 0), (b'"\x01"', 400),
-            (b'"\\u0000"', 0), (b'"\x7f"', 0), (b"tru", 400), (b"nul", 400), (b"[1,]", 400), (b'{"a":1,}', 400), (b"", 400)))  # fmt: skip
-    yield from ((b"\xef\xbb\xbf" + body, 400), (b" \t\r\n" + body + b"\n", 0), (body + b"x", 400), (body + b"{}", 400), (body[:-1], 400), (b"[" + body + b"]", 400))
-    first, last = (b",".join(b'"%s":7' % name for name in re.findall(rb'"(\w+)":', body[:where])) for where in (len(body), body.index(b":") + 1))
-    yield from ((b"{" + first + b"," + body[1:], 0), (body[:-1] + b"," + last + b"}", 400), (b"\x0c" + body, 400))
+    """A body that is taken, spoiled: each way with the status that it has to get."""
+    for value, status in [*((one, 200) for one in HARMLESS), *((one, 400) for one in SPOILING)]:
+        yield body[:-1] + b',"x":' + value + b"}", status
+        yield b'{"x":' + value + b"," + body[1:], status
+    names = [name.encode() for name in json.loads(body)]
+    yield b"{" + b"".join(b'"%s":7,' % name for name in names) + body[1:], 200
+    yield from ((body[:-1] + b',"%s":7}' % name, 400) for name in names)
+    yield from ((b" \t\r\n" + body + b"\n", 200), (b"\x0c" + body, 400), (b"\xef\xbb\xbf" + body, 400), (body + b"x", 400))
+    yield from ((body + b"{}", 400), (body[:-1], 400), (b"[" + body + b"]", 400))
 
 
 def try_bodies(test):
@@ -164,32 +169,36 @@ def try_bodies(test):
             session.ask(now, sent("token-j1", None, "POST", f"{AT_REJUDGINGS}/1/cancel", ""), 200)
         number = 1
         for spoiled, status in spoiled_bodies(body.encode()):
-            session.ask(now, sent(who, None, "POST", path, "").replace(b"Length: 0", b"Length: %d" % len(spoiled)) + spoiled, status or 200)
-            if path == AT_REJUDGINGS and not status:
+            data = sent(who, None, "POST", path, "").replace(b"Length: 0", b"Length: %d" % len(spoiled)) + spoiled
+            session.ask(now, data, status)
+            if path == AT_REJUDGINGS and status == 200:
                 number += 1
                 session.ask(now, sent("token-j1", None, "POST", f"{AT_REJUDGINGS}/{number}/cancel", ""), 200)
             session.ask(now, sent("token-j1", None, "GET", path if path.count("/") < 4 else AT_REJUDGINGS, ""), 200)
         session.hold(test, path)
 
 
+# The files of posts that are taken, and ones that are not.
+TAKEN = {'[{"data":"YWJj"}]': b"abc", '[{"data":""}]': b"", '[{"data":"YWI="}]': b"ab", '[{"data":"YQ=="}]': b"a",
+         '[{"data":"/+8="}]': b"\xff\xef", '[{"data":7,"data":"YWJk"}]': b"abd", '[{"name":[],"data":"\\u0059WJj"}]': b"abc"}  # fmt: skip
+REFUSED = ["[]", "null", "7", "{}", '"YWJj"', '{"data":"YWJj"}', "[null]", "[[]]", "[{}]", '["YWJj"]', '[{"data":null}]', '[{"data":7}]',
+           '[{"data":"YWJj"},{"data":"YWJj"}]', '[{"data":"YWJj"},null]', '[{"data":"YWI"}]', '[{"data":"YQ"}]', '[{"data":"YQ="}]',
+           '[{"data":"YWJ="}]', '[{"data":"YX=="}]', '[{"data":"YWJj="}]', '[{"data":"YWJj===="}]', '[{"data":"YW=j"}]',
+           '[{"data":"YQ==YWJj"}]', '[{"data":"YWJj\\n"}]', '[{"data":" YWJj"}]', '[{"data":"YWJ-"}]', '[{"data":"YWJ_"}]', '[{"data":"="}]',
+           '[{"data":"===="}]', '[{"data":"é"}]', '[{"data":"YWJj","data":7}]']  # fmt: skip
+
+
 def try_files(test):
     """What a post has for its file."""
-    session, now = Session(False), START + 300_000
-    taken = {'[{"data":"YWJj"}]': b"abc", '[{"data":""}]': b"", '[{"data":"YWI="}]': b"ab", '[{"data":"YQ=="}]': b"a", '[{"data":"/+8="}]': b"\xff\xef",
-             '[{"data":7,"data":"YWJk"}]': b"abd", '[{"name":[],"data":"\\u0059WJj"}]': b"abc"}  # fmt: skip
-    refused = ["[]", "null", "7", "{}", '"YWJj"', '{"data":"YWJj"}', "[null]", "[[]]", "[{}]", '["YWJj"]', '[{"data":null}]', '[{"data":7}]',
-               '[{"data":"YWJj"},{"data":"YWJj"}]', '[{"data":"YWJj"},null]', '[{"data":"YWI"}]', '[{"data":"YQ"}]', '[{"data":"YQ="}]', '[{"data":"YWJ="}]',
-               '[{"data":"YX=="}]', '[{"data":"YWJj="}]', '[{"data":"YWJj===="}]', '[{"data":"YW=j"}]', '[{"data":"YQ==YWJj"}]', '[{"data":"YWJj\\n"}]',
-               '[{"data":" YWJj"}]', '[{"data":"YWJ-"}]', '[{"data":"YWJ_"}]', '[{"data":"="}]', '[{"data":"===="}]', '[{"data":"é"}]', '[{"data":"YWJj","data":7}]']  # fmt: skip
-    number = 0
-    for files, status in [*((one, 200) for one in taken), *((one, 400) for one in refused), ('[{"data":"YWJj"}]', 200)]:
+    session, now, number = Session(False), START + 300_000, 0
+    for files, status in [*((one, 200) for one in TAKEN), *((one, 400) for one in REFUSED), (next(iter(TAKEN)), 200)]:
         body = f'{{"problem_id":"a","language_id":"cpp","files":{files}}}'
         session.ask(now, sent("token-a1", None, "POST", SUBMISSIONS, body), status)
         number += status == 200
         session.ask(now, sent("token-a1", None, "GET", f"{SUBMISSIONS}/s1-{number}/files", ""), 200)
     session.hold(test, "files of posts")
     kept = [one["file"] for one in session.contest["submissions"]]
-    test.same("the files that stand", kept, [*taken.values(), b"abc"])
+    test.same("the files that stand", kept, [*TAKEN.values(), b"abc"])
 
 
 if __name__ == "__main__":

@@ -6,7 +6,8 @@
 The program is wire, which serves each connection over a contest in memory by itself; the contest is that of lib/rehearsal.py.
 
 - A post in pieces of 1, 2, 3, 17 and 4,096 bytes, with a second request behind it: the same reply, and the second is never read. A
-  reader that fills what it is asked for is asked at most h + 2 times for a head of h bytes and a body of 131,072 bytes, once more for each 65,536 bytes more.
+  reader that fills what it is asked for is asked at most h + 2 times for a head of h bytes and a body of 131,072 bytes, and once more
+  for each 65,536 bytes more.
 - A post that waits for the interim reply, cut after each byte. Reads that are interrupted 1,000 times, and once more. A reader that
   fails at each byte, and a writer that fails or takes nothing at each byte: what went out is a front of the replies, and what was
   asked for stands if, and only if, the reply was begun. The same of a rejudging that is applied and of a clarification.
@@ -15,6 +16,7 @@ What stands is asked by a judge, of all lists, after each. Ends with the line `N
 """
 
 import base64
+import itertools
 import sys
 
 from lib import program, wire, wire_opinion
@@ -28,12 +30,14 @@ from lib.wire import Streams, Wire
 NOW = START + 300_000
 PIECES = (1, 2, 3, 17, 4_096)
 PIECE = 65_536  # bytes of a body that are read at once
-LISTS = [f"{AT_REHEARSAL}/{name}" for name in ("submissions", "judgements", "clarifications", "scoreboard")] + ["/jury/proposals", AT_REJUDGINGS]
+LISTS = [f"{AT_REHEARSAL}/{name}" for name in ("submissions", "judgements", "clarifications", "scoreboard")]
+LISTS += ["/jury/proposals", AT_REJUDGINGS]
 SECOND = sent("token-a2", None, "GET", "/contests", "")
 
 
 def post(size=3):
-    return compact({"problem_id": "a", "language_id": "cpp", "files": [{"data": base64.b64encode(b"abc"[:size] + bytes(max(0, size - 3))).decode()}]})
+    """A submission with a file of so many bytes."""
+    return compact({"problem_id": "a", "language_id": "cpp", "files": [{"data": base64.b64encode(b"abc".ljust(size, b"d")).decode()}]})
 
 
 def judged(which, verdict):
@@ -115,7 +119,8 @@ def try_reads(test):
         data = sent("token-a1", None, "POST", AT_ALL, "x" * size)
         head = len(data) - size
         one = test.begins(test.answers_to([*wire.begun(), wire.served(NOW, data + SECOND, Streams(1_000_000))]))[0]
-        test.note(one.reads <= head + -(-size // PIECE) and one.left == len(SECOND), f"a head of {head} bytes and a body of {size}: {one.reads} reads, {one.left} left")
+        is_few = one.reads <= head + -(-size // PIECE)
+        test.note(is_few and one.left == len(SECOND), f"a head of {head} bytes and a body of {size}: {one.reads} reads, {one.left} left")
         test.same(f"a body of {size} bytes", (one.how, one.status), ("answered", 400))
 
 
@@ -127,7 +132,8 @@ def try_cuts(test):
         head, whole = data.index(b"\r\n\r\n") + 4, case.written(data)
         test.same(f"{name}, whole", whole[:2], (len(data), 200))
         malformed = wire_opinion.reply(NOW, 400, b'{"code":400,"message":"Malformed"}')
-        cases = [(f"no byte of {name}", b"", Streams(), ("nothing", 0, 0, b""), case.contest), (name, data, Streams(), ("answered", 200, 0, whole[2]), whole[3])]
+        cases = [(f"no byte of {name}", b"", Streams(), ("nothing", 0, 0, b""), case.contest)]
+        cases.append((name, data, Streams(), ("answered", 200, 0, whole[2]), whole[3]))
         for size in range(1, len(data)):
             interim = wire_opinion.INTERIM if size >= head else b""
             cases.append((f"{size} bytes of {name}", data[:size], Streams(1 + size % 7), ("answered", 400, 0, interim + malformed), case.contest))
@@ -140,8 +146,11 @@ def try_interrupts(test):
         case = Case(before)
         data = sent(*request)
         _, _, written, contest = case.written(data)
-        cases = [(f"{name}, {count} times interrupted", data, Streams(interrupts=count), ("answered", 200, 0, written), contest) for count in (1, 999, 1_000)]
-        cases += [(f"{name}, {count} times interrupted", data, Streams(interrupts=count), ("read", 0, len(data), b""), case.contest) for count in (1_001, 5_000)]
+        cases = []
+        for count in (1, 999, 1_000, 1_001, 5_000):
+            is_served = count <= 1_000
+            wanted = ("answered", 200, 0, written) if is_served else ("read", 0, len(data), b"")
+            cases.append((f"{name}, {count} times interrupted", data, Streams(interrupts=count), wanted, contest if is_served else case.contest))
         case.try_all(test, cases)
 
 
@@ -154,23 +163,24 @@ def try_readers(test):
         cases = []
         for size in range(len(data)):
             interim = wire_opinion.INTERIM if size >= head else b""
-            cases.append((f"{name}, whose reader fails after {size} bytes", data[:size], Streams(1 + size % 5, end="fails"), ("read", 0, 0, interim), case.contest))
+            what = f"{name}, whose reader fails after {size} bytes"
+            cases.append((what, data[:size], Streams(1 + size % 5, end="fails"), ("read", 0, 0, interim), case.contest))
         case.try_all(test, cases)
 
 
 def try_writers(test):
-    """A writer that fails or takes nothing at each byte."""
+    """A writer that fails or takes nothing at each byte, in small pieces and in large ones."""
     for name, (before, request) in ASKED.items():
         case = Case(before)
         data = waiting(sent(*request))
         head, (_, _, written, after) = data.index(b"\r\n\r\n") + 4, case.written(data)
         cases = []
-        for stop in ("fails", "full"):
+        for stop, piece in itertools.product(("fails", "full"), (3, 65_536)):
             for room in range(len(written)):
                 is_kept = room > len(wire_opinion.INTERIM) or (room == len(wire_opinion.INTERIM) and stop == "full")
                 left, contest = (0, after) if is_kept else (len(data) - head, case.contest)
-                wanted = "write", 0, left, written[:room]
-                cases.append((f"{name}, of whose replies {room} bytes are taken, {stop}", data, Streams(room=room, stop=stop), wanted, contest))
+                what = f"{name}, of whose replies {room} bytes are taken by {piece}, {stop}"
+                cases.append((what, data, Streams(piece, room=room, stop=stop), ("write", 0, left, written[:room]), contest))
         case.try_all(test, cases)
 
 

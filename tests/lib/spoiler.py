@@ -9,16 +9,19 @@ from .timekeeper import TIMES, WRONG_TIMES
 
 ODD_BYTES = [b"\xc3(", b"\xed\xa0\x80", b"\xc0\x80", b"\xff", b"\xf5\x80\x80\x80", b"\xe2\x82", b"\xef\xbb\xbf", "é".encode(), b"\0", b"\x7f", b"\r", b"\n",
              b"\t", b'"', b"\\", b"\\ud800", b"\\u0000", b" ", b":"]  # fmt: skip
-ODD_NUMBERS = [b"1e999", b"-1e999", b"1e-999", b"9" * 30, b"9" * 310, b"1" + b"0" * 308, b"-0", b"01", b"1.", b"+1", b"0x1", b"NaN", b"Infinity", b"-",
-               b"18446744073709551616", b"1E400", b"0e99999", b"1.5"]  # fmt: skip
+ODD_NUMBERS = [b"1e999", b"-1e999", b"1e-999", b"9" * 30, b"9" * 310, b"1" + b"0" * 308, b"-0", b"01", b"1.", b"+1", b"0x1", b"NaN",
+               b"Infinity", b"-", b"18446744073709551616", b"1E400", b"0e99999", b"1.5"]  # fmt: skip
 ODD_LENGTHS = [b"", b"+5", b"-1", b"1, 1", b"0x10", b"1.0", b" 7 ", b"00", b"0007", b"524288", b"524289", b"9" * 40, b"0" * 40]
-ODD_FILES = ["[]", '[{"data":"YWJj"},{"data":"YWJj"}]', '[{"data":""}]', '[{"data":"YWI"}]', '[{"data":"YWJ="}]', '[{"data":"YW=="}]', '[{"data":"YX=="}]',
-             '[{"data":"YWJj=="}]', '[{"data":"YWJj\\n"}]', '[{"data":"YWJ-"}]', '[{"data":"=="}]', '[{"data":null}]', '[{}]', '[[]]', '{"data":"YWJj"}', '["YWJj"]',
-             '[{"data":"YWJj","data":"YWJk"}]', '[{"data":7,"data":"YWJj"}]', '[null]', '[{"data":"/+8="}]', '[{"data":"____"}]']  # fmt: skip
-ODD_FIELDS = [b"Transfer-Encoding: chunked", b"transfer-encoding:", b"Host: y", b"Content-Length: 0", b"Expect: 100-continue", b"EXPECT:100-Continue ",
-              b"Expect: 100-continue, x", b"Authorization: Basic YTpi", b"Authorization: Bearer token-j1", b"Idempotency-Key: k1", b"X", b"X :y", b" folded",
-              b"X:\x01", b"X: \xff\xfe", b"Connection: keep-alive", b": y", b"X:" + b"y" * 9_000, b"X:" + b"y" * 17_000, b"Content-Type: text/plain"]  # fmt: skip
-ODD_TARGETS = [b"*", b"http://x%s", b"http://x", b"https://x%s", b"HTTP://x%s", b"%s?a=/b", b"%s#a", b"/%s", b"%s/", b"/..%s", b"%s\xc3\xa9", b"%s\xff", b"%%2f%s"]
+ODD_FILES = ["[]", '[{"data":"YWJj"},{"data":"YWJj"}]', '[{"data":""}]', '[{"data":"YWI"}]', '[{"data":"YWJ="}]', '[{"data":"YW=="}]',
+             '[{"data":"YX=="}]', '[{"data":"YWJj=="}]', '[{"data":"YWJj\\n"}]', '[{"data":"YWJ-"}]', '[{"data":"=="}]', '[{"data":null}]',
+             '[{}]', '[[]]', '{"data":"YWJj"}', '["YWJj"]', '[{"data":"YWJj","data":"YWJk"}]', '[{"data":7,"data":"YWJj"}]', '[null]',
+             '[{"data":"/+8="}]', '[{"data":"____"}]']  # fmt: skip
+ODD_FIELDS = [b"Transfer-Encoding: chunked", b"transfer-encoding:", b"Host: y", b"Content-Length: 0", b"Expect: 100-continue",
+              b"EXPECT:100-Continue ", b"Expect: 100-continue, x", b"Authorization: Basic YTpi", b"Authorization: Bearer token-j1",
+              b"Idempotency-Key: k1", b"X", b"X :y", b" folded", b"X:\x01", b"X: \xff\xfe", b"Connection: keep-alive", b": y",
+              b"X:" + b"y" * 9_000, b"X:" + b"y" * 17_000, b"Content-Type: text/plain"]  # fmt: skip
+ODD_TARGETS = [b"*", b"http://x%s", b"http://x", b"https://x%s", b"HTTP://x%s", b"%s?a=/b", b"%s#a", b"/%s", b"%s/", b"/..%s",
+               b"%s\xc3\xa9", b"%s\xff", b"%%2f%s"]  # fmt: skip
 SMUGGLED = b"POST /jury/finalize HTTP/1.1\r\nHost: x\r\nAuthorization: Bearer token-adm\r\n\r\n"
 WHOLE_TIME = re.compile(r"\d{4}-\d\d-\d\dT\d\d:\d\d:[0-5]\d\.\d{3}(Z|[+-](0\d|1\d|2[0-3]):[0-5]\d)")
 
@@ -120,7 +123,8 @@ class Spoiler(Chance):
 
     def odd_line_ends(self, head, body):
         """Lines that end in LF alone, empty lines in front, fields in other letters, without spaces or with more."""
-        head = self.one([head, head.replace(b"\r\n", b"\n"), b"\r\n" + head, b"\n" + head, b"\n\n" + head, head[:-2] + b"\n", head.replace(b"\r\n", b"\r", 1)])
+        head = self.one([head, head.replace(b"\r\n", b"\n"), b"\r\n" + head, b"\n" + head, b"\n\n" + head, head[:-2] + b"\n",
+                         head.replace(b"\r\n", b"\r", 1)])  # fmt: skip
         if self.random.random() < 0.5:
             spaced = self.one([b":", b": \t ", b":  "])
             head = re.sub(rb"(?m)^([A-Z][\w-]+): ", lambda found: self.one([found[1].upper(), found[1].lower()]) + spaced, head)
@@ -141,10 +145,17 @@ class Spoiler(Chance):
         head = head.replace(b"\r\n\r\n", b"\r\nExpect: 100-continue\r\n\r\n")
         return head + self.often(body, [body[: len(body) // 2]], 0.7)
 
+    def spoiled_file(self, data):
+        """A file of which bytes are changed, a piece is cut or repeated, or in which something odd stands."""
+        at, odd = self.random.randrange(len(data) + 1), [b",", b'"', b"\r\n", b"\n\n", b"[]", nested(126), nested(127)]
+        others = [self.bytes_changed(b"", data or b"x"), self.cut(b"", data), self.piece_again(b"", data)]
+        return self.often(data[:at] + self.one(ODD_BYTES + ODD_NUMBERS + odd) + data[at:], others, 0.5)
+
     def spoiled(self, data):
         """The bytes of a request in one way or two, and the name of the last."""
-        ways = [self.bytes_changed, self.cut, self.piece_again, self.whole_again, self.second_request, self.wrong_length, self.odd_bytes, self.odd_number,
-                self.deep, self.member_again, self.odd_files, self.odd_field, self.odd_line_ends, self.odd_target, self.odd_version, self.waiting]  # fmt: skip
+        ways = [self.bytes_changed, self.cut, self.piece_again, self.whole_again, self.second_request, self.wrong_length, self.odd_bytes,
+                self.odd_number, self.deep, self.member_again, self.odd_files, self.odd_field, self.odd_line_ends, self.odd_target,
+                self.odd_version, self.waiting]  # fmt: skip
         for _ in range(1 if self.random.random() < 0.8 else 2):
             end = data.find(b"\r\n\r\n") + 4
             way = self.one(ways if end > 3 and data[:end].count(b" ") > 1 else ways[:1])

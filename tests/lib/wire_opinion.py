@@ -14,7 +14,8 @@ HEAD_LIMIT, BODY_LIMIT = 16_384, 524_288
 INTERIM = b"HTTP/1.1 100 Continue\r\n\r\n"
 STATUSES = {**desk_opinion.STATUSES, "HeadTooLarge": 431, "Encoding": 501}
 PHRASES = {200: "OK", 400: "Bad Request", 401: "Unauthorized", 403: "Forbidden", 404: "Not Found", 405: "Method Not Allowed",
-           409: "Conflict", 413: "Payload Too Large", 431: "Request Header Fields Too Large", 501: "Not Implemented"}  # fmt: skip
+           409: "Conflict", 413: "Payload Too Large", 431: "Request Header Fields Too Large", 501: "Not Implemented",
+           503: "Service Unavailable"}  # fmt: skip
 WORD = rb"[!#$%&'*+\-.^_`|~0-9A-Za-z]+"
 FIELDS = rb"(?:%s:[\t\x20-\x7e\x80-\xff]*\r?\n)*" % WORD
 HEAD = re.compile(rb"(?:\r?\n)?(%s) ([\x21-\x7e\x80-\xff]+) HTTP/1\.([01])\r?\n(%s)\r?\n" % (WORD, FIELDS))
@@ -141,6 +142,7 @@ def served(contest, now, data):
     count, interim, head_only, request = asked(data)
     if isinstance(request, str):
         status = STATUSES[request]
-        return count, status, interim + reply(now, status, compact({"code": status, "message": request}).encode(), head_only=head_only), contest
+        body = compact({"code": status, "message": request}).encode()
+        return count, status, interim + reply(now, status, body, head_only=head_only), contest
     answer, after = desk_opinion.handled(contest, now, *request)
     return count, int(answer.partition(" ")[0]), interim + spelled(now, answer, head_only), after

@@ -2,9 +2,10 @@
 //!
 //! - `contest SIZE`: the file of a new contest, as `desk init` takes it. All steps up to the next are at its desk.
 //! - `import MOMENT KIND SIZE`: a file that is imported. A moment is in milliseconds since 1970.
-//! - `serve MOMENT PIECE INTERRUPTS END ROOM STOP SIZE`: a connection on which these bytes come. A read gets at most
-//!   PIECE bytes, once so many reads were interrupted; after the last byte the reader `ends` or `fails`. ROOM bytes
-//!   of the reply are taken, and then a write `fails` or is `full`: it takes nothing.
+//! - `serve MOMENT PIECE INTERRUPTS END ROOM STOP SIZE`: a connection on which these bytes come. A read gets and a
+//!   write takes at most PIECE bytes; so many reads are interrupted before the first gets some; after the last byte
+//!   the reader `ends` or `fails`. ROOM bytes of the replies are taken, and then a write `fails` or is `full`: it
+//!   takes nothing.
 //!
 //! What is no step ends the script.
 

@@ -83,6 +83,7 @@ fn serve(
     });
     let mut writer = Counted::new(Room {
         taken,
+        piece: streams.piece,
         room: streams.room,
         fails: streams.writer_fails,
     });

@@ -49,17 +49,18 @@ impl Read for Source<'_> {
     }
 }
 
-/// Takes so many bytes, and then fails, at a flush too, or takes no more.
+/// Takes so many bytes in pieces, and then fails, at a flush too, or takes no more.
 #[derive(Drop)]
 pub struct Room<'a> {
     pub taken: &'a mut Vec<u8>,
+    pub piece: usize,
     pub room: usize,
     pub fails: bool,
 }
 
 impl Write for Room<'_> {
     fn write(&mut self, buf: &[u8]) -> io::Result<usize> {
-        let count = buf.len().min(self.room);
+        let count = buf.len().min(self.room).min(self.piece);
         if count == 0 && self.fails && !buf.is_empty() {
             return Err(io::Error::from(io::ErrorKind::BrokenPipe));
         }
