@@ -8,9 +8,9 @@ The program is wire, which serves each connection over a contest in memory by it
 - A post in pieces of 1, 2, 3, 17 and 4,096 bytes, with a second request behind it: the same reply, and the second is never read. A
   reader that fills what it is asked for is asked at most h + 2 times for a head of h bytes and a body of 131,072 bytes, and once more
   for each 65,536 bytes more.
-- A post that waits for the interim reply, cut after each byte. Reads that are interrupted 1,000 times, and once more. A reader that
-  fails at each byte, and a writer that fails or takes nothing at each byte: what went out is a front of the replies, and what was
-  asked for stands if, and only if, the reply was begun. The same of a rejudging that is applied and of a clarification.
+- A post, sent at once or after the interim reply, cut after each byte. Reads that are interrupted 1,000 times, and once more. A reader
+  that fails at each byte, and a writer that fails or takes nothing at each byte: what went out is a front of the replies, and what was
+  asked for stands unless the interim reply broke off. The same of a rejudging that is applied and of a clarification.
 
 What stands is asked by a judge, of all lists, after each. Ends with the line `N passed, M failed`; the exit status is 0 if M is 0.
 """
@@ -63,6 +63,12 @@ ASKED = {"a submission": ([], SUBMISSION), "a clarification": ([], CLARIFICATION
 def waiting(data):
     """The same request from a client that waits for the interim reply."""
     return data.replace(b"\r\n\r\n", b"\r\nExpect: 100-continue\r\n\r\n", 1)
+
+
+def ways(request):
+    """The same request from a client that doesn't wait and from one that does: its name, its bytes, and the interim reply to it."""
+    data = sent(*request)
+    return ("sent at once", data, b""), ("that waits", waiting(data), wire_opinion.INTERIM)
 
 
 def reads():
@@ -124,19 +130,24 @@ def try_reads(test):
         test.same(f"a body of {size} bytes", (one.how, one.status), ("answered", 400))
 
 
+def each_way():
+    """What is asked, in each way: its name, the contest before it, its bytes, how many of them are its head, and the interim reply."""
+    for name, (before, request) in ASKED.items():
+        for way, data, interim in ways(request):
+            yield f"{name} {way}", Case(before), data, data.index(b"\r\n\r\n") + 4, interim
+
+
 def try_cuts(test):
     """Cut after each byte."""
-    for name, (before, request) in ASKED.items():
-        case = Case(before)
-        data = waiting(sent(*request))
-        head, whole = data.index(b"\r\n\r\n") + 4, case.written(data)
-        test.same(f"{name}, whole", whole[:2], (len(data), 200))
-        malformed = wire_opinion.reply(NOW, 400, b'{"code":400,"message":"Malformed"}')
+    malformed = wire_opinion.reply(NOW, 400, b'{"code":400,"message":"Malformed"}')
+    for name, case, data, head, interim in each_way():
+        count, status, written, after = case.written(data)
+        test.same(f"{name}, whole", (count, status, written[: len(interim)]), (len(data), 200, interim))
         cases = [(f"no byte of {name}", b"", Streams(), ("nothing", 0, 0, b""), case.contest)]
-        cases.append((name, data, Streams(), ("answered", 200, 0, whole[2]), whole[3]))
+        cases.append((name, data, Streams(), ("answered", 200, 0, written), after))
         for size in range(1, len(data)):
-            interim = wire_opinion.INTERIM if size >= head else b""
-            cases.append((f"{size} bytes of {name}", data[:size], Streams(1 + size % 7), ("answered", 400, 0, interim + malformed), case.contest))
+            wanted = "answered", 400, 0, (interim if size >= head else b"") + malformed
+            cases.append((f"{size} bytes of {name}", data[:size], Streams(1 + size % 7), wanted, case.contest))
         case.try_all(test, cases)
 
 
@@ -155,29 +166,25 @@ def try_interrupts(test):
 
 
 def try_readers(test):
-    """A reader that fails at each byte."""
-    for name, (before, request) in ASKED.items():
-        case = Case(before)
-        data = waiting(sent(*request))
-        head = data.index(b"\r\n\r\n") + 4
-        cases = []
+    """A reader that fails at each byte, also behind the last that is wanted."""
+    for name, case, data, head, interim in each_way():
+        _, _, written, after = case.written(data)
+        cases = [(f"{name}, whose reader fails behind it", data, Streams(end="fails"), ("answered", 200, 0, written), after)]
         for size in range(len(data)):
-            interim = wire_opinion.INTERIM if size >= head else b""
+            wanted = "read", 0, 0, interim if size >= head else b""
             what = f"{name}, whose reader fails after {size} bytes"
-            cases.append((what, data[:size], Streams(1 + size % 5, end="fails"), ("read", 0, 0, interim), case.contest))
+            cases.append((what, data[:size], Streams(1 + size % 5, end="fails"), wanted, case.contest))
         case.try_all(test, cases)
 
 
 def try_writers(test):
     """A writer that fails or takes nothing at each byte, in small pieces and in large ones."""
-    for name, (before, request) in ASKED.items():
-        case = Case(before)
-        data = waiting(sent(*request))
-        head, (_, _, written, after) = data.index(b"\r\n\r\n") + 4, case.written(data)
+    for name, case, data, head, interim in each_way():
+        _, _, written, after = case.written(data)
         cases = []
         for stop, piece in itertools.product(("fails", "full"), (3, 65_536)):
             for room in range(len(written)):
-                is_kept = room > len(wire_opinion.INTERIM) or (room == len(wire_opinion.INTERIM) and stop == "full")
+                is_kept = not interim or room > len(interim) or (room == len(interim) and stop == "full")
                 left, contest = (0, after) if is_kept else (len(data) - head, case.contest)
                 what = f"{name}, of whose replies {room} bytes are taken by {piece}, {stop}"
                 cases.append((what, data, Streams(piece, room=room, stop=stop), ("write", 0, left, written[:room]), contest))
