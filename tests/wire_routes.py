@@ -134,11 +134,11 @@ def try_teams(test):
 
 
 # Values of a member that isn't read, which leave a body as it is, or spoil it.
-HARMLESS = [nested(126), b"1e308", b"9" * 308, b"18446744073709551616", b"1e-999", b"0e99999", b"-0", b'"\\ud83d\\udc88"', b'"\xc3\xa9"', b'"\\u0000"',
-            b'"\x7f"']  # fmt: skip
-SPOILING = [nested(127), nested(900), b"1e309", b"-1e309", b"9" * 309, b"01", b"1.", b"+1", b".5", b"NaN", b"Infinity", b"0x1", b'"\\ud800"',
-            b'"\\udc00\\ud800"', b'"\xc3("', b'"\xed\xa0\x80"', b'"\xc0\x80"', b'"\xf5\x80\x80\x80"', b'"\x01"', b"tru", b"nul", b"[1,]", b'{"a":1,}',
-            b""]  # fmt: skip
+HARMLESS = [nested(126), b"1e308", b"9" * 308, b"18446744073709551616", b"1e-999", b"0e99999", b"-0", b'"\\ud83d\\udc88"', b'"\xc3\xa9"',
+            b'"\\u0000"', b'"\x7f"']  # fmt: skip
+SPOILING = [nested(127), nested(900), b"[" * 300_000, b"1e309", b"-1e309", b"9" * 309, b"01", b"1.", b"+1", b".5", b"NaN", b"Infinity",
+            b"0x1", b'"\\ud800"', b'"\\udc00\\ud800"', b'"\xc3("', b'"\xed\xa0\x80"', b'"\xc0\x80"', b'"\xf5\x80\x80\x80"', b'"\x01"', b"tru",
+            b"nul", b"[1,]", b'{"a":1,}', b""]  # fmt: skip
 
 
 def spoiled_bodies(body):
@@ -151,6 +151,23 @@ def spoiled_bodies(body):
     yield from ((body[:-1] + b',"%s":7}' % name, 400) for name in names)
     yield from ((b" \t\r\n" + body + b"\n", 200), (b"\x0c" + body, 400), (b"\xef\xbb\xbf" + body, 400), (body + b"x", 400))
     yield from ((body + b"{}", 400), (body[:-1], 400), (b"[" + body + b"]", 400))
+
+
+def try_json_files(test):
+    """Files of settings with a member that isn't read: an array with an object is two layers."""
+    rows = {"judgement-types": b'"id":"TLE","name":"time","solved":false', "languages": b'"id":"py","name":"Python"',
+            "problems": b'"id":"d","label":"D","name":"D","ordinal":7', "groups": b'"id":"south","name":"South"',
+            "teams": b'"id":"t4","name":"Delta"'}  # fmt: skip
+    for kind, row in rows.items():
+        session, added = Session(False), iter(["added 1"])
+        for value in [nested(125), *HARMLESS[1:]]:
+            session.add(START - 1, kind, b"[{" + row + b',"x":' + value + b"}]", next(added, "added 0"))
+        for value in [nested(126), *SPOILING]:
+            session.add(START - 1, kind, b'[{"x":' + value + b"," + row + b"}]", "refused: E1 Malformed")
+        for ordinal in (b"7.0", b"7e0", b"-0", b"65536", b"1e400", b'"7"', b"null", b"[7]"):
+            line = "refused: E1 Malformed" if ordinal == b"1e400" else "refused: E22 ImportRow 1 Malformed"
+            session.add(START - 1, "problems", b'[{"id":"e","label":"E","name":"E","ordinal":' + ordinal + b"}]", line)
+        session.hold(test, kind)
 
 
 def try_bodies(test):
@@ -202,5 +219,5 @@ def try_files(test):
 
 
 if __name__ == "__main__":
-    PARTS = try_routes, try_imports, try_teams, try_bodies, try_files
+    PARTS = try_routes, try_imports, try_teams, try_json_files, try_bodies, try_files
     sys.exit(program.main(__doc__, Wire, PARTS, program="wire"))

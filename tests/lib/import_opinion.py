@@ -55,10 +55,10 @@ def member(row, name, is_right, usual=None):
 
 
 def number_of(text):
-    """A number of JSON: a whole one as it is, any other as a fraction, unless it is out of range."""
+    """A number of JSON: a whole one as it is, any other, and `-0`, as a fraction, unless it is out of range."""
     if math.isinf(float(text)):
         raise Fault("Malformed")
-    return int(text) if len(text) < 400 and text.lstrip("-").isdigit() else float(text)
+    return int(text) if len(text) < 400 and text.lstrip("-").isdigit() and text != "-0" else float(text)
 
 
 def no_number(text):
