@@ -23,9 +23,10 @@ import sys
 
 from lib import demo, desk_opinion, program, verdict_file_opinion, wire, wire_opinion
 from lib.clock import text_of
+from lib.clock_opinion import LAST_MOMENT
 from lib.demo import AT_REHEARSAL, REHEARSAL, START
 from lib.director import SETTINGS, Director
-from lib.rehearsal import ACCOUNTS, END, contest_of, files_of, sent
+from lib.rehearsal import ACCOUNTS, END, FREEZE, contest_of, files_of, sent
 from lib.rejudger import AT_REJUDGINGS
 from lib.requester import Requester, closing
 from lib.server import Server
@@ -37,6 +38,8 @@ FILES = 40  # files at one contest
 BATCH = 8  # contests of one script
 PIECES = [1, 2, 3, 17, 4_096, 65_536]
 IDS = ["AC", "cpp", "north", "a", "t1", "t9", "x", "", "a/b"]
+# Moments that are asked for now and then, whatever the time is.
+MOMENTS = [0, START - 1, START, FREEZE - 1, FREEZE, END - 1, END, LAST_MOMENT]
 READS = ["submissions", "judgements", "clarifications", "scoreboard", "awards", "state", *SETTINGS]
 
 
@@ -80,8 +83,8 @@ def at_the_end(contest, now):
     return made
 
 
-def session(seed, count):
-    """Connections at one contest, each with its moment, its bytes, its streams and what must come of it: how it ends, a status, how
+def session(seed, count, moments=()):
+    """Connections at one contest, some of them at these moments, each with its moment, its bytes, its streams and what must come of it: how it ends, a status, how
     many bytes are left, and what goes out. Also whether another judge verifies verdicts, and how many there were of each kind."""
     chance, kinds, verification = Asker(seed), collections.Counter(), int(seed.rpartition("/")[2]) % 2 == 1
     contest, now, asked, made = contest_of(verification), START - 600_000, [], []
@@ -89,9 +92,10 @@ def session(seed, count):
         if number == count * 7 // 10:
             now, asked = max(now, END), [sent(*one) for one in closing(contest)]
         now += chance.random.randint(0, 44_000_000 // count)
+        at = chance.often(now, [*moments, now - 100_000], 0.93) if moments and not asked else now
         data = asked.pop(0) if asked else chance.connection(contest, kinds)
-        read, status, written, contest = wire_opinion.served(contest, now, data)
-        made.append((now, data, chance.streams(), ("answered" if status else "nothing", status, len(data) - read, written)))
+        read, status, written, contest = wire_opinion.served(contest, at, data)
+        made.append((at, data, chance.streams(), ("answered" if status else "nothing", status, len(data) - read, written)))
     kinds["contests with final results"] += contest["finalized"] is not None
     kinds["contests with a thaw"] += contest["thaw"] is not None
     made += at_the_end(contest, now)
@@ -120,7 +124,7 @@ def lengths(whole, length):
 
 def batch(desk, seeds):
     """Sessions in one script; how many requests and replies there were of each kind."""
-    sessions, scripts = [session(*one) for one in seeds], []
+    sessions, scripts = [session(*one, MOMENTS) for one in seeds], []
     for verification, made, _ in sessions:
         scripts.append(wire.begun(verification) + [wire.served(now, data, streams) for now, data, streams, _ in made])
     found, kinds = desk.answers_to([step for script in scripts for step in script]), collections.Counter()

@@ -19,7 +19,7 @@ ODD_FILES = ["[]", '[{"data":"YWJj"},{"data":"YWJj"}]', '[{"data":""}]', '[{"dat
 ODD_FIELDS = [b"Transfer-Encoding: chunked", b"transfer-encoding:", b"Host: y", b"Content-Length: 0", b"Expect: 100-continue",
               b"EXPECT:100-Continue ", b"Expect: 100-continue, x", b"Authorization: Basic YTpi", b"Authorization: Bearer token-j1",
               b"Idempotency-Key: k1", b"X", b"X :y", b" folded", b"X:\x01", b"X: \xff\xfe", b"Connection: keep-alive", b": y",
-              b"X:" + b"y" * 9_000, b"X:" + b"y" * 17_000, b"Content-Type: text/plain"]  # fmt: skip
+              b"X:" + b"y" * 9_000, b"X:" + b"y" * 17_000, b"\r\n".join([b"a:"] * 4_000), b"Content-Type: text/plain"]  # fmt: skip
 ODD_TARGETS = [b"*", b"http://x%s", b"http://x", b"https://x%s", b"HTTP://x%s", b"%s?a=/b", b"%s#a", b"/%s", b"%s/", b"/..%s",
                b"%s\xc3\xa9", b"%s\xff", b"%%2f%s"]  # fmt: skip
 SMUGGLED = b"POST /jury/finalize HTTP/1.1\r\nHost: x\r\nAuthorization: Bearer token-adm\r\n\r\n"
