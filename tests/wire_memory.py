@@ -29,6 +29,7 @@ from lib.wire import MORNING, Wire
 NOW = START + 300_000
 SUBMISSIONS = f"{AT_REHEARSAL}/submissions"
 POST = compact({"problem_id": "a", "language_id": "cpp", "files": [{"data": "YWJj"}]})
+LARGE = compact({"problem_id": "a", "language_id": "cpp", "files": [{"data": "YWJj" * 60_000}]})
 JAVA = compact({"problem_id": "b", "language_id": "java", "entry_point": "Main", "files": [{"data": "YWJk"}]})
 QUESTION = compact({"text": "Is 0 allowed?", "problem_id": "a"})
 READS = [("token-j1", None, "GET", path, "") for path in (
@@ -52,6 +53,7 @@ JUDGED = [OPENED, by("j1", f"{AT_REJUDGINGS}/1/verdicts", judged("s1-1", "AC")),
 # What is asked, and what came before beside that.
 REQUESTS = {
     "a submission": (by("a1", SUBMISSIONS, JAVA, "k2"), []),
+    "a large submission": (by("a1", SUBMISSIONS, LARGE), []),
     "a submission once more": (by("a1", SUBMISSIONS, POST, "k1"), []),
     "a proposal": (by("j1", "/jury/proposals", judged("s1-2", "AC")), []),
     "a question": (by("a2", AT_ALL, QUESTION, "k1"), []),
