@@ -7,10 +7,10 @@ The program is wire, which serves each connection over a contest in memory by it
 some hundred requests of every route, role and moment, from before the start to beside final results; half of them are spoiled by
 lib/spoiler.py: bytes that are changed, cut or repeated, second requests that are smuggled in, wrong lengths, odd UTF-8, numbers out of
 range, JSON that nests too deep, members that stand twice, files that are none or two, base64 that is off its form, odd heads. The
-bytes come in pieces, some reads are interrupted. What goes out, how many bytes are read and what stands after that are those of
-lib/wire_opinion.py, byte for byte; none is without a reply that has to have one, and none is 503. N requests (20,000) are asked so.
-Then N files (10,000) of settings, teams and accounts are imported, half of them spoiled, and N requests (2,000) are sent to `desk
-serve` over sockets, on contests in files, at moments that faketime sets; half-way each server is killed and started again.
+bytes come in pieces, some reads are interrupted, some writers fail. What goes out, how many bytes are read and what stands after that
+are those of lib/wire_opinion.py, byte for byte; none is without a reply that has to have one, and none is 503. N requests (20,000) are
+asked so. Then N files (10,000) of settings, teams and accounts are imported, half of them spoiled, and N requests (2,000) are sent to
+`desk serve` over sockets, on contests in files, at moments that faketime sets; half-way each server is killed and started again.
 
 Takes faketime. Ends with the line `N passed, M failed`; the exit status is 0 if M is 0.
 """
@@ -83,19 +83,34 @@ def at_the_end(contest, now):
     return made
 
 
+def connected(chance, contest, now, data, may_break):
+    """The streams of a connection, what must come of it (how it ends, a status, how many bytes are left, what goes out), and the
+    contest after it. Some writers break, if they may."""
+    read, status, written, after = wire_opinion.served(contest, now, data)
+    streams, left = chance.streams(), len(data) - read
+    if not status or not may_break or chance.random.random() > 0.03:
+        return streams, ("answered" if status else "nothing", status, left, written), after
+    room, stop = chance.random.randrange(len(written)), chance.one(["fails", "full"])
+    interim = len(wire_opinion.INTERIM) if written.startswith(wire_opinion.INTERIM) else 0
+    if room < interim or (room == interim > 0 and stop == "fails"):
+        left, after = len(data) - len(wire_opinion.head_of(data)), contest
+    return streams._replace(room=room, stop=stop), ("write", 0, left, written[:room]), after
+
+
 def session(seed, count, moments=()):
-    """Connections at one contest, some of them at these moments, each with its moment, its bytes, its streams and what must come of it: how it ends, a status, how
-    many bytes are left, and what goes out. Also whether another judge verifies verdicts, and how many there were of each kind."""
+    """Connections at one contest, some of them at these moments, each with its moment, its bytes, its streams and what must come of
+    it. Also whether another judge verifies verdicts, and how many there were of each kind."""
     chance, kinds, verification = Asker(seed), collections.Counter(), int(seed.rpartition("/")[2]) % 2 == 1
     contest, now, asked, made = contest_of(verification), START - 600_000, [], []
     for number in range(count):
         if number == count * 7 // 10:
             now, asked = max(now, END), [sent(*one) for one in closing(contest)]
         now += chance.random.randint(0, 44_000_000 // count)
-        at = chance.often(now, [*moments, now - 100_000], 0.93) if moments and not asked else now
+        is_odd = bool(moments) and not asked
+        at = chance.often(now, [*moments, now - 100_000], 0.93) if is_odd else now
         data = asked.pop(0) if asked else chance.connection(contest, kinds)
-        read, status, written, contest = wire_opinion.served(contest, at, data)
-        made.append((at, data, chance.streams(), ("answered" if status else "nothing", status, len(data) - read, written)))
+        streams, right, contest = connected(chance, contest, at, data, is_odd)
+        made.append((at, data, streams, right))
     kinds["contests with final results"] += contest["finalized"] is not None
     kinds["contests with a thaw"] += contest["thaw"] is not None
     made += at_the_end(contest, now)
