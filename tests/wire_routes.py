@@ -137,8 +137,8 @@ def try_teams(test):
 HARMLESS = [nested(126), b"1e308", b"9" * 308, b"18446744073709551616", b"1e-999", b"0e99999", b"-0", b'"\\ud83d\\udc88"', b'"\xc3\xa9"',
             b'"\\u0000"', b'"\x7f"']  # fmt: skip
 SPOILING = [nested(127), nested(900), b"[" * 300_000, b"1e309", b"-1e309", b"9" * 309, b"01", b"1.", b"+1", b".5", b"NaN", b"Infinity",
-            b"0x1", b'"\\ud800"', b'"\\udc00\\ud800"', b'"\xc3("', b'"\xed\xa0\x80"', b'"\xc0\x80"', b'"\xf5\x80\x80\x80"', b'"\x01"', b"tru",
-            b"nul", b"[1,]", b'{"a":1,}', b""]  # fmt: skip
+            b"0x1", b'"\\ud800"', b'"\\udc00\\ud800"', b'"\\ud83d\\u0041"', b'{"\\ud800":1}', b'"\xc3("', b'"\xed\xa0\x80"', b'"\xc0\x80"',
+            b'"\xf5\x80\x80\x80"', b'"\x01"', b"tru", b"nul", b"[1,]", b'{"a":1,}', b""]  # fmt: skip
 
 
 def spoiled_bodies(body):
