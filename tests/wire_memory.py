@@ -65,7 +65,13 @@ REQUESTS = {
     "a thaw": (("token-adm", None, "PATCH", AT_REHEARSAL, '{"scoreboard_thaw_time":"2024-03-02T15:00:00.000+00:00"}'), []),
     "a scoreboard": (("public", None, "GET", f"{AT_REHEARSAL}/scoreboard", ""), []),
     "a file": (("token-a1", None, "GET", f"{SUBMISSIONS}/s1-1/files", ""), []),
+    "a list": (("token-a1", None, "GET", SUBMISSIONS, ""), []),
+    "the contest": (("token-a1", None, "GET", AT_REHEARSAL, ""), []),
     "a refusal": (by("a1", SUBMISSIONS, "{}"), []),
+    "no path": (("public", None, "GET", "/", ""), []),
+    "no head": (b"GET /\r\n\r\n", []),
+    "no end of a head": (b"GET / HTTP/1.1\r\nHost: x\r\n", []),
+    "a body that is cut": (sent(*by("a1", SUBMISSIONS, POST))[:-9], []),
 }
 FILES = {
     "judgement-types": '[{"id":"TLE","name":"time","solved":false}]', "languages": '[{"id":"py","name":"Python"}]',
@@ -76,10 +82,10 @@ FILES = {
 
 
 class Request:
-    """A connection at a moment."""
+    """A connection at a moment: a request, or bytes that may be none."""
 
     def __init__(self, now, request):
-        self.now, self.data = now, sent(*request)
+        self.now, self.data = now, request if isinstance(request, bytes) else sent(*request)
         self.step, self.memory = wire.served(now, self.data), wire_opinion.reply(now, 503, b'{"code":503,"message":"Memory"}')
 
     def done(self, contest):
