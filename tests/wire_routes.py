@@ -13,6 +13,7 @@ and files of teams with a record that is cut, unclosed or no UTF-8. Each answer 
 Ends with the line `N passed, M failed`; the exit status is 0 if M is 0.
 """
 
+import itertools
 import json
 import sys
 
@@ -82,22 +83,27 @@ class Session:
         test.same(f"{what}: faults of the store", (len(found), end.faults, end.refusals), (len(self.wanted), 0, 0))
 
 
+def begun(verification, now):
+    """A session in which something was submitted, asked and judged, as far as the moment allows, and whose results are final at the end."""
+    session = Session(verification)
+    for who, path, body in FIRST:
+        is_taken = now >= START and (verification or path != "/jury/verifications")
+        session.ask(min(now, END - 1), sent(who, None, "POST", path, body), 200 if is_taken else None)
+    if now >= END:
+        for request in closing(session.contest):
+            session.ask(now, sent(*request))
+    return session
+
+
 def try_routes(test):
     """Every route, method, role and moment, with verification and without."""
-    for verification in (False, True):
-        for name, now in MOMENTS.items():
-            session, kinds = Session(verification), set()
-            for who, path, body in FIRST:
-                session.ask(max(START, min(now, END - 1)) if now >= START else now, sent(who, None, "POST", path, body))
-            if name == "final":
-                for request in closing(session.contest):
-                    session.ask(now, sent(*request))
-            for path, body in ROUTES.items():
-                for method in METHODS:
-                    for who in WHO:
-                        kinds |= {session.ask(now, sent(who, "k1", method, path, one)) for one in {"", body}}
-            session.hold(test, name)
-            test.same(f"{name}: statuses", kinds, {200, 400, 403, 404, 405, 409})
+    for verification, (name, now) in itertools.product((False, True), MOMENTS.items()):
+        session, kinds = begun(verification, now), set()
+        test.same(f"{name}: final results", session.contest["finalized"], END if name == "final" else None)
+        for (path, body), method, who in itertools.product(ROUTES.items(), METHODS, WHO):
+            kinds |= {session.ask(now, sent(who, "k1", method, path, one)) for one in dict.fromkeys(["", body])}
+        session.hold(test, name)
+        test.same(f"{name}: statuses", kinds, {200, 400, 403, 404, 405, 409})
 
 
 def try_imports(test):
