@@ -132,6 +132,7 @@ def try_cuts(desk):
     a few bytes to the contest's file too, so there are as many as the header has at least."""
     contest = next(one for one in map(made_contest, range(100)) if len(one["submissions"]) > 2)
     folder, text = kept(desk, contest), export_text(contest)
+    desk.answers("the first export, which fills the cells", (0, text, ""), folder, "export", "cup.db")
     ends = [at + 1 for at, char in enumerate(text) if char == "\n"]
     for count in sorted({*ends[:-1], *(end + 9 for end in ends[:-1]), ends[-1] - 1}):
         with open(folder / "out", "wb") as output:
@@ -164,19 +165,20 @@ def try_refused(desk):
 
 
 def try_memory(desk):
-    """Calls for memory that are refused: the file shows what it did before."""
+    """Calls for memory that are refused: the file shows what it did before, or has its cells, which the first command fills."""
     contest = next(one for one in map(made_contest, range(100)) if len(one["submissions"]) > 2 and one["finalized"])
     folder, library = kept(desk, contest), compiled("refuse_call", desk.folder)
     before, contents = dump(folder / "cup.db"), (folder / "cup.db").read_bytes()
     for words in (("export", "cup.db"), ("awards", "cup.db", "--jury", "--at", moment(FINAL)), ("board", "cup.db", "--at", moment(END))):
         text = desk.run(folder, *words)[1].encode()
         desk.note(text != b"", f"{words[0]} with all memory")
+        filled = dump(folder / "cup.db")
 
         def one(call):
             own = desk.new_folder()
             (own / "cup.db").write_bytes(contents)
             (status, out, err), refused = ran_refused([desk.path, *words], library, call, False, cwd=own)
-            is_kept = (own / "cup.db").read_bytes() == contents or dump(own / "cup.db") == before
+            is_kept = (own / "cup.db").read_bytes() == contents or dump(own / "cup.db") in (before, filled)
             shutil.rmtree(own)
             is_front = words[0] == "export" and text.startswith(out)
             is_right = (status, out, err) == (0, text, b"") or (status == 1 and err == b"refused: E25 Memory\n" and (out == b"" or is_front))

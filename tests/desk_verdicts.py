@@ -290,8 +290,9 @@ def judged_again(chance, rows, own):
 
 
 def write(database, rows, told, again):
-    """Puts the rows of a world, its clarifications and its rejudgings into the tables in place of those that stand."""
-    for table in ("submissions", "proposals", "releases", "clarifications", "rejudgings", "members"):
+    """Puts the rows of a world, its clarifications and its rejudgings into the tables in place of those that stand. The program
+    fills the cells."""
+    for table in ("submissions", "proposals", "releases", "clarifications", "rejudgings", "members", "cells"):
         database.execute(f"DELETE FROM {table}")
     for seq, row in enumerate(rows, 1):
         file = bytes(row["number"] % 5)

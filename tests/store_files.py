@@ -8,7 +8,8 @@ file afterwards is asked of sqlite3. tables/store_demo.sql is a contest. Each ro
 break one rule of what a contest is, and the others go up to a limit or look odd and are valid. tables/store_files.tsv has
 other databases: tables like those of a contest, but for a column, a key or a word, and a contest's tables made in other ways.
 Then come files that are no database, damaged ones, paths, links, and a file that sqlite3 is writing. What is refused is E24
-and keeps its bytes; a thaw changes one cell or nothing.
+and keeps its bytes; a thaw changes one cell or nothing. The table of cells has no row at first: the first open fills it, with
+the cells that lib/cells_opinion.py counts.
 
 Then probe walks through loads, appends, commits and reads of a file while one of its calls on the files fails, each in turn,
 alone and with all after it (lib/fail_disk.c): what fails is E24 and counted, and what comes after works on the last commit,
@@ -29,7 +30,7 @@ import subprocess
 import sys
 import tempfile
 
-from lib import demo, program, sqlite
+from lib import cells_opinion, demo, program, sqlite
 from lib.program import TESTS, Program, compiled, ran, ran_refused
 from lib.sqlite import TABLES, dump
 
@@ -92,6 +93,16 @@ def thawed(text, moment):
     return re.sub(r"(?m)^(INSERT INTO contest VALUES\(.*),[^,]*,([^,]*\);)$", rf"\1,{moment},\2", text)
 
 
+def without_cells(shown):
+    """What sqlite3 shows but for the table of cells, which an open makes and fills."""
+    return re.sub(r"(?m)^(CREATE TABLE|INSERT INTO) cells .*\n", "", shown)
+
+
+def cells_in(shown):
+    """The rows of cells in what sqlite3 shows."""
+    return re.findall(r"(?m)^INSERT INTO cells .*$", shown)
+
+
 def answer_of(cell):
     return FAULT if cell == "E24" else (0, f"open: {cell}\n", "")
 
@@ -117,11 +128,17 @@ class Probe(Program):
         shutil.copy(self.good, path)
         return path
 
+    def fills(self, path, shown):
+        """The file shows what it did, beside right cells, and keeps its bytes if it is opened once more."""
+        was, right = path.read_bytes(), cells_opinion.differences(path) == ([], [])
+        self.run("open", path)
+        return right and without_cells(dump(path)) == without_cells(shown) and path.read_bytes() == was
+
     def holds(self, what, path, wanted):
-        """An open gives this answer, and the file keeps its bytes and all that it shows."""
+        """An open gives this answer, and the file keeps its bytes and all that it shows, but for cells that are filled."""
         was, shown = path.read_bytes(), dump(path)
         given = self.run("open", path)
-        same = path.read_bytes() == was and dump(path) == shown
+        same = self.fills(path, shown) if wanted != FAULT else path.read_bytes() == was and dump(path) == shown
         self.note(given == wanted and same, f"{what}: {given}, wanted {wanted}, {'as before' if same else 'changed'}")
 
     def thaws(self, what, path, wanted):
@@ -129,7 +146,7 @@ class Probe(Program):
         was, shown = path.read_bytes(), dump(path)
         given = self.run("thaw", path, THAW)
         if wanted == DONE:
-            same = dump(path) == thawed(shown, THAW) != shown
+            same = without_cells(dump(path)) == thawed(without_cells(shown), THAW) != without_cells(shown)
         else:
             same = path.read_bytes() == was and dump(path) == shown
         shows = "right" if same else "but sqlite3 shows otherwise"
@@ -148,6 +165,8 @@ def try_demo(probe):
         probe.answers(f"the thaw at {moment}", DONE, "thaw", path, moment)
         probe.note(dump(path) == thawed(shown, moment), f"the thaw at {moment} isn't all that changed")
     sqlite.asked(path, "INSERT INTO releases VALUES (5, 4, 1, 1, 'AC', 1709371000000)")
+    probe.holds("what sqlite3 wrote beside the cells", path, FAULT)
+    sqlite.asked(path, "DELETE FROM cells")
     probe.holds("what sqlite3 wrote after it", path, (0, "open: 3 2 3 2 4 7 5 4 5 3 4\n", ""))
     sqlite.asked(path, "UPDATE releases SET n = 2 WHERE seq = 5")
     probe.holds("what sqlite3 wrote wrong after it", path, FAULT)
@@ -304,6 +323,7 @@ def try_disk(probe):
     sqlite.asked(probe.large, f"UPDATE submissions SET file = zeroblob({LARGE}) WHERE team = 1 AND k = 1")
     filler = f"INSERT INTO submissions SELECT 5 + value, 3, value, 1709388000000 - 1, 'a', 'cpp', NULL, zeroblob({LARGE}), NULL FROM generate_series(1, 40)"
     sqlite.asked(probe.large, filler)
+    probe.run("open", probe.large)
     for later in (False, True):
         call, steps = 1, []
         while len(steps) == call - 1:
@@ -317,7 +337,8 @@ def try_disk(probe):
 
 
 def refuse(probe, library, call, later):
-    """A thaw with this call for memory refused: what is wrong of it, what it answered, whether a call was refused."""
+    """A thaw with this call for memory refused: what is wrong of it, what it answered, whether a call was refused. Cells are filled,
+    or there are none as before."""
     with tempfile.TemporaryDirectory(dir=probe.folder) as folder:
         path = pathlib.Path(folder, "case.db")
         shutil.copy(probe.good, path)
@@ -326,7 +347,8 @@ def refuse(probe, library, call, later):
         shown = dump(path)
     wanted = {DONE: thawed(probe.shown, THAW), MEMORY: probe.shown}
     ways = f"call {call} refused{' and all after it' if later else ''}"
-    wrong = None if wanted.get(given) == shown else f"{ways}: {given}, and sqlite3 shows {shown[-300:]}"
+    is_filled = cells_in(shown) == probe.cells or given == MEMORY and cells_in(shown) == []
+    wrong = None if wanted.get(given) == without_cells(shown) and is_filled else f"{ways}: {given}, and sqlite3 shows {shown[-300:]}"
     return wrong, given, refused > 0
 
 
@@ -334,7 +356,9 @@ def try_memory(probe):
     """Each of the program's calls for memory is refused in turn, as many side by side as there are processors."""
     if probe.options.no_memory:
         return
-    probe.shown = dump(probe.good)
+    filled = probe.copy()
+    probe.run("open", filled)
+    probe.shown, probe.cells = without_cells(dump(probe.good)), cells_in(dump(filled))
     library, every = compiled("refuse_call", probe.folder), probe.options.every
     with concurrent.futures.ThreadPoolExecutor(os.cpu_count() or 1) as pool:
         for later in (False, True):

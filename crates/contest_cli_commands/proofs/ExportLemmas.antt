@@ -7,7 +7,7 @@ use Rattle.contest_types.specs.State.{ContestState}
 use Rattle.contest_streams.specs.Streams.{Fails, Stream, Tells}
 use Rattle.contest_store.specs.Keeping.{Kept, LeavesNoMore}
 use Rattle.contest_store.specs.declared.store_error.StoreError.{StoreError}
-use Rattle.contest_store_sqlite.specs.Contests.{contest_in_trees, may_leave_of}
+use Rattle.contest_store_sqlite.specs.Contests.{listed_in_trees, may_leave_of}
 use Rattle.contest_store_sqlite.specs.Opening.{Opened}
 use Rattle.contest_desk.specs.Serving.{OnlyReads}
 use Rattle.contest_cli_words.specs.CommandErrors.{exit_status_of, line_of}
@@ -55,7 +55,7 @@ pub shown_by_store : (out_old out_new err_old err_new : Stream) (status : ℕ) (
     → (HasCleanDisk new → last.is_clean) → (HasCleanDisk new → Opened old first) → (HasCleanDisk new → LeavesNoMore last.may_leave (may_leave_of new))
     → Exports out_old out_new err_old err_new old new status
 shown_by_store out_old out_new err_old err_new status old new first last shows as_clean opened kept = record {
-  told = told_of last.is_clean (HasCleanDisk new) (λ x. x ≡ first.contest) (λ x. contest_in_trees old.now.trees ≡ Some x) out_old out_new err_old err_new status as_clean
+  told = told_of last.is_clean (HasCleanDisk new) (λ x. x ≡ first.contest) (λ x. listed_in_trees old.now.trees ≡ Some x) out_old out_new err_old err_new status as_clean
       (λ clean x is. let o = opened clean in o.found ∙ ap Some (sym (is ∙ o.shows.now_is))) shows.told;
   leaves = λ clean d left. (opened clean).crash d (shows.crash (as_clean clean) d (kept clean d left));
 }

@@ -43,9 +43,9 @@ pub is_of_open : (r : Refusal) → IsOfOpen r → HasStoreError {A = ℕ} (Err r
 is_of_open r (open_error.Store e, is) = by_error e r is
 
 module _ (now : ℕ) (kind : ImportKind) (input : Stream) (old new : State) where
-  -- where nothing was committed, a crash leaves what it could leave before
+  -- where no more than cells was committed, a crash leaves what it could leave before, or the contest that stood with its cells
   pub leaves_as_before : KeepsLists old new → HasCleanDisk new → LeavesStep now kind input old new
-  leaves_as_before keeps clean c left = elim (keeps.crash clean left.0 left.1) [ inl before ↦ inl (left.0, before, left.2) | inr none ↦ absurd none ]
+  leaves_as_before keeps clean c left = elim (keeps.crash clean left.0 left.1) [ inl before ↦ inl (inl (left.0, before, left.2)) | inr filled ↦ inl (inr (filled.0, filled.1, sym left.2 ∙ filled.2)) ]
 
   -- why rows that were read aren't added
   pub refuses : (r : Refusal) → (¬ HasStoreError {A = ℕ} (Err r) → HasCleanDisk new → Steps now kind input old new (Err r)) → RefusesImport now kind input old new r

@@ -89,10 +89,10 @@ contest_stops in_old in_new c old new _ reads stops = absurd stops
 
 -- a crash leaves no more than the file's contest
 pub leaves_file : (input : Stream) (c : Contest) (old new : State) → ReadsContest input c → LeavesNew c old new → LeavesContest input old new
-leaves_file input c old new reads survives = survives_weaker old new _ _ (λ clean db is. (c, reads, is)) survives
+leaves_file input c old new reads survives = survives_weaker old new _ _ (λ clean db made. elim made [ inl is ↦ inl (c, reads, is) | inr filled ↦ inr filled ]) survives
 
 pub leaves_same : (input : Stream) (s : State) → LeavesContest input s s
-leaves_same input s = survives_weaker s s _ _ (λ clean db none. absurd none) (keeps_lists s)
+leaves_same input s = survives_weaker s s _ _ (λ clean db filled. inr filled) (keeps_lists s)
 
 -- how it ends where the contest stands
 pub set_up : (in_old in_new err : Stream) (old new : State) → SetsFile in_old old new → LeavesContest in_old old new → Inits in_old in_new err err old new 0

@@ -19,9 +19,9 @@ use Rattle.contest_store.specs.Keeping.{Kept, LeavesNoMore}
 use Rattle.contest_store.specs.StoreErrors.{refusal_of}
 use Rattle.contest_store.specs.declared.store_error.StoreError.{StoreError}
 use Rattle.contest_store.specs.declared.store_error.StoreError.TheVariants as error
-use Rattle.contest_store_sqlite.specs.Contests.{contest_in_trees, may_leave_of}
+use Rattle.contest_store_sqlite.specs.Contests.{listed_in_trees, may_leave_of}
 use Rattle.contest_store_sqlite.specs.Creation.{IsOfOpen, KeepsLists}
-use Rattle.contest_store_sqlite.specs.Opening.{Opened}
+use Rattle.contest_store_sqlite.specs.Opening.{Opened, may_leave_filled}
 use Rattle.contest_store_sqlite.specs.declared.open_error.OpenError.TheVariants as open_error
 use Rattle.contest_cli_words.specs.CommandErrors.{IsMemory, IsWords, exit_status_of, line_of}
 use Rattle.contest_cli_words.specs.Endings.{Shows}
@@ -120,9 +120,9 @@ told_of clean other Is Was now asked out_old out_new err_old err_new status as_c
   gives : (text : List ℕ) → other → Gives Is now asked text → Gives Was now asked text
   gives text c g = (g.0, same c g.0 g.1, g.2)
 
--- where nothing was committed, a crash leaves what it could leave before
-pub leaves_no_more : (old new : State) → KeepsLists old new → HasCleanDisk new → LeavesNoMore (may_leave_of old) (may_leave_of new)
-leaves_no_more old new keeps clean c left = elim (keeps.crash clean left.0 left.1) [ inl before ↦ (left.0, before, left.2) | inr none ↦ absurd none ]
+-- where no more than cells was committed, a crash leaves what it could leave before, or the contest that stood with its cells
+pub leaves_no_more : (old new : State) → KeepsLists old new → HasCleanDisk new → LeavesNoMore (may_leave_filled old) (may_leave_of new)
+leaves_no_more old new keeps clean c left = elim (keeps.crash clean left.0 left.1) [ inl before ↦ inl (left.0, before, left.2) | inr filled ↦ inr (filled.0, filled.1, sym left.2 ∙ filled.2) ]
 
 -- what a desk shows is what the tables show from which it was opened, and a crash leaves no more than it could before that
 pub shown_by_desk : (now : ℕ) (asked : AskedText) (out_old out_new err_old err_new : Stream) (status : ℕ) (old new : State) (first last : Kept)
@@ -130,7 +130,7 @@ pub shown_by_desk : (now : ℕ) (asked : AskedText) (out_old out_new err_old err
     → (HasCleanDisk new → last.is_clean) → (HasCleanDisk new → Opened old first) → (HasCleanDisk new → LeavesNoMore last.may_leave (may_leave_of new))
     → Prints now asked out_old out_new err_old err_new old new status
 shown_by_desk now asked out_old out_new err_old err_new status old new first last shows as_clean opened kept = record {
-  told = told_of last.is_clean (HasCleanDisk new) (λ x. x ≡ first.contest) (λ x. contest_in_trees old.now.trees ≡ Some x) now asked out_old out_new err_old err_new status as_clean
+  told = told_of last.is_clean (HasCleanDisk new) (λ x. x ≡ first.contest) (λ x. listed_in_trees old.now.trees ≡ Some x) now asked out_old out_new err_old err_new status as_clean
       (λ clean x is. let o = opened clean in o.found ∙ ap Some (sym (is ∙ o.shows.now_is))) shows.told;
   leaves = λ clean d left. (opened clean).crash d (shows.crash (as_clean clean) d (kept clean d left));
 }

@@ -8,8 +8,7 @@ use Rattle.contest_desk.specs.Items.{item_step}
 use Rattle.contest_desk.specs.Runs.{IsRun, LeavesAfter}
 use Rattle.contest_desk.specs.declared.item.Answer.{Answer}
 use Rattle.contest_desk.specs.declared.item.Item.{Item}
-use Rattle.contest_store_sqlite.specs.Contests.{may_leave_of}
-use Rattle.contest_store_sqlite.specs.Opening.{Opened}
+use Rattle.contest_store_sqlite.specs.Opening.{Opened, may_leave_filled}
 use Rattle.contest_store_sqlite.specs.Value.{StoreValue, shown_in, stored}
 use Rattle.contest_cli_commands.specs.Serve.{ServesTables}
 use Rattle.contest_cli_commands.specs.Served.{ServesSome}
@@ -39,6 +38,6 @@ served g clients old before after opened s =
       each = s.each;
       last = s.runs.0;
       runs = subst (λ (x : ContestState). IsRun x s.items s.answers s.runs.0) same s.runs.1;
-      leaves = λ c left. subst (λ (x : ContestState). LeavesAfter (may_leave_of old) x s.items s.answers c) same
-          (wider (stored g before).may_leave (may_leave_of old) opened.crash (stored g before).contest s.items s.answers c (s.leaves c left));
+      leaves = λ c left. subst (λ (x : ContestState). LeavesAfter (may_leave_filled old) x s.items s.answers c) same
+          (wider (stored g before).may_leave (may_leave_filled old) opened.crash (stored g before).contest s.items s.answers c (s.leaves c left));
     }

@@ -1,5 +1,5 @@
 -- Clients that are served one after the other, on whatever they connect to (own).
-use Rattle.std.specs.Prelude.{◌≡◌, ◌≢◌, ◌<◌, ℕ, List, [], ◌∷◌, Option, Some, None, Result, Err, length}
+use Rattle.std.specs.Prelude.{◌≡◌, ◌<◌, ℕ, List, [], ◌∷◌, Option, Some, None, Result, Err, length}
 use Rattle.contest_streams.specs.Streams.{Counting, Failed}
 use Rattle.contest_store.specs.Keeping.{Kept}
 use Rattle.contest_http.specs.Serving.{HandlesOne, ServesOne}

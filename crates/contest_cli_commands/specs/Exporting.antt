@@ -5,7 +5,8 @@ use Rattle.sqlite.specs.State.{HasCleanDisk, State}
 use Rattle.contest_types.specs.State.{ContestState}
 use Rattle.contest_streams.specs.Streams.{AppendsFront, Fails, Stream, Tells}
 use Rattle.contest_store.specs.Keeping.{Kept, LeavesNoMore}
-use Rattle.contest_store_sqlite.specs.Contests.{contest_in_trees, may_leave_of}
+use Rattle.contest_store_sqlite.specs.Contests.{listed_in_trees, may_leave_of}
+use Rattle.contest_store_sqlite.specs.Opening.{may_leave_filled}
 use Rattle.contest_export.specs.SubmissionsCsv.{submissions_csv}
 use Rattle.contest_cli_words.specs.CommandErrors.{line_of}
 use Rattle.contest_cli_words.specs.declared.command_error.CommandError.{CommandError}
@@ -28,11 +29,11 @@ pub record TellsExport (clean : Type 0) (Is : ContestState → Type 0) (out_old 
       × (IsStoreStop stop ⊎ ((stop ≡ File) × Fails out_old out_new))
       × (Keeps out_old.bytes out_new.bytes ⊎ (clean → PutsFront Is out_old out_new))
 
--- how it ends: what is told is of the valid contest that the tables showed, and a crash leaves no more than it could
--- before
+-- how it ends: what is told is of the valid contest whose lists the tables showed, and a crash leaves no more than it
+-- could before, or that contest with its cells
 pub record Exports (out_old out_new err_old err_new : Stream) (old new : State) (status : ℕ) : Type 0 where
-  pub told : TellsExport (HasCleanDisk new) (λ x. contest_in_trees old.now.trees ≡ Some x) out_old out_new err_old err_new status
-  pub leaves : HasCleanDisk new → LeavesNoMore (may_leave_of old) (may_leave_of new)
+  pub told : TellsExport (HasCleanDisk new) (λ x. listed_in_trees old.now.trees ≡ Some x) out_old out_new err_old err_new status
+  pub leaves : HasCleanDisk new → LeavesNoMore (may_leave_filled old) (may_leave_of new)
 
 -- the same of a contest that a store keeps
 pub record ExportsKept (out_old out_new err_old err_new : Stream) (old new : Kept) (status : ℕ) : Type 0 where

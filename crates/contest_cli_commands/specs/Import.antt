@@ -10,8 +10,9 @@ use Rattle.contest_types.specs.declared.refusal.Refusal.TheVariants.{BodyTooLarg
 use Rattle.contest_store.specs.Keeping.{LeavesOnly}
 use Rattle.contest_types.specs.declared.import_kind.ImportKind.{ImportKind}
 use Rattle.contest_desk.specs.Imports.{import_step}
-use Rattle.contest_store_sqlite.specs.Contests.{contest_in_trees, may_leave_of}
+use Rattle.contest_store_sqlite.specs.Contests.{listed_in_trees, may_leave_of}
 use Rattle.contest_store_sqlite.specs.Creation.{KeepsLists}
+use Rattle.contest_store_sqlite.specs.Opening.{may_leave_filled}
 use Rattle.contest_cli_commands.specs.Inputs.{IsTooLarge, WasRead}
 use Rattle.contest_cli_words.specs.CommandErrors.{line_of}
 use Rattle.contest_cli_words.specs.declared.command_error.CommandError.{CommandError}
@@ -21,13 +22,13 @@ use Rattle.contest_cli_words.specs.declared.command_error.CommandError.TheVarian
 abbrev pub added_line : ℕ → List ℕ
 added_line added = codes "added " ++ decimal added ++ codes "\n"
 
--- the tables showed a valid contest, of which its step gives this answer, and a crash leaves the step's contest and no
+-- the tables showed the lists of a valid contest, of which its step gives this answer, and a crash leaves the step's contest and no
 -- other
 pub record Steps (now : ℕ) (kind : ImportKind) (input : Stream) (old new : State) (answer : Result ℕ Refusal) : Type 0 where
   pub bytes : List ℕ
   pub read : WasRead input bytes
   pub contest : ContestState
-  pub found : contest_in_trees old.now.trees ≡ Some contest
+  pub found : listed_in_trees old.now.trees ≡ Some contest
   pub answered : (import_step contest now kind bytes).0 ≡ answer
   pub leaves : LeavesOnly (may_leave_of new) (import_step contest now kind bytes).1
 
@@ -46,11 +47,11 @@ StopsImport now kind in_old in_new old new File = Fails in_old in_new × KeepsLi
 StopsImport now kind in_old in_new old new Clock = ⊥
 StopsImport now kind in_old in_new old new Net = ⊥
 
--- a crash leaves what it could leave before, or the contest of the step
+-- a crash leaves what it could leave before, or the contest that stood with its cells, or that of the step
 abbrev pub LeavesStep : (now : ℕ) → ImportKind → Stream → State → State → Type 0
 LeavesStep now kind input old new =
-    (c : Option ContestState) → may_leave_of new c → may_leave_of old c
-    ⊎ ((bytes : List ℕ) × WasRead input bytes × (x : ContestState) × (contest_in_trees old.now.trees ≡ Some x) × (c ≡ Some (import_step x now kind bytes).1))
+    (c : Option ContestState) → may_leave_of new c → may_leave_filled old c
+    ⊎ ((bytes : List ℕ) × WasRead input bytes × (x : ContestState) × (listed_in_trees old.now.trees ≡ Some x) × (c ≡ Some (import_step x now kind bytes).1))
 
 -- all rows are kept, but `out` failed, so a front of their number is out
 pub record CutsOff (now : ℕ) (kind : ImportKind) (input out_old out_new : Stream) (old new : State) (stop : CommandError) : Type 0 where

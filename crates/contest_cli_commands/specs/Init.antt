@@ -1,5 +1,5 @@
 -- How `init` ends, and what it leaves (own).
-use Rattle.std.specs.Prelude.{◌≡◌, ◌≤◌, ℕ, List, Some}
+use Rattle.std.specs.Prelude.{◌≡◌, ◌⊎◌, ◌≤◌, ℕ, List, Some}
 use Rattle.std.specs.Io.KnownBytes.{Keeps}
 use Rattle.sqlite.specs.State.{HasCleanDisk, State, Survives}
 use Rattle.contest_types.specs.State.{ContestState, new_contest}
@@ -10,8 +10,8 @@ use Rattle.contest_types.specs.declared.refusal.Refusal.TheVariants.{BodyTooLarg
 use Rattle.contest_store.specs.Keeping.{LeavesOnly}
 use Rattle.contest_import.specs.ContestFile.{IsContestFile}
 use Rattle.contest_store_tables.specs.Connected.{IsBare}
-use Rattle.contest_store_sqlite.specs.Contests.{contest_in_trees, may_leave_of}
-use Rattle.contest_store_sqlite.specs.Creation.{KeepsLists, StoodOther}
+use Rattle.contest_store_sqlite.specs.Contests.{contest_in_trees, listed_in_trees, may_leave_of}
+use Rattle.contest_store_sqlite.specs.Creation.{IsFilled, KeepsLists, StoodOther}
 use Rattle.contest_cli_commands.specs.Inputs.{IsTooLarge, WasRead}
 use Rattle.contest_cli_words.specs.CommandErrors.{line_of}
 use Rattle.contest_cli_words.specs.declared.command_error.CommandError.{CommandError}
@@ -41,7 +41,7 @@ StopsFile in_old in_new _ = ⊥
 -- its head, and a crash leaves that and no other
 pub record Sets (c : Contest) (old new : State) : Type 0 where
   pub made : IsBare old → LeavesOnly (may_leave_of new) (new_contest c)
-  pub stood : ¬ IsBare old → (x : ContestState) × (contest_in_trees old.now.trees ≡ Some x) × (x.fixed.settings.head ≡ c.head)
+  pub stood : ¬ IsBare old → (x : ContestState) × (listed_in_trees old.now.trees ≡ Some x) × (x.fixed.settings.head ≡ c.head)
       × LeavesOnly (may_leave_of new) x
 
 -- a file's contest stands
@@ -59,9 +59,9 @@ abbrev pub StopsContest : Contest → State → State → CommandError → Type 
 StopsContest c old new (Refused r) = RefusesContest c old new r
 StopsContest c old new _ = ⊥
 
--- a crash leaves what it could leave before, or this contest, whole
+-- a crash leaves what it could leave before, or this contest, whole, or the one that stood, with its cells
 abbrev pub LeavesNew : Contest → State → State → Type 0
-LeavesNew c old new = Survives old new (λ db. contest_in_trees db ≡ Some (new_contest c))
+LeavesNew c old new = Survives old new (λ db. (contest_in_trees db ≡ Some (new_contest c)) ⊎ IsFilled old db)
 
 -- why it refuses; no other refusal comes
 abbrev pub RefusesInit : Stream → State → State → Refusal → Type 0
@@ -80,9 +80,9 @@ StopsInit in_old in_new old new File = Fails in_old in_new × KeepsLists old new
 StopsInit in_old in_new old new Clock = ⊥
 StopsInit in_old in_new old new Net = ⊥
 
--- a crash leaves what it could leave before, or the file's contest, whole
+-- a crash leaves what it could leave before, or the file's contest, whole, or the one that stood, with its cells
 abbrev pub LeavesContest : Stream → State → State → Type 0
-LeavesContest input old new = Survives old new (λ db. (c : Contest) × ReadsContest input c × (contest_in_trees db ≡ Some (new_contest c)))
+LeavesContest input old new = Survives old new (λ db. ((c : Contest) × ReadsContest input c × (contest_in_trees db ≡ Some (new_contest c))) ⊎ IsFilled old db)
 
 -- how it ends, by its status: 0 where the contest stands; 1 with a line on `err` of the first fault
 pub record Inits (in_old in_new err_old err_new : Stream) (old new : State) (status : ℕ) : Type 0 where

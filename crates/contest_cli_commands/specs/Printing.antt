@@ -15,7 +15,8 @@ use Rattle.contest_types.specs.declared.refusal.Refusal.TheVariants.{Memory, Sto
 use Rattle.contest_score.specs.Ranking.{Scoreboard}
 use Rattle.contest_view.specs.Scoreboards.{board_found}
 use Rattle.contest_store.specs.Keeping.{Kept, LeavesNoMore}
-use Rattle.contest_store_sqlite.specs.Contests.{contest_in_trees, may_leave_of}
+use Rattle.contest_store_sqlite.specs.Contests.{listed_in_trees, may_leave_of}
+use Rattle.contest_store_sqlite.specs.Opening.{may_leave_filled}
 use Rattle.contest_score.specs.Awards.{shown_awards}
 use Rattle.contest_text.specs.AwardsText.{awards_text}
 use Rattle.contest_text.specs.BoardCsv.{board_csv}
@@ -89,11 +90,11 @@ pub record TellsText (clean : Type 0) (Is : ContestState → Type 0) (now : ℕ)
       ⊎ ((stop ≡ File) × Fails out_old out_new × (text : List ℕ) × (clean → Gives Is now asked text) × AppendsFront out_old.bytes out_new.bytes text))
   pub unknown : status ≡ 2 → (clean → HasNoTeam Is asked) × Keeps out_old.bytes out_new.bytes × (text : List ℕ) × Tells err_old err_new text
 
--- how it ends: what is told is of the valid contest that the tables showed, and a crash leaves no more than it could
--- before
+-- how it ends: what is told is of the valid contest whose lists the tables showed, and a crash leaves no more than it
+-- could before, or that contest with its cells
 pub record Prints (now : ℕ) (asked : AskedText) (out_old out_new err_old err_new : Stream) (old new : State) (status : ℕ) : Type 0 where
-  pub told : TellsText (HasCleanDisk new) (λ x. contest_in_trees old.now.trees ≡ Some x) now asked out_old out_new err_old err_new status
-  pub leaves : HasCleanDisk new → LeavesNoMore (may_leave_of old) (may_leave_of new)
+  pub told : TellsText (HasCleanDisk new) (λ x. listed_in_trees old.now.trees ≡ Some x) now asked out_old out_new err_old err_new status
+  pub leaves : HasCleanDisk new → LeavesNoMore (may_leave_filled old) (may_leave_of new)
 
 -- the same of a contest that a desk keeps
 pub record PrintsKept (now : ℕ) (asked : AskedText) (out_old out_new err_old err_new : Stream) (old new : Kept) (status : ℕ) : Type 0 where

@@ -11,9 +11,9 @@ use Rattle.contest_types.specs.declared.refusal.Refusal.TheVariants.{Memory, Sto
 use Rattle.contest_desk.specs.Runs.{IsRun, LeavesAfter}
 use Rattle.contest_desk.specs.declared.item.Answer.{Answer}
 use Rattle.contest_desk.specs.declared.item.Item.{Item}
-use Rattle.contest_store_sqlite.specs.Contests.{contest_in_trees, may_leave_of}
+use Rattle.contest_store_sqlite.specs.Contests.{listed_in_trees, may_leave_of}
 use Rattle.contest_store_sqlite.specs.Creation.{KeepsLists}
-use Rattle.contest_store_sqlite.specs.Opening.{Opened}
+use Rattle.contest_store_sqlite.specs.Opening.{Opened, may_leave_filled}
 use Rattle.contest_store_sqlite.specs.Value.{StoreValue, shown_in, stored}
 use Rattle.contest_cli_words.specs.CommandErrors.{line_of}
 use Rattle.contest_cli_words.specs.declared.command_error.CommandError.{CommandError}
@@ -46,17 +46,17 @@ pub record TellsServing (asked : ℕ) (out_old out_new err_old err_new : Stream)
   pub refused : status ≡ 1 → (stop : CommandError) × Tells err_old err_new (line_of stop)
       × ((StopsBefore stop × Keeps out_old.bytes out_new.bytes) ⊎ TellsPort asked out_old out_new stop)
 
--- the tables showed a valid contest, and from it there is a run of the machine by one request at most of each of so many
+-- the tables showed the lists of a valid contest, and from it there is a run of the machine by one request at most of each of so many
 -- clients; a crash leaves what it may leave after that run
 pub record ServesTables (clients : ℕ) (old new : State) : Type 0 where
   pub contest : ContestState
-  pub found : contest_in_trees old.now.trees ≡ Some contest
+  pub found : listed_in_trees old.now.trees ≡ Some contest
   pub items : List Item
   pub answers : List Answer
   pub each : length items ≤ clients
   pub last : ContestState
   pub runs : IsRun contest items answers last
-  pub leaves : (c : Option ContestState) → may_leave_of new c → LeavesAfter (may_leave_of old) contest items answers c
+  pub leaves : (c : Option ContestState) → may_leave_of new c → LeavesAfter (may_leave_filled old) contest items answers c
 
 -- how it ends: what is told of it, and what becomes of the tables, which stay as they were where no desk can be made of
 -- them. With status 0 one was

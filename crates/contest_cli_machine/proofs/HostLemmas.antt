@@ -7,7 +7,7 @@ use Rattle.sqlite.specs.Start.{FindsIn}
 use Rattle.sqlite.specs.State.{HasCleanDisk, IsLive, Opens, State}
 use Rattle.sqlite.specs.Tree.{Trees}
 use Rattle.contest_store_tables.specs.Numbered.{IsNumbered}
-use Rattle.contest_store_tables.proofs.NumberedLemmas.{found_numbered}
+use Rattle.contest_store_tables.proofs.NumberedLemmas.{all_numbered, found_numbered}
 
 -- its trees are those of the files
 pub are_found : (image : Image) (s : State) → Opens s → FindsIn image s → AreFoundIn image s.now.trees
@@ -15,6 +15,4 @@ are_found image s opened found = subst (λ (db : Trees). AreFoundIn image db) (a
 
 -- a desk's rows rise by their numbers in it
 pub is_numbered : (image : Image) (s : State) → (HasCleanDisk s → Opens s × IsLive s) → (HasCleanDisk s → FindsIn image s) → IsNumbered s
-is_numbered image s opened found clean up desk =
-    let it = opened clean in
-    found_numbered image s (up, it.0.clean) (it.1 up).0 (found clean) desk
+is_numbered image s opened found = all_numbered s (λ clean up. let it = opened clean in found_numbered image s (up, it.0.clean) (it.1 up).0 (found clean))

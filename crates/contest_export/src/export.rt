@@ -81,7 +81,8 @@ fn write_header<W: Write>(alloc: Global, out: &mut Counted<W>) -> Result<(), Exp
     }
 }
 
-// All that the walk gives from its beginning.
+// All that the walk gives from its beginning. The lists are in memory (`loaded`), so no row loads any: each
+// asks the store for one file.
 fn write_rows<S: ContestStore, W: Write>(
     alloc: Global,
     store: &mut S,

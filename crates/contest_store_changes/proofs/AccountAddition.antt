@@ -76,10 +76,11 @@ account_is_added x a sound may =
     let row = account_row x.fixed.settings in
     let accounts = x.fixed.accounts in
     record {
+      of_lists = refl;
       with_it = record {
         as_given = account_given x.fixed.settings a;
         among = IsPermutation-map row (a ∷ accounts) (with_account accounts a) (with_one_more accounts a (has_new_id x a may));
         rises = rises (add x (NewAccount a)) (account_ascends accounts a sound.by_id) Accounts;
       };
-      others = same_tables _ _ refl refl refl refl refl refl refl refl refl refl;
+      others = same_tables _ _ refl refl refl refl refl refl refl refl refl refl refl;
     }

@@ -1,5 +1,5 @@
 -- A row that was inserted or changed is the change of the contest.
-use Rattle.std.proofs.Common.{◌≡◌, ◌∙◌, true, false, Result, Ok, IsTrue, ap, subst, sym}
+use Rattle.std.proofs.Common.{◌≡◌, ◌∙◌, true, false, List, Result, Ok, IsTrue, ap, subst, sym}
 use Rattle.std.specs.Prelude.{◌↔◌}
 use Rattle.sqlite.specs.State.{State}
 use Rattle.sqlite.proofs.StateLemmas.{survives_weaker}
@@ -9,18 +9,20 @@ use Rattle.contest_store.specs.declared.store_error.StoreError.{StoreError}
 use Rattle.contest_types.specs.Addable.{is_addable}
 use Rattle.contest_types.specs.State.{ContestState, add}
 use Rattle.contest_types.specs.declared.entry.Entry.{Entry}
-use Rattle.contest_store_tables.specs.Changes.{HasChanged, table_of_change}
-use Rattle.contest_store_tables.specs.Steps.{Content, Full, HasInserted, Holding, MakesNone, Showing, Step, Undoes, Within}
+use Rattle.contest_store_tables.specs.Changes.{AreChanged, HasChanged, table_of_change}
+use Rattle.contest_store_tables.specs.Steps.{Content, Full, HasInserted, Holding, IsWith, MakesNone, Showing, Step, Undoes, Within}
 use Rattle.contest_store_tables.specs.Tables.{TableRows}
 use Rattle.contest_store_tables.specs.declared.counts.Counts.{Counts}
 use Rattle.contest_store_tables.specs.declared.row_change.RowChange.{RowChange}
 use Rattle.contest_store_tables.specs.declared.table_name.TableName.{TableName}
 use Rattle.contest_store_tables.proofs.HoldLemmas.{on_err, on_ok}
 use Rattle.contest_store_tables.proofs.StepLemmas.{no_step}
-use Rattle.contest_store_changes.specs.Additions.{Admits, Appends, HasAdded}
-use Rattle.contest_store_changes.specs.ContestTables.{table_rows}
+use Rattle.contest_store_changes.specs.Additions.{Admits, Appends, HasListed}
+use Rattle.contest_store_cells.specs.CellRows.{cell_rows}
+use Rattle.contest_store_changes.specs.ContestTables.{list_rows, rows_with, table_rows}
 use Rattle.contest_store_changes.specs.OneRow.{IsOneChange, IsOneRow}
 use Rattle.contest_store_changes.specs.Sound.{IsSound}
+use Rattle.contest_store_changes.proofs.CellsPassed.{of_its_list, passes_cells}
 
 pub full : (lists : ContestState) (e : Entry) (s : State) (now kept : Content) → Admits lists e s now kept → Full s now kept
 full lists e s now kept h = (h.within, (table_rows h.contest, h.shown))
@@ -45,30 +47,36 @@ ChangesRow lists e change given = (x : ContestState) → loaded x ≡ lists → 
 
 module _ (r : Result (Unit {0}) StoreError) (old new : State) (b a : Counts) (lists : ContestState) (e : Entry) where
   pub adds_row : (added : Entry) (name : TableName) (given row : Row) → given ≡ row → AddsRow lists e added name row → Step r old new b a Full (HasInserted name given) (MakesNone old Full)
-      → Step r old new b a (Admits lists e) (HasAdded lists added) (MakesNone old (Admits lists e))
+      → Step r old new b a (Admits lists e) (HasListed lists added) (MakesNone old (Admits lists e))
   adds_row added name given row is one s =
-      admitted r old new b a lists e (HasInserted name given) (HasAdded lists added) (λ now kept h inserted.
+      let stands : (x y : ContestState) → IsOneRow name row x y → IsWith name given (table_rows x name) (list_rows y name) = λ x y o.
+      subst (λ (rows : List Row). IsWith name given rows (list_rows y name)) (sym (of_its_list name (cell_rows x) x o.of_lists)) (rw is o.with_it) in
+      admitted r old new b a lists e (HasInserted name given) (HasListed lists added) (λ now kept h inserted.
       let o = one h.contest h.sound h.held h.may in
       record {
         contest = h.contest;
         shown = h.shown;
         sound = h.sound;
         held = h.held;
-        within = subst (λ (rows : TableRows). Within new (Showing rows) kept) o.others
-            (inserted (table_rows h.contest) (table_rows (add h.contest added) name) h.shown (rw is o.with_it));
+        within = subst (λ (rows : TableRows). Within new (Showing rows) kept)
+            (passes_cells name (list_rows (add h.contest added) name) (cell_rows h.contest) h.contest (add h.contest added) o.of_lists o.others)
+            (inserted (table_rows h.contest) (list_rows (add h.contest added) name) h.shown (stands h.contest (add h.contest added) o));
       }) s
 
   pub changes_row : (change : RowChange) (cells given : Row) → cells ≡ given → ChangesRow lists e change given → Step r old new b a Full (HasChanged change cells) (MakesNone old Full) → Appends r old new b a lists e
   changes_row change cells given is one s =
-      admitted r old new b a lists e (HasChanged change cells) (HasAdded lists e) (λ now kept h changed.
+      let stands : (x y : ContestState) → IsOneChange change given x y → AreChanged change cells (table_rows x (table_of_change change)) (list_rows y (table_of_change change)) = λ x y o.
+      subst (λ (rows : List Row). AreChanged change cells rows (list_rows y (table_of_change change))) (sym (of_its_list (table_of_change change) (cell_rows x) x o.of_lists)) (rw is o.changed) in
+      admitted r old new b a lists e (HasChanged change cells) (HasListed lists e) (λ now kept h changed.
       let o = one h.contest h.held in
       record {
         contest = h.contest;
         shown = h.shown;
         sound = h.sound;
         held = h.held;
-        within = subst (λ (rows : TableRows). Within new (Showing rows) kept) o.others
-            (changed (table_rows h.contest) (table_rows (add h.contest e) (table_of_change change)) h.shown (rw is o.changed));
+        within = subst (λ (rows : TableRows). Within new (Showing rows) kept)
+            (passes_cells (table_of_change change) (list_rows (add h.contest e) (table_of_change change)) (cell_rows h.contest) h.contest (add h.contest e) o.of_lists o.others)
+            (changed (table_rows h.contest) (list_rows (add h.contest e) (table_of_change change)) h.shown (stands h.contest (add h.contest e) o));
       }) s
 
 -- what no contest admits
@@ -80,12 +88,12 @@ never_admitted r old new b a lists e To To2 none s = admitted r old new b a list
 -- a change that changes nothing
 pub adds_nothing : (s : State) (b : Counts) (lists : ContestState) (e : Entry) → ((x : ContestState) → IsSound x → add x e ≡ x) → Appends (Ok tt) s s b b lists e
 adds_nothing s b lists e same =
-    no_step tt s b (Admits lists e) (HasAdded lists e) (MakesNone s (Admits lists e)) (λ now kept h. record {
+    no_step tt s b (Admits lists e) (HasListed lists e) (MakesNone s (Admits lists e)) (λ now kept h. record {
       contest = h.contest;
       shown = h.shown;
       sound = h.sound;
       held = h.held;
-      within = subst (λ (c : Content). Within s c kept) (h.shown ∙ ap (λ (x : ContestState). Showing (table_rows x)) (sym (same h.contest h.sound))) h.within;
+      within = subst (λ (c : Content). Within s c kept) (h.shown ∙ ap (λ (x : ContestState). Showing (rows_with (cell_rows h.contest) x)) (sym (same h.contest h.sound))) h.within;
     })
 
 -- a number that doesn't fit, where it has to

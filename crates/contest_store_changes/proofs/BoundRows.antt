@@ -20,6 +20,10 @@ use Rattle.contest_types.specs.declared.rejudging.Rejudging.{Rejudging}
 use Rattle.contest_types.specs.declared.rejudging.RejudgingState.{RejudgingState}
 use Rattle.contest_types.specs.declared.submission.Release.{Release}
 use Rattle.contest_types.specs.declared.submission.Submission.{Submission}
+use Rattle.contest_types.specs.declared.minute.Minute.{Minute}
+use Rattle.contest_types.specs.declared.sight.Mask.{Mask}
+use Rattle.contest_score.specs.declared.cell.Cell.{Cell}
+use Rattle.contest_store_cells.specs.CellRows.{cell_row}
 use Rattle.contest_store_rows.specs.Cells.{lent, number}
 use Rattle.contest_store_rows.specs.FixedRows.{account_row, contest_row, desk_row, item_row, role_team}
 use Rattle.contest_store_rows.specs.ListRows.{clarification_row, member_account, member_row, member_type, proposal_row, reference_id, rejudging_row, release_row, submission_row}
@@ -77,6 +81,10 @@ desk_unreal = refl
 
 pub contest_unreal : (f : FixedPart) → Unreal (contest_row f)
 contest_unreal f = rw (moment f.settings.head.freeze, moment f.marks.start, moment f.marks.thaw, moment f.marks.finalized) refl
+
+-- of the cells
+pub cell_unreal : (s : Setup) (mask : Mask) (team problem : ℕ) (c : Cell) → Unreal (cell_row s mask team problem c)
+cell_unreal s mask team problem c = rw (moment (option_map (λ (m : Minute). m.0) c.solved)) refl
 
 -- and what changes of rows are given
 pub marks_unreal : (m : Marks) → Unreal (marks_row m)

@@ -20,8 +20,8 @@ use Rattle.contest_store_tables.specs.Schema.{form_of}
 use Rattle.contest_store_tables.specs.Steps.{with_rows}
 use Rattle.contest_store_tables.specs.declared.row_change.RowChange.TheVariants as row_change
 use Rattle.contest_store_tables.specs.declared.table_name.TableName.{TableName}
-use Rattle.contest_store_tables.specs.declared.table_name.TableName.TheVariants.{Desk, Contest, Items, Accounts, Submissions, Proposals, Releases, Rejudgings, Members, Clarifications}
-use Rattle.contest_store_changes.specs.ContestTables.{table_rows}
+use Rattle.contest_store_tables.specs.declared.table_name.TableName.TheVariants.{Desk, Contest, Items, Accounts, Submissions, Proposals, Releases, Rejudgings, Members, Clarifications, Cells}
+use Rattle.contest_store_changes.specs.ContestTables.{list_rows}
 use Rattle.contest_store_fixed_rows.specs.Heads.{marks_row}
 use Rattle.contest_store_changes.specs.Laws.{MarksAreChanged, MemberIsChanged, RejudgingIsChanged}
 use Rattle.contest_store_changes.proofs.HeldRows.{contest_held, member_held, rejudging_held}
@@ -45,7 +45,7 @@ marks_changed : (f : FixedPart) (m : Marks) → contest_row (record f { marks = 
 marks_changed f m = ap (λ b. if b && true then changed_row row_change.Marks (marks_row m) (contest_row f) else contest_row f) (sym (same_number 1 1))
 
 -- of the marks only the table of the contest tells
-marks_alone : (x : ContestState) (m : Marks) (name : TableName) → with_rows Contest (table_rows (with_marks x m) Contest) (table_rows x) name ≡ table_rows (with_marks x m) name
+marks_alone : (x : ContestState) (m : Marks) (name : TableName) → with_rows Contest (list_rows (with_marks x m) Contest) (list_rows x) name ≡ list_rows (with_marks x m) name
 marks_alone x m Desk = refl
 marks_alone x m Contest = refl
 marks_alone x m Items = refl
@@ -56,10 +56,12 @@ marks_alone x m Releases = refl
 marks_alone x m Rejudgings = refl
 marks_alone x m Members = refl
 marks_alone x m Clarifications = refl
+marks_alone x m Cells = refl
 
 -- the marks are one changed row
 pub marks_are_changed : MarksAreChanged
 marks_are_changed x m = record {
+  of_lists = refl;
   changed = record {
     is = ap (λ row. row ∷ []) (marks_changed x.fixed m);
     held = All-cons (IsHeld (form_of Contest)) (contest_row (with_marks x m).fixed) [] (contest_held (with_marks x m).fixed) (All-nil (IsHeld (form_of Contest)));
@@ -70,7 +72,7 @@ marks_are_changed x m = record {
 
 -- of the state of a rejudging only the table of rejudgings tells
 rejudging_alone : (x : ContestState) (n : ℕ) (st : RejudgingState) (name : TableName) →
-    with_rows Rejudgings (table_rows (add x (SetRejudging n st)) Rejudgings) (table_rows x) name ≡ table_rows (add x (SetRejudging n st)) name
+    with_rows Rejudgings (list_rows (add x (SetRejudging n st)) Rejudgings) (list_rows x) name ≡ list_rows (add x (SetRejudging n st)) name
 rejudging_alone x n st Desk = refl
 rejudging_alone x n st Contest = refl
 rejudging_alone x n st Items = refl
@@ -81,10 +83,12 @@ rejudging_alone x n st Releases = refl
 rejudging_alone x n st Rejudgings = refl
 rejudging_alone x n st Members = ap (λ t. t.members) (sym (state_is_one_cell x n st))
 rejudging_alone x n st Clarifications = refl
+rejudging_alone x n st Cells = refl
 
 -- the state of a rejudging is one changed row
 pub rejudging_is_changed : RejudgingIsChanged
 rejudging_is_changed x n st = record {
+  of_lists = refl;
   changed = record {
     is = states_changed 1 n st x.rejudgings;
     held = rows_held (IsHeld (form_of Rejudgings)) rejudging_row rejudging_held 1 (add x (SetRejudging n st)).rejudgings;
@@ -95,7 +99,7 @@ rejudging_is_changed x n st = record {
 
 -- of the state of a member only the table of members tells
 member_alone : (x : ContestState) (n place : ℕ) (st : MemberState) (name : TableName) →
-    with_rows Members (table_rows (add x (SetMember n place st)) Members) (table_rows x) name ≡ table_rows (add x (SetMember n place st)) name
+    with_rows Members (list_rows (add x (SetMember n place st)) Members) (list_rows x) name ≡ list_rows (add x (SetMember n place st)) name
 member_alone x n place st Desk = refl
 member_alone x n place st Contest = refl
 member_alone x n place st Items = refl
@@ -106,10 +110,12 @@ member_alone x n place st Releases = refl
 member_alone x n place st Rejudgings = sym (rejudgings_stay x.fixed.settings n place st 1 x.rejudgings)
 member_alone x n place st Members = refl
 member_alone x n place st Clarifications = refl
+member_alone x n place st Cells = refl
 
 -- the state of a member is one changed row
 pub member_is_changed : MemberIsChanged
 member_is_changed x n place st = record {
+  of_lists = refl;
   changed = record {
     is = members_are_changed x.fixed.settings n place st 1 x.rejudgings;
     held = members_held x.fixed.settings 1 (add x (SetMember n place st)).rejudgings;

@@ -27,7 +27,7 @@ use Rattle.contest_store_tables.specs.declared.table_name.TableName.TheVariants.
 use Rattle.contest_store_changes.proofs.CastLemmas.{cast_row_same, fits_number, fits_text, put_for, row_fits}
 
 -- the cells of the row have the types of their columns
-abbrev Fits : Table → Row → Type 0
+abbrev pub Fits : Table → Row → Type 0
 Fits t row = row_fits t (put_for t row) ≡ true
 
 submission_fits : (s : Setup) (n : ℕ) (x : Submission) → Fits (form_of Submissions) (submission_row s n x)
@@ -61,7 +61,7 @@ contest_fits : (f : FixedPart) → Fits (form_of Contest) (contest_row f)
 contest_fits f = rw (fits_number f.settings.head.freeze, fits_number f.marks.start, fits_number f.marks.thaw, fits_number f.marks.finalized) refl
 
 -- a new row is held as given where its cells fit
-given : (t : Table) (row : Row) → Fits t row → ((rows : List Row) → show t (with_rowid Chosen rows (put_for t row)) ≡ row) → IsHeldAsGiven t row
+pub given : (t : Table) (row : Row) → Fits t row → ((rows : List Row) → show t (with_rowid Chosen rows (put_for t row)) ≡ row) → IsHeldAsGiven t row
 given t row fit shown rows = ap (λ r. show t (with_rowid Chosen rows r)) (cast_row_same t (put_for t row) fit) ∙ shown rows
 
 pub submission_given : (s : Setup) (n : ℕ) (x : Submission) → IsHeldAsGiven (form_of Submissions) (submission_row s n x)
@@ -95,7 +95,7 @@ pub contest_given : (f : FixedPart) → IsHeldAsGiven (form_of Contest) (contest
 contest_given f = given (form_of Contest) (contest_row f) (contest_fits f) (λ rows. refl)
 
 -- and so is a row where it stands
-held : (t : Table) (row : Row) → Fits t row → show t (put_for t row) ≡ row → IsHeld t row
+pub held : (t : Table) (row : Row) → Fits t row → show t (put_for t row) ≡ row → IsHeld t row
 held t row fit shown = ap (show t) (cast_row_same t (put_for t row) fit) ∙ shown
 
 pub rejudging_held : (n : ℕ) (r : Rejudging) → IsHeld (form_of Rejudgings) (rejudging_row n r)

@@ -11,6 +11,7 @@ pub mod SameNumbers
 pub mod RowChanges
 pub mod ChangeLaws
 pub mod BoundRows
+pub mod CellsPassed
 pub mod AppendLemmas
 pub mod AppendedRows
 pub mod ChangedRows
@@ -22,6 +23,8 @@ pub mod FittingNumbers
 pub mod SoundLists
 pub mod SoundSettings
 pub mod SoundAdditions
+pub mod WideRows
+pub mod CellsRead
 pub mod SoundReadings
 pub mod FiledRows
 pub mod ReadCells
@@ -34,4 +37,9 @@ pub mod ReadContest
 pub mod ReadWritable
 pub mod AccountsRise
 pub mod ValidSound
-pub mod WideRows
+pub mod OwnNumbers
+pub mod NamedPlace
+pub mod CellWriting
+pub mod CellRowsKept
+pub mod CellsScored
+pub mod ScoredEntries

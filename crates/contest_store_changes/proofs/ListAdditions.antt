@@ -19,29 +19,29 @@ pub submission_is_added : SubmissionIsAdded
 submission_is_added x s sound =
     let n = length x.submissions + 1 in
     let y = add x (NewSubmission s) in
-    one_row_at_end Submissions (submission_row x.fixed.settings n s) x y (submission_given x.fixed.settings n s) (one_more (submission_row x.fixed.settings) 1 x.submissions s) (rises_but_accounts y Submissions (λ e. cc))
-    (same_tables _ _ refl refl refl refl refl refl refl refl refl refl)
+    one_row_at_end Submissions (submission_row x.fixed.settings n s) x y refl (submission_given x.fixed.settings n s) (one_more (submission_row x.fixed.settings) 1 x.submissions s) (rises_but_accounts y Submissions (λ e. cc))
+    (same_tables _ _ refl refl refl refl refl refl refl refl refl refl refl)
 
 pub proposal_is_added : ProposalIsAdded
 proposal_is_added x p sound =
     let n = length x.proposals + 1 in
     let y = add x (NewProposal p) in
-    one_row_at_end Proposals (proposal_row x.fixed.settings n p) x y (proposal_given x.fixed.settings n p) (one_more (proposal_row x.fixed.settings) 1 x.proposals p) (rises_but_accounts y Proposals (λ e. cc))
-    (same_tables _ _ refl refl refl refl refl refl refl refl refl refl)
+    one_row_at_end Proposals (proposal_row x.fixed.settings n p) x y refl (proposal_given x.fixed.settings n p) (one_more (proposal_row x.fixed.settings) 1 x.proposals p) (rises_but_accounts y Proposals (λ e. cc))
+    (same_tables _ _ refl refl refl refl refl refl refl refl refl refl refl)
 
 pub release_is_added : ReleaseIsAdded
 release_is_added x v sound =
     let n = length x.releases + 1 in
     let y = add x (NewRelease v) in
-    one_row_at_end Releases (release_row x.fixed.settings n v) x y (release_given x.fixed.settings n v) (one_more (release_row x.fixed.settings) 1 x.releases v) (rises_but_accounts y Releases (λ e. cc))
-    (same_tables _ _ refl refl refl refl refl refl refl refl refl refl)
+    one_row_at_end Releases (release_row x.fixed.settings n v) x y refl (release_given x.fixed.settings n v) (one_more (release_row x.fixed.settings) 1 x.releases v) (rises_but_accounts y Releases (λ e. cc))
+    (same_tables _ _ refl refl refl refl refl refl refl refl refl refl refl)
 
 pub clarification_is_added : ClarificationIsAdded
 clarification_is_added x c sound =
     let n = length x.clarifications + 1 in
     let y = add x (NewClarification c) in
-    one_row_at_end Clarifications (clarification_row x.fixed.settings n c) x y (clarification_given x.fixed.settings n c) (one_more (clarification_row x.fixed.settings) 1 x.clarifications c)
-    (rises_but_accounts y Clarifications (λ e. cc)) (same_tables _ _ refl refl refl refl refl refl refl refl refl refl)
+    one_row_at_end Clarifications (clarification_row x.fixed.settings n c) x y refl (clarification_given x.fixed.settings n c) (one_more (clarification_row x.fixed.settings) 1 x.clarifications c)
+    (rises_but_accounts y Clarifications (λ e. cc)) (same_tables _ _ refl refl refl refl refl refl refl refl refl refl refl)
 
 -- the members of the rejudgings with one more
 abbrev members_after : ContestState → Rejudging → List Row
@@ -60,8 +60,8 @@ pub rejudging_is_added : RejudgingIsAdded
 rejudging_is_added x r sound =
     let n = length x.rejudgings + 1 in
     let y = add x (NewRejudging (with_members r [])) in
-    one_row_at_end Rejudgings (rejudging_row n r) x y (rejudging_given n r) (one_more rejudging_row 1 x.rejudgings (with_members r [])) (rises_but_accounts y Rejudgings (λ e. cc))
-    (same_tables _ _ refl refl refl refl refl refl refl refl (no_members_yet x r) refl)
+    one_row_at_end Rejudgings (rejudging_row n r) x y refl (rejudging_given n r) (one_more rejudging_row 1 x.rejudgings (with_members r [])) (rises_but_accounts y Rejudgings (λ e. cc))
+    (same_tables _ _ refl refl refl refl refl refl refl refl (no_members_yet x r) refl refl)
 
 -- the row of a rejudging does not name its members
 same_rejudgings : (x : ContestState) (r : Rejudging) (members more : List Member) → rows_from rejudging_row 1 (x.rejudgings ++ with_members r members ∷ []) ≡ rows_from rejudging_row 1 (x.rejudgings ++ with_members r more ∷ [])
@@ -82,5 +82,5 @@ member_is_added x r members m sound =
     let n = length x.rejudgings + 1 in
     let place = length members + 1 in
     let y = add x (NewRejudging (with_members r (members ++ m ∷ []))) in
-    one_row_at_end Members (member_row x.fixed.settings n place m) (add x (NewRejudging (with_members r members))) y (member_given_row x.fixed.settings n place m) (last_member x r members m)
-    (rises_but_accounts y Members (λ e. cc)) (same_tables _ _ refl refl refl refl refl refl refl (same_rejudgings x r members (members ++ m ∷ [])) refl refl)
+    one_row_at_end Members (member_row x.fixed.settings n place m) (add x (NewRejudging (with_members r members))) y refl (member_given_row x.fixed.settings n place m) (last_member x r members m)
+    (rises_but_accounts y Members (λ e. cc)) (same_tables _ _ refl refl refl refl refl refl refl (same_rejudgings x r members (members ++ m ∷ [])) refl refl refl)

@@ -14,12 +14,14 @@ use Rattle.contest_store_tables.specs.Tables.{TableRows}
 use Rattle.contest_store_tables.specs.declared.counts.Counts.{Counts}
 use Rattle.contest_store_tables.specs.declared.table_name.TableName.TheVariants.{Members}
 use Rattle.contest_store_tables.proofs.StepLemmas.{in_turn}
-use Rattle.contest_store_changes.specs.Additions.{Admits, HasAdded, HasMember}
-use Rattle.contest_store_changes.specs.ContestTables.{table_rows}
+use Rattle.contest_store_changes.specs.Additions.{Admits, HasListed, HasMember}
+use Rattle.contest_store_cells.specs.CellRows.{cell_rows}
+use Rattle.contest_store_changes.specs.ContestTables.{list_rows, rows_with}
 use Rattle.contest_store_changes.specs.Laws.{with_members}
 use Rattle.contest_store_changes.specs.OneRow.{IsOneRow}
 use Rattle.contest_types.specs.Addable.{is_addable}
 use Rattle.contest_store_changes.specs.Sound.{IsSound}
+use Rattle.contest_store_changes.proofs.CellsPassed.{passes_cells}
 use Rattle.contest_store_changes.proofs.FittingNumbers.{Fit}
 use Rattle.contest_store_changes.proofs.ListAdditions.{member_is_added}
 
@@ -28,7 +30,7 @@ abbrev pub with_front : Rejudging → List Member → Entry
 with_front row members = NewRejudging (with_members row members)
 
 module _ (r : Result (Unit {0}) StoreError) (old mid new : State) (b m a : Counts) (lists : ContestState) (row : Rejudging) (front : List Member) (one_more : Member)
-    (one : Step {T = Unit {0}} (Ok tt) old mid b m (Admits lists (NewRejudging row)) (HasAdded lists (with_front row front)) (MakesNone old (Admits lists (NewRejudging row))))
+    (one : Step {T = Unit {0}} (Ok tt) old mid b m (Admits lists (NewRejudging row)) (HasListed lists (with_front row front)) (MakesNone old (Admits lists (NewRejudging row))))
     (two : Step r mid new m a Full (HasMember lists (length front) one_more) (MakesNone mid Full))
     (fits : (x : ContestState) → IsSound x → is_addable x (NewRejudging row) ≡ true → Fit one_more.team one_more.number) where
   abbrev after : List Member
@@ -36,19 +38,19 @@ module _ (r : Result (Unit {0}) StoreError) (old mid new : State) (b m a : Count
 
   -- what the tables show in between
   abbrev between : ContestState → Content
-  between x = Showing (table_rows (add x (with_front row front)))
+  between x = Showing (rows_with (cell_rows x) (add x (with_front row front)))
 
-  fully : (now kept : Content) → (h : HasAdded lists (with_front row front) mid now kept) → Full mid (between h.contest) kept
-  fully now kept h = (h.within, (table_rows (add h.contest (with_front row front)), refl))
+  fully : (now kept : Content) → (h : HasListed lists (with_front row front) mid now kept) → Full mid (between h.contest) kept
+  fully now kept h = (h.within, (rows_with (cell_rows h.contest) (add h.contest (with_front row front)), refl))
 
-  member_row_added : (now kept : Content) → (h : HasAdded lists (with_front row front) mid now kept)
+  member_row_added : (now kept : Content) → (h : HasListed lists (with_front row front) mid now kept)
       → IsOneRow Members (member_row lists.fixed.settings (length lists.rejudgings + 1) (length front + 1) one_more) (add h.contest (with_front row front)) (add h.contest (with_front row after))
   member_row_added now kept h =
       subst (λ (l : ContestState). IsOneRow Members (member_row l.fixed.settings (length l.rejudgings + 1) (length front + 1) one_more) (add h.contest (with_front row front)) (add h.contest (with_front row after)))
       h.held (member_is_added h.contest row front one_more h.sound)
 
-  next_added : (now kept : Content) → (h : HasAdded lists (with_front row front) mid now kept)
-      → HasInserted Members (member_row lists.fixed.settings (length lists.rejudgings + 1) (length front + 1) one_more) new (between h.contest) kept → HasAdded lists (with_front row after) new now kept
+  next_added : (now kept : Content) → (h : HasListed lists (with_front row front) mid now kept)
+      → HasInserted Members (member_row lists.fixed.settings (length lists.rejudgings + 1) (length front + 1) one_more) new (between h.contest) kept → HasListed lists (with_front row after) new now kept
   next_added now kept h inserted =
       let o = member_row_added now kept h in
       record {
@@ -56,14 +58,15 @@ module _ (r : Result (Unit {0}) StoreError) (old mid new : State) (b m a : Count
         shown = h.shown;
         sound = h.sound;
         held = h.held;
-        within = subst (λ (rows : TableRows). Within new (Showing rows) kept) o.others
-            (inserted (table_rows (add h.contest (with_front row front))) (table_rows (add h.contest (with_front row after)) Members) refl o.with_it);
+        within = subst (λ (rows : TableRows). Within new (Showing rows) kept)
+            (passes_cells Members (list_rows (add h.contest (with_front row after)) Members) (cell_rows h.contest) (add h.contest (with_front row front)) (add h.contest (with_front row after)) refl o.others)
+            (inserted (rows_with (cell_rows h.contest) (add h.contest (with_front row front))) (list_rows (add h.contest (with_front row after)) Members) refl o.with_it);
       }
 
-  pub next_member : Step r old new b a (Admits lists (NewRejudging row)) (HasAdded lists (with_front row after)) (MakesNone old (Admits lists (NewRejudging row)))
+  pub next_member : Step r old new b a (Admits lists (NewRejudging row)) (HasListed lists (with_front row after)) (MakesNone old (Admits lists (NewRejudging row)))
   next_member =
-      in_turn tt r old mid new b m a (Admits lists (NewRejudging row)) (HasAdded lists (with_front row front)) Full (HasMember lists (length front) one_more)
-      (HasAdded lists (with_front row after)) (MakesNone old (Admits lists (NewRejudging row))) (MakesNone mid Full) one two
+      in_turn tt r old mid new b m a (Admits lists (NewRejudging row)) (HasListed lists (with_front row front)) Full (HasMember lists (length front) one_more)
+      (HasListed lists (with_front row after)) (MakesNone old (Admits lists (NewRejudging row))) (MakesNone mid Full) one two
       (λ now kept from h. (between h.contest, fully now kept h, λ stands. next_added now kept h (stands (fits from.contest from.sound from.may))))
       (λ db on none now kept from. none (between (on now kept from).contest) kept (fully now kept (on now kept from)))
       (λ db none. none)

@@ -17,8 +17,8 @@ use Rattle.contest_store_tables.specs.Schema.{form_of}
 use Rattle.contest_store_tables.specs.Steps.{Rises}
 use Rattle.contest_store_tables.specs.Tables.{by_key}
 use Rattle.contest_store_tables.specs.declared.table_name.TableName.{TableName}
-use Rattle.contest_store_tables.specs.declared.table_name.TableName.TheVariants.{Desk, Contest, Items, Accounts, Submissions, Proposals, Releases, Rejudgings, Members, Clarifications}
-use Rattle.contest_store_changes.specs.ContestTables.{table_rows}
+use Rattle.contest_store_tables.specs.declared.table_name.TableName.TheVariants.{Desk, Contest, Items, Accounts, Submissions, Proposals, Releases, Rejudgings, Members, Clarifications, Cells}
+use Rattle.contest_store_changes.specs.ContestTables.{list_rows}
 use Rattle.contest_store_changes.proofs.RisingLists.{RiseFrom, lower_number, lower_text, next_group, no_group, one_group, rows_rise}
 
 -- one comes below the other by the key of the table
@@ -45,7 +45,7 @@ accounts_rise s accounts up =
     ascending-map (BelowIn Accounts) (account_row s) accounts
     (ascending_weaker (λ a b. IsTrue (comes_before a b)) (λ a b. BelowIn Accounts (account_row s a) (account_row s b)) (account_below s) accounts up)
 
-pub rises_but_accounts : (x : ContestState) (name : TableName) → (name ≡ Accounts → ⊥) → Rises name (table_rows x name)
+pub rises_but_accounts : (x : ContestState) (name : TableName) → (name ≡ Accounts → ⊥) → Rises name (list_rows x name)
 rises_but_accounts x Desk other = (tt, tt)
 rises_but_accounts x Contest other = (tt, tt)
 rises_but_accounts x Items other = items_rise x.fixed.settings
@@ -55,9 +55,10 @@ rises_but_accounts x Proposals other = rows_rise (BelowIn Proposals) (proposal_r
 rises_but_accounts x Releases other = rows_rise (BelowIn Releases) (release_row x.fixed.settings) (λ m n a b l. lower_number m n Equal l) 1 x.releases
 rises_but_accounts x Rejudgings other = rows_rise (BelowIn Rejudgings) rejudging_row (λ m n a b l. lower_number m n Equal l) 1 x.rejudgings
 rises_but_accounts x Members other = (members_rise x.fixed.settings 1 x.rejudgings).rises
+rises_but_accounts x Cells other = tt
 rises_but_accounts x Clarifications other = rows_rise (BelowIn Clarifications) (clarification_row x.fixed.settings) (λ m n a b l. lower_number m n Equal l) 1 x.clarifications
 
-pub rises : (x : ContestState) → IsAscending (λ a b. IsTrue (comes_before a b)) x.fixed.accounts → (name : TableName) → Rises name (table_rows x name)
+pub rises : (x : ContestState) → IsAscending (λ a b. IsTrue (comes_before a b)) x.fixed.accounts → (name : TableName) → Rises name (list_rows x name)
 rises x by_id Desk = rises_but_accounts x Desk (λ e. cc)
 rises x by_id Contest = rises_but_accounts x Contest (λ e. cc)
 rises x by_id Items = rises_but_accounts x Items (λ e. cc)
@@ -68,3 +69,4 @@ rises x by_id Releases = rises_but_accounts x Releases (λ e. cc)
 rises x by_id Rejudgings = rises_but_accounts x Rejudgings (λ e. cc)
 rises x by_id Members = rises_but_accounts x Members (λ e. cc)
 rises x by_id Clarifications = rises_but_accounts x Clarifications (λ e. cc)
+rises x by_id Cells = rises_but_accounts x Cells (λ e. cc)

@@ -12,7 +12,7 @@ use Rattle.sqlite_value.proofs.OrderLemmas.{value_cmp-Int}
 use Rattle.contest_store_rows.specs.Cells.{number}
 
 -- a truth value is the test that it came from, and the order of whole numbers tells which are the same
-of_truth : (b : Bool) → is_true (from_truth (Some b)) ≡ b
+pub of_truth : (b : Bool) → is_true (from_truth (Some b)) ≡ b
 of_truth true = refl
 of_truth false = refl
 

@@ -1,19 +1,22 @@
 -- A valid contest that rows are is sound, and these are its rows.
-use Rattle.std.proofs.Common.{◌≡◌, true, Some, sym, subst}
+use Rattle.std.proofs.Common.{◌≡◌, true, List, Some, refl, sym, subst}
 use Rattle.std.specs.List.{AllByRecursion}
 use Rattle.contest_types.specs.State.{ContestState}
 use Rattle.contest_types.specs.Valid.{is_valid}
 use Rattle.contest_store_fixed_rows.specs.SpellingLaws.{AreRows}
 use Rattle.contest_store_fixed_rows.specs.Spelling.{lists_in}
 use Rattle.contest_store_fixed_rows.proofs.SpellingLaws.{contests_write_back}
+use Rattle.sqlite_value.specs.Order.{Row}
+use Rattle.contest_store_cells.specs.CellRows.{cell_rows}
 use Rattle.contest_store_tables.specs.Steps.{Rises}
 use Rattle.contest_store_tables.specs.Tables.{TableRows}
-use Rattle.contest_store_tables.specs.declared.table_name.TableName.TheVariants.{Accounts, Submissions}
+use Rattle.contest_store_tables.specs.declared.table_name.TableName.TheVariants.{Accounts, Submissions, Cells}
 use Rattle.contest_store_fixed_rows.proofs.OptionSteps.{bound, where_true}
-use Rattle.contest_store_changes.specs.ContestTables.{contest_in, if_valid, loaded_tables, table_rows, with_files}
-use Rattle.contest_store_changes.specs.Laws.{IsWide, ValidContestsAreSound}
+use Rattle.contest_store_changes.specs.ContestTables.{if_scored, if_valid, listed_in, loaded_tables, rows_with, same_rows, table_rows, valid_listed_in, with_files}
+use Rattle.contest_store_changes.specs.Laws.{IsWide, ListedContestsAreSound, ValidContestsAreSound}
 use Rattle.contest_store_changes.specs.Sound.{IsSound}
 use Rattle.contest_store_changes.proofs.AccountsRise.{stand_by_id}
+use Rattle.contest_store_changes.proofs.CellsRead.{one_list}
 use Rattle.contest_store_changes.proofs.FiledRows.{filed_rows}
 use Rattle.contest_store_changes.proofs.OneMoreRow.{same_tables}
 use Rattle.contest_store_changes.proofs.ReadCells.{made, of_found}
@@ -21,27 +24,34 @@ use Rattle.contest_store_changes.proofs.ReadContest.{IsRead, lists_read, read_wi
 use Rattle.contest_store_changes.proofs.ReadWritable.{writable}
 
 -- the contest that rows are, with its files, has these rows
-rows_are : (rows : TableRows) (y : ContestState) → AllByRecursion (IsWide Submissions) (rows Submissions) → AreRows y (loaded_tables rows) → table_rows (with_files (rows Submissions) y) ≡ rows
+rows_are : (rows : TableRows) (y : ContestState) → AllByRecursion (IsWide Submissions) (rows Submissions) → AreRows y (loaded_tables rows) → rows_with (rows Cells) (with_files (rows Submissions) y) ≡ rows
 rows_are rows y wide are =
     same_tables _ rows (sym are.fixed.desk) (sym are.fixed.contest) (sym are.fixed.items) (sym are.fixed.accounts) (filed_rows y.fixed.settings 1 y.submissions (rows Submissions) wide are.submissions)
-    (sym are.proposals) (sym are.releases) (sym are.rejudgings) (sym are.members) (sym are.clarifications)
+    (sym are.proposals) (sym are.releases) (sym are.rejudgings) (sym are.members) (sym are.clarifications) refl
 
-sound : (rows : TableRows) (x : ContestState) → Rises Accounts (rows Accounts) → table_rows x ≡ rows → IsRead x → is_valid x ≡ true → IsSound x
+sound : (rows : TableRows) (x : ContestState) → Rises Accounts (rows Accounts) → rows_with (rows Cells) x ≡ rows → IsRead x → is_valid x ≡ true → IsSound x
 sound rows x up is read valid = record {
   valid = valid;
   writable = writable x read valid;
   by_id = stand_by_id x.fixed.settings x.fixed.accounts (subst (λ (all : TableRows). Rises Accounts (all Accounts)) (sym is) up);
 }
 
-found_sound : (rows : TableRows) (x : ContestState) → Rises Accounts (rows Accounts) → AllByRecursion (IsWide Submissions) (rows Submissions) → contest_in rows ≡ Some x → is_valid x ≡ true → IsSound x × (table_rows x ≡ rows)
+found_sound : (rows : TableRows) (x : ContestState) → Rises Accounts (rows Accounts) → AllByRecursion (IsWide Submissions) (rows Submissions) → listed_in rows ≡ Some x → is_valid x ≡ true → IsSound x × (rows_with (rows Cells) x ≡ rows)
 found_sound rows x up wide is valid =
     let m = made (with_files (rows Submissions)) (lists_in (loaded_tables rows)) x is in
     let read = subst IsRead m.whole (read_with_files (rows Submissions) m.x (lists_read (loaded_tables rows) m.x m.first_is)) in
-    let own = subst (λ y. table_rows y ≡ rows) m.whole (rows_are rows m.x wide (contests_write_back (loaded_tables rows) m.x m.first_is)) in
+    let own = subst (λ y. rows_with (rows Cells) y ≡ rows) m.whole (rows_are rows m.x wide (contests_write_back (loaded_tables rows) m.x m.first_is)) in
     (sound rows x up own read valid, own)
+
+pub listed_sound : ListedContestsAreSound
+listed_sound rows x up wide is =
+    let b = bound if_valid (listed_in rows) x is in
+    let own = where_true (is_valid b.x) (Some b.x) x b.next_is in
+    of_found (λ y. IsSound y × (rows_with (rows Cells) y ≡ rows)) b.x x own.1 (found_sound rows b.x up wide b.first_is own.0)
 
 pub valid_sound : ValidContestsAreSound
 valid_sound rows x up wide is =
-    let b = bound if_valid (contest_in rows) x is in
-    let own = where_true (is_valid b.x) (Some b.x) x b.next_is in
-    of_found (λ y. IsSound y × (table_rows y ≡ rows)) b.x x own.1 (found_sound rows b.x up wide b.first_is own.0)
+    let b = bound (if_scored (rows Cells)) (valid_listed_in rows) x is in
+    let own = where_true (same_rows (rows Cells) (cell_rows b.x)) (Some b.x) x b.next_is in
+    let found = listed_sound rows b.x up wide b.first_is in
+    of_found (λ y. IsSound y × (table_rows y ≡ rows)) b.x x own.1 (found.0, subst (λ (cells : List Row). rows_with cells b.x ≡ rows) (one_list (rows Cells) (cell_rows b.x) own.0) found.1)

@@ -11,7 +11,8 @@ use Rattle.contest_store_rows.specs.ListRows.{member_row}
 use Rattle.contest_store_tables.specs.Steps.{Content, HasInserted, Holding, MakesNone, Showing, Step, Within}
 use Rattle.contest_store_tables.specs.declared.counts.Counts.{Counts}
 use Rattle.contest_store_tables.specs.declared.table_name.TableName.TheVariants.{Members}
-use Rattle.contest_store_changes.specs.ContestTables.{table_rows}
+use Rattle.contest_store_cells.specs.CellRows.{cell_rows}
+use Rattle.contest_store_changes.specs.ContestTables.{rows_with, table_rows}
 use Rattle.contest_store_changes.specs.Sound.{IsSound}
 
 -- within a transaction the tables show a sound contest that has these lists, and to which the change may be made
@@ -23,7 +24,15 @@ pub record Admits (lists : ContestState) (e : Entry) (s : State) (now kept : Con
   pub may : is_addable contest e ≡ true
   pub within : Within s now kept
 
--- they show it with the change
+-- they show its lists with the change, and its cells as they were
+pub record HasListed (lists : ContestState) (e : Entry) (s : State) (now kept : Content) : Type 0 where
+  pub contest : ContestState
+  pub shown : now ≡ Showing (table_rows contest)
+  pub sound : IsSound contest
+  pub held : loaded contest ≡ lists
+  pub within : Within s (Showing (rows_with (cell_rows contest) (add contest e))) kept
+
+-- they show it with the change, in its cells too
 pub record HasAdded (lists : ContestState) (e : Entry) (s : State) (now kept : Content) : Type 0 where
   pub contest : ContestState
   pub shown : now ≡ Showing (table_rows contest)
@@ -31,9 +40,9 @@ pub record HasAdded (lists : ContestState) (e : Entry) (s : State) (now kept : C
   pub held : loaded contest ≡ lists
   pub within : Within s (Showing (table_rows (add contest e))) kept
 
--- on Ok the change is made, on Err no change stands that wasn't committed
+-- on Ok the change of the lists is made, on Err no change stands that wasn't committed
 abbrev pub Appends : Result (Unit {0}) StoreError → (old new : State) → (before after : Counts) → (lists : ContestState) → Entry → Type 0
-Appends result old new before after lists e = Step result old new before after (Admits lists e) (HasAdded lists e) (MakesNone old (Admits lists e))
+Appends result old new before after lists e = Step result old new before after (Admits lists e) (HasListed lists e) (MakesNone old (Admits lists e))
 
 -- the row of a member of the rejudging that comes after those of the lists stands, if cells hold the member's numbers
 abbrev pub HasMember : (lists : ContestState) → (place : ℕ) → Member → Holding

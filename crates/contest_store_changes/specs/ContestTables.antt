@@ -1,5 +1,6 @@
--- A contest and the rows of its tables by the names of these, and the contest that such rows are.
-use Rattle.std.specs.Prelude.{ℕ, List, [], map, zip, Option, Some, None, if◌then◌else◌}
+-- A contest and the rows of its tables by the names of these, and the contest that such rows are. The table of the cells
+-- has what the lists come to.
+use Rattle.std.specs.Prelude.{ℕ, Bool, true, false, ◌&&◌, List, [], ◌∷◌, map, zip, Option, Some, None, if◌then◌else◌}
 use Rattle.std.specs.Option.{option_map, option_and_then}
 use Rattle.sqlite_value.specs.declared.value.Value.{Value}
 use Rattle.sqlite_value.specs.declared.value.Value.TheVariants.{Blob}
@@ -7,11 +8,14 @@ use Rattle.sqlite_value.specs.Order.{Row, column}
 use Rattle.contest_types.specs.State.{ContestState}
 use Rattle.contest_types.specs.Valid.{is_valid}
 use Rattle.contest_types.specs.declared.submission.Submission.{Submission}
+use Rattle.contest_store_rows.specs.Cells.{same_row}
 use Rattle.contest_store_rows.specs.Tables.{Tables, rows_of}
+use Rattle.contest_store_cells.specs.CellRows.{cell_rows}
 use Rattle.contest_store_fixed_rows.specs.Spelling.{lists_in}
 use Rattle.contest_store_tables.specs.Statements.{loaded_row}
+use Rattle.contest_store_tables.specs.Steps.{with_rows}
 use Rattle.contest_store_tables.specs.Tables.{TableRows}
-use Rattle.contest_store_tables.specs.declared.table_name.TableName.TheVariants.{Desk, Contest, Items, Accounts, Submissions, Proposals, Releases, Rejudgings, Members, Clarifications}
+use Rattle.contest_store_tables.specs.declared.table_name.TableName.TheVariants.{Desk, Contest, Items, Accounts, Submissions, Proposals, Releases, Rejudgings, Members, Clarifications, Cells}
 
 abbrev pub by_name : Tables → TableRows
 by_name t Desk = t.desk
@@ -24,11 +28,21 @@ by_name t Releases = t.releases
 by_name t Rejudgings = t.rejudgings
 by_name t Members = t.members
 by_name t Clarifications = t.clarifications
+by_name t Cells = []
 
+-- the rows of its lists, and no cells
+abbrev pub list_rows : ContestState → TableRows
+list_rows x = by_name (rows_of x)
+
+-- the rows of its lists, and these of cells
+abbrev pub rows_with : List Row → ContestState → TableRows
+rows_with cells x = with_rows Cells cells (list_rows x)
+
+-- all its rows, with its own cells
 abbrev pub table_rows : ContestState → TableRows
-table_rows x = by_name (rows_of x)
+table_rows x = rows_with (cell_rows x) x
 
--- what a load gives of the rows: of a submission's file only its type and its size
+-- what a load gives of the rows of the lists: of a submission's file only its type and its size
 abbrev pub loaded_tables : TableRows → Tables
 loaded_tables rows = record {
   desk = rows Desk;
@@ -58,13 +72,27 @@ with_file s r = record s { file = file_in r }
 abbrev pub with_files : List Row → ContestState → ContestState
 with_files rows x = record x { submissions = map (λ p. with_file p.0 p.1) (zip x.submissions rows) }
 
--- the contest that the rows are, files and all; none where they are those of no contest
-abbrev pub contest_in : TableRows → Option ContestState
-contest_in rows = option_map (with_files (rows Submissions)) (lists_in (loaded_tables rows))
+-- the contest whose lists the rows are, files and all, whatever the cells; none where they are those of no contest
+abbrev pub listed_in : TableRows → Option ContestState
+listed_in rows = option_map (with_files (rows Submissions)) (lists_in (loaded_tables rows))
 
 abbrev pub if_valid : ContestState → Option ContestState
 if_valid x = if is_valid x then Some x else None
 
 -- and that is valid
+abbrev pub valid_listed_in : TableRows → Option ContestState
+valid_listed_in rows = option_and_then if_valid (listed_in rows)
+
+-- rows that are the same, one by one
+abbrev pub same_rows : List Row → List Row → Bool
+same_rows [] [] = true
+same_rows (r ∷ rs) (q ∷ qs) = same_row r q && same_rows rs qs
+same_rows _ _ = false
+
+-- the contest, if these are the rows of its cells
+abbrev pub if_scored : List Row → ContestState → Option ContestState
+if_scored cells x = if same_rows cells (cell_rows x) then Some x else None
+
+-- and whose cells are those of its lists: the contest that the tables show
 abbrev pub valid_contest_in : TableRows → Option ContestState
-valid_contest_in rows = option_and_then if_valid (contest_in rows)
+valid_contest_in rows = option_and_then (if_scored (rows Cells)) (valid_listed_in rows)

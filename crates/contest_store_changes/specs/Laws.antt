@@ -36,8 +36,8 @@ use Rattle.contest_store_tables.specs.Steps.{Rises}
 use Rattle.contest_store_tables.specs.Tables.{TableRows}
 use Rattle.contest_store_tables.specs.declared.row_change.RowChange.TheVariants as change
 use Rattle.contest_store_tables.specs.declared.table_name.TableName.{TableName}
-use Rattle.contest_store_tables.specs.declared.table_name.TableName.TheVariants.{Items, Accounts, Submissions, Proposals, Releases, Rejudgings, Members, Clarifications}
-use Rattle.contest_store_changes.specs.ContestTables.{table_rows, valid_contest_in}
+use Rattle.contest_store_tables.specs.declared.table_name.TableName.TheVariants.{Items, Accounts, Submissions, Proposals, Releases, Rejudgings, Members, Clarifications, Cells}
+use Rattle.contest_store_changes.specs.ContestTables.{rows_with, table_rows, valid_contest_in, valid_listed_in}
 use Rattle.contest_store_changes.specs.Kinds.{IsOfKinds}
 use Rattle.contest_store_changes.specs.OneRow.{IsOneRow, IsOneChange}
 use Rattle.contest_store_changes.specs.Sound.{IsSound}
@@ -54,8 +54,14 @@ SoundContestsReadBack = (x : ContestState) → IsSound x → valid_contest_in (t
 abbrev pub IsWide : TableName → Row → Type 0
 IsWide name row = length row ≡ length (form_of name).columns
 
--- a valid contest that rows are is sound, and these are its rows: a load shows no cell of a submission's row beyond
--- those of its columns, so it has to have none
+-- a valid contest whose lists rows are is sound, and these are its rows, whatever the cells: a load shows no cell of a
+-- submission's row beyond those of its columns, so it has to have none
+abbrev pub ListedContestsAreSound : Type 0
+ListedContestsAreSound =
+    (rows : TableRows) (x : ContestState) → Rises Accounts (rows Accounts) → AllByRecursion (IsWide Submissions) (rows Submissions) → valid_listed_in rows ≡ Some x →
+    IsSound x × (rows_with (rows Cells) x ≡ rows)
+
+-- and where the cells are its own, all rows are
 abbrev pub ValidContestsAreSound : Type 0
 ValidContestsAreSound =
     (rows : TableRows) (x : ContestState) → Rises Accounts (rows Accounts) → AllByRecursion (IsWide Submissions) (rows Submissions) → valid_contest_in rows ≡ Some x →

@@ -1,5 +1,5 @@
 //! Laws of what a change of a contest does to its tables: functions that do nothing.
-ghost use Rattle.contest_store_changes.specs.Laws.{AdditionsStaySound, SoundContestsReadBack, ValidContestsAreSound, SubmissionIsAdded, ProposalIsAdded, ReleaseIsAdded, ClarificationIsAdded, RejudgingIsAdded, MemberIsAdded, AccountIsAdded, TypeIsAdded, LanguageIsAdded, GroupIsAdded, ProblemIsAdded, TeamIsAdded, MarksAreChanged, RejudgingIsChanged, MemberIsChanged};
+ghost use Rattle.contest_store_changes.specs.Laws.{AdditionsStaySound, SoundContestsReadBack, ListedContestsAreSound, ValidContestsAreSound, SubmissionIsAdded, ProposalIsAdded, ReleaseIsAdded, ClarificationIsAdded, RejudgingIsAdded, MemberIsAdded, AccountIsAdded, TypeIsAdded, LanguageIsAdded, GroupIsAdded, ProblemIsAdded, TeamIsAdded, MarksAreChanged, RejudgingIsChanged, MemberIsChanged};
 
 /// What may be added to a sound contest leaves a sound one.
 pub fn additions_stay_sound()
@@ -11,9 +11,11 @@ pub fn sound_contests_are_read()
     ensures { SoundContestsReadBack }
 {}
 
-/// A valid contest that rows are is sound, and these are its rows.
+/// A valid contest that rows are is sound, and these are its rows; where only its lists are, the cells may be
+/// any.
 pub fn valid_contests_are_sound()
-    ensures { ValidContestsAreSound }
+    ensures whole { ValidContestsAreSound }
+    ensures listed { ListedContestsAreSound }
 {}
 
 /// A new element of a list is one row.

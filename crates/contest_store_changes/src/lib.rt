@@ -1,6 +1,7 @@
-//! Changes of a contest in its tables: what each change does to their rows.
+//! Changes of a contest in its tables: what each change does to their rows, and to those of the cells.
 #![tactic(auto)]
 
+mod cell_rows;
 mod entries;
 mod kinds;
 pub mod laws;
@@ -9,5 +10,6 @@ mod mark_rows;
 mod rejudging_rows;
 mod setting_rows;
 
+pub use cell_rows::keep_cells;
 pub use entries::append;
 pub use kinds::is_of_kinds;

@@ -6,7 +6,7 @@ ghost use Rattle.contest_store_rows.specs.ListRows.{member_row};
 ghost use Rattle.contest_store_tables.specs.Connected.{shown_by, counts_of};
 ghost use Rattle.contest_store_tables.specs.Steps.{Full, HasInserted, MakesNone, Step};
 ghost use Rattle.contest_store_tables.specs.declared.table_name.TableName.TheVariants.{Members};
-ghost use Rattle.contest_store_changes.specs.Additions.{Admits, Appends, HasAdded, HasMember};
+ghost use Rattle.contest_store_changes.specs.Additions.{Admits, Appends, HasListed, HasMember};
 ghost use Rattle.contest_store_changes.specs.Laws.{with_members, member_state_given, state_given};
 
 use crate::list_rows::{both_fit, fits};
@@ -49,7 +49,7 @@ fn add_head<S: Alter>(
     rejudging: &Rejudging,
 ) -> Result<(), StoreError>
     ensures { Step result (shown_by S.Store tables.old) (shown_by S.Store tables.new) (counts_of tables.old) (counts_of tables.new) (Admits lists.now (NewRejudging rejudging.now))
-        (HasAdded lists.now (NewRejudging (with_members rejudging.now []))) (MakesNone (shown_by S.Store tables.old) (Admits lists.now (NewRejudging rejudging.now))) }
+        (HasListed lists.now (NewRejudging (with_members rejudging.now []))) (MakesNone (shown_by S.Store tables.old) (Admits lists.now (NewRejudging rejudging.now))) }
 {
     let row = lists.rejudgings().len();
     tables.insert(

@@ -1,6 +1,6 @@
 -- What contracts see of a store that was created.
 use Rattle.std.proofs.Common.{◌≡◌, ◌∙◌, ◌⊎◌, inl, inr, ℕ, Bool, false, Some, IsTrue, ap, subst, sym}
-use Rattle.sqlite.specs.State.{HasCleanDisk, State, Survives}
+use Rattle.sqlite.specs.State.{HasCleanDisk, State}
 use Rattle.contest_types.specs.State.{ContestState, new_contest}
 use Rattle.contest_types.specs.declared.contest.Contest.{Contest}
 use Rattle.contest_types.specs.declared.contest.ContestHead.{ContestHead}
@@ -14,8 +14,8 @@ use Rattle.contest_store.specs.declared.store_error.StoreError.{StoreError}
 use Rattle.contest_store.specs.declared.store_error.StoreError.TheVariants.{Fault, Memory}
 use Rattle.contest_store_tables.specs.Connected.{IsBare}
 use Rattle.contest_store_tables.specs.declared.counts.Counts.{Counts}
-use Rattle.contest_store_sqlite.specs.Contests.{contest_in_trees, contest_of, HoldsContests}
-use Rattle.contest_store_sqlite.specs.Creation.{Created, IsMade, IsOfStore, IsReadEqual, KeepsLists, StoodEqual, StoodOther}
+use Rattle.contest_store_sqlite.specs.Contests.{contest_of, HoldsContests}
+use Rattle.contest_store_sqlite.specs.Creation.{Created, IsMade, IsOfStore, IsReadEqual, KeepsLists, LeavesWhole, StoodEqual, StoodOther}
 use Rattle.contest_store_sqlite.specs.Keeping.{kept_of, StaysCommitted, StaysHeld, StaysKept}
 use Rattle.contest_store_sqlite.specs.Opening.{HasDesk, ShowsValid}
 use Rattle.contest_store_sqlite.proofs.ShownContests.{both_are, contest_is, has_desk, keeps, shows}
@@ -46,7 +46,7 @@ module _ (x : ContestState) (head : ContestHead) (old new : State) (lists : Cont
   )
 
   module _ (c : Contest) (counts : Counts) (commits : ℕ) (is_loaded : Bool) (clean : HasCleanDisk new) where
-    pub created : x ≡ new_contest c → IsEither x head old new lists → Survives old new (λ db. contest_in_trees db ≡ Some x) → IsBare old
+    pub created : x ≡ new_contest c → IsEither x head old new lists → LeavesWhole x old new → IsBare old
         → Created c old (kept_of new counts commits is_loaded)
     created is (inl made) survives bare = record {
       shows = subst (λ y. Shows (kept_of new counts commits is_loaded) y y) is (shows new x x made.holds counts commits is_loaded);
@@ -64,7 +64,7 @@ module _ (x : ContestState) (head : ContestHead) (old new : State) (lists : Cont
             desk = read.desk;
             found = read.found;
             shows = shows new read.contest read.contest read.holds counts commits is_loaded;
-            crash = λ c left. elim (equal.survives.crash clean left.0 left.1) [ inl before ↦ (left.0, before, left.2) | inr none ↦ absurd none ];
+            crash = λ c left. elim (equal.survives.crash clean left.0 left.1) [ inl before ↦ inl (left.0, before, left.2) | inr filled ↦ inr (filled.0, filled.1, sym left.2 ∙ filled.2) ];
           };
           equal = equal.equal ∙ is;
         }

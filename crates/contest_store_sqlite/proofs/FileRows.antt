@@ -19,7 +19,7 @@ use Rattle.contest_store_tables.specs.declared.table_name.TableName.TheVariants.
 use Rattle.contest_store_changes.specs.ContestTables.{bytes_of, table_rows}
 use Rattle.contest_store_changes.specs.Sound.{IsSound}
 use Rattle.contest_store_changes.proofs.SameNumbers.{same_after, same_number}
-use Rattle.contest_store_sqlite.proofs.OwnNumbers.{named_by, none_numbered, none_teamed, one_named}
+use Rattle.contest_store_changes.proofs.OwnNumbers.{named_by, none_numbered, none_teamed, one_named}
 
 -- the row of one column
 abbrev file_row : Submission → Row

@@ -1,4 +1,4 @@
--- Valid lists that were read of rows are, with the files in the rows, the valid contest that the rows are.
+-- Valid lists that were read of rows are, with the files in the rows, the valid contest whose lists the rows are.
 use Rattle.std.proofs.Common.{◌≡◌, ◌∙◌, ◌+◌, ◌≤◌, ℕ, true, List, [], ◌∷◌, length, map, zip, Some, refl, sym, ap, ap₂, subst, arith}
 use Rattle.std.specs.Prelude.{◌&&◌, nat_le}
 use Rattle.std.specs.List.{AllByRecursion, list_all}
@@ -23,7 +23,7 @@ use Rattle.contest_store_tables.specs.Statements.{loaded_row}
 use Rattle.contest_store_tables.specs.Tables.{TableRows}
 use Rattle.contest_store_tables.specs.declared.table_name.TableName.TheVariants.{Submissions}
 use Rattle.contest_store_valid.specs.Files.{has_small_files}
-use Rattle.contest_store_changes.specs.ContestTables.{file_in, if_valid, loaded_tables, valid_contest_in, with_file, with_files}
+use Rattle.contest_store_changes.specs.ContestTables.{file_in, if_valid, loaded_tables, valid_listed_in, with_file, with_files}
 use Rattle.contest_store_changes.proofs.FiledRows.{blob_is}
 use Rattle.contest_store_sqlite.proofs.FilelessLists.{HasNoFile, lists_fileless}
 
@@ -55,7 +55,8 @@ small_files s n (x ∷ xs) (r ∷ rows) are =
 -- the contest that was found
 pub record Found (rows : TableRows) (lists : ContestState) : Type 0 where
   pub contest : ContestState
-  pub read : valid_contest_in rows ≡ Some contest
+  pub read : valid_listed_in rows ≡ Some contest
+  pub valid : is_valid contest ≡ true
   pub held : loaded contest ≡ lists
 
 pub found : (rows : TableRows) (lists : ContestState) → lists_in (loaded_tables rows) ≡ Some lists → ((x : ContestState) → loaded x ≡ lists → (true && has_small_files x) ≡ is_valid x) → Found rows lists
@@ -67,5 +68,6 @@ found rows lists is valid =
     record {
       contest = x;
       read = ap (λ o. option_and_then if_valid (option_map (with_files (rows Submissions)) o)) is ∙ (rw whole refl);
+      valid = whole;
       held = held;
     }

@@ -4,7 +4,6 @@ pub mod ShownContests
 pub mod LeaveLemmas
 pub mod KeeperLemmas
 pub mod BegunLemmas
-pub mod OwnNumbers
 pub mod FileRows
 pub mod PlaceCells
 pub mod RowsLoaded
@@ -13,8 +12,11 @@ pub mod ListsRead
 pub mod ListsGrown
 pub mod FilelessLists
 pub mod FoundContests
+pub mod SettledCells
 pub mod OpenedContests
 pub mod StoresMade
+pub mod WholeTables
 pub mod MadeRows
 pub mod MadeContests
 pub mod CreatedStores
+pub mod ScoredAdditions

@@ -9,9 +9,8 @@ use Rattle.contest_types.specs.State.{ContestState, add}
 use Rattle.contest_types.specs.declared.entry.Entry.{Entry}
 use Rattle.contest_types.specs.declared.entry.Entry.TheVariants.{NewSubmission}
 use Rattle.contest_types.specs.declared.submission.Submission.{Submission}
-use Rattle.contest_store_tables.specs.Steps.{Content, Showing, Within}
-use Rattle.contest_store_changes.specs.Additions.{Admits, HasAdded}
-use Rattle.contest_store_changes.specs.ContestTables.{table_rows}
+use Rattle.contest_store_tables.specs.Steps.{Content, Within}
+use Rattle.contest_store_changes.specs.Additions.{Admits}
 use Rattle.contest_store_sqlite.specs.Steps.{MayAdd}
 
 added_to_loaded : (x : ContestState) (e : Entry) → add (loaded x) (unfiled e) ≡ loaded (add x e)
@@ -24,10 +23,6 @@ pub lists_grown : (x : ContestState) (e : Entry) (lists next : ContestState) →
 lists_grown x e lists next held may grows =
     let still : is_addable (filed x.submissions lists) e ≡ true = subst (λ (l : ContestState). is_addable (filed x.submissions l) e ≡ true) held may in
     grows x.submissions still ∙ ap (λ (l : ContestState). add l (unfiled e)) (sym held) ∙ added_to_loaded x e
-
--- what is given up where the change was made in the tables
-pub added_within : (lists : ContestState) (e : Entry) (s : State) (now kept : Content) → HasAdded lists e s now kept → (between : Content) × Within s between kept
-added_within lists e s now kept h = (Showing (table_rows (add h.contest e)), h.within)
 
 -- what may be added to before a transaction is begun may be in it
 pub admits_within : (lists : ContestState) (e : Entry) (old mid : State) (now kept : Content) → MayAdd lists e old now kept → Within mid now kept → Admits lists e mid now kept

@@ -5,19 +5,33 @@ use Rattle.contest_lists.specs.Lists.{loaded}
 use Rattle.contest_types.specs.State.{ContestState}
 use Rattle.contest_store_fixed_rows.specs.Spelling.{lists_in}
 use Rattle.contest_store_fixed_rows.proofs.SpellingLaws.{contests_read_back}
+use Rattle.contest_store_cells.specs.CellRows.{cell_rows}
+use Rattle.contest_store_cells.proofs.CellOrder.{is_placed}
 use Rattle.contest_store_tables.specs.Steps.{Content, Holds, Showing}
 use Rattle.contest_store_tables.specs.Tables.{TableRows}
+use Rattle.contest_store_tables.specs.declared.table_name.TableName.TheVariants.{Desk, Contest, Items, Accounts, Submissions, Proposals, Releases, Rejudgings, Members, Clarifications, Cells}
 use Rattle.contest_store_changes.specs.ContestTables.{loaded_tables, table_rows}
 use Rattle.contest_store_changes.specs.Sound.{IsSound}
+use Rattle.contest_store_changes.proofs.CellRowsKept.{cells_rise}
 use Rattle.contest_store_changes.proofs.RisingRows.{rises}
 use Rattle.contest_store_changes.proofs.SoundReadings.{tables_loaded}
 use Rattle.contest_store_sqlite.specs.Loading.{AllRise}
 
 pub sound_rises : (x : ContestState) → IsSound x → AllRise (table_rows x)
-sound_rises x h = rises x h.by_id
+sound_rises x h Desk = rises x h.by_id Desk
+sound_rises x h Contest = rises x h.by_id Contest
+sound_rises x h Items = rises x h.by_id Items
+sound_rises x h Accounts = rises x h.by_id Accounts
+sound_rises x h Submissions = rises x h.by_id Submissions
+sound_rises x h Proposals = rises x h.by_id Proposals
+sound_rises x h Releases = rises x h.by_id Releases
+sound_rises x h Rejudgings = rises x h.by_id Rejudgings
+sound_rises x h Members = rises x h.by_id Members
+sound_rises x h Clarifications = rises x h.by_id Clarifications
+sound_rises x h Cells = cells_rise x (is_placed x h.valid)
 
 pub sound_is_read : (x : ContestState) → IsSound x → lists_in (loaded_tables (table_rows x)) ≡ Some (loaded x)
-sound_is_read x h = ap lists_in (tables_loaded x) ∙ contests_read_back x h.writable
+sound_is_read x h = ap lists_in (tables_loaded (cell_rows x) x) ∙ contests_read_back x h.writable
 
 -- and no others are
 pub read_sound : (s : State) (lists : ContestState) → ((now : TableRows) (kept : Content) → Holds s (Showing now) kept → AllRise now → lists_in (loaded_tables now) ≡ Some lists)

@@ -1,6 +1,6 @@
 -- A contest that is made where no table stood, and committed.
-use Rattle.std.proofs.Common.{◌≡◌, ◌∙◌, false, [], Result, Ok, Err, Some, IsTrue, ap, refl, subst, sym, arith}
-use Rattle.sqlite.specs.State.{HasCleanDisk, State, Survives}
+use Rattle.std.proofs.Common.{◌≡◌, ◌∙◌, inl, inr, false, [], Result, Ok, Err, IsTrue, ap, refl, subst, sym, arith}
+use Rattle.sqlite.specs.State.{HasCleanDisk, State}
 use Rattle.sqlite.proofs.StateLemmas.{survives_then, survives_weaker}
 use Rattle.contest_types.specs.State.{ContestState, FixedPart}
 use Rattle.contest_types.specs.declared.contest.ContestHead.{ContestHead}
@@ -14,8 +14,7 @@ use Rattle.contest_store_tables.proofs.HoldLemmas.{bare_holds, on_err}
 use Rattle.contest_store_sqlite.proofs.CallLemmas.{any_err, any_ok}
 use Rattle.contest_store_changes.specs.ContestTables.{table_rows}
 use Rattle.contest_store_changes.specs.Sound.{IsSound}
-use Rattle.contest_store_sqlite.specs.Contests.{contest_in_trees}
-use Rattle.contest_store_sqlite.specs.Creation.{HasContest, HoldsNone, IsMade, IsReadEqual, KeepsContest, MakesContest}
+use Rattle.contest_store_sqlite.specs.Creation.{HasContest, HoldsNone, IsMade, IsReadEqual, KeepsContest, KeepsLists, LeavesEither, LeavesWhole, MakesContest}
 use Rattle.contest_store_sqlite.specs.Opening.{IsRead}
 use Rattle.contest_store_sqlite.proofs.LeaveLemmas.{not_inside}
 use Rattle.contest_store_sqlite.proofs.ShownContests.{shown_is}
@@ -82,7 +81,7 @@ module _ (old new : State) (b a : Counts) (f value : FixedPart) (same : f ≡ va
 
   -- a crash leaves no other contest
   pub only_this : {T : Type 0} (r : Result T StoreError) → Call r old new b a HoldsNone (KeepsContest (without_rows f)) (MakesContest (without_rows f) old)
-      → Survives old new (λ db. contest_in_trees db ≡ Some (without_rows value))
+      → LeavesWhole (without_rows value) old new
   only_this r one = survives_weaker old new _ _ (λ _ db made. (
       let up = made.0 (not_inside old.in_transaction outside) in
       shown_is db (without_rows value) sound (made.1 (OnlyMade []) (OnlyMade []) (stood up))
@@ -100,8 +99,15 @@ module _ (old new : State) (b a : Counts) (f value : FixedPart) (same : f ≡ va
         holds = record { sound = sound; was_sound = sound; holds = (shared (Ok x) one).step.ok clean (OnlyMade []) (OnlyMade []) (stood up) };
       }
 
+-- what leaves no other contest than this leaves it, or else the one whose lists stood
+pub either_whole : (x : ContestState) (old new : State) → LeavesWhole x old new → LeavesEither x old new
+either_whole x old new = survives_weaker old new _ _ (λ _ db whole. inl whole)
+
+pub either_filled : (x : ContestState) (old new : State) → KeepsLists old new → LeavesEither x old new
+either_filled x old new = survives_weaker old new _ _ (λ _ db filled. inr filled)
+
 -- a contest that stood, whose lists have this head
-pub is_equal : (old new : State) (head : ContestHead) (lists : ContestState) → ¬ IsBare old → IsRead old new lists → lists.fixed.settings.head ≡ head → Survives old new (λ _. ⊥)
+pub is_equal : (old new : State) (head : ContestHead) (lists : ContestState) → ¬ IsBare old → IsRead old new lists → lists.fixed.settings.head ≡ head → KeepsLists old new
     → IsReadEqual head old new lists
 is_equal old new head lists stood read same survives = record {
   stood = stood;

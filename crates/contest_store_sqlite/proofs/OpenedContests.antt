@@ -1,74 +1,180 @@
 -- What is found where the tables of a desk are read.
-use Rattle.std.proofs.Common.{◌≡◌, Bool, true, false, Result, Ok, Err, Some, IsTrue, IfOk, refl, sym, subst, arith}
-use Rattle.std.specs.Prelude.{◌&&◌, OnOk}
+use Rattle.std.proofs.Common.{◌≡◌, ◌∙◌, Bool, true, false, Option, Result, Ok, Err, Some, IsTrue, IfOk, inl, inr, refl, sym, ap, subst, arith}
+use Rattle.std.specs.Prelude.{◌&&◌, IfSome, OnOk}
+use Rattle.std.specs.List.{AllByRecursion}
 use Rattle.sqlite.specs.Effect.{IsDatabase}
 use Rattle.sqlite.specs.State.{HasCleanDisk, State, Survives}
-use Rattle.sqlite.proofs.StateLemmas.{survives_weaker}
+use Rattle.sqlite.proofs.StateLemmas.{survives_then, survives_weaker}
 use Rattle.sqlite_catalog.specs.Listing.{IsSound as IsSoundDatabase}
 use Rattle.contest_types.specs.State.{ContestState}
 use Rattle.contest_types.specs.Valid.{is_valid}
 use Rattle.contest_lists.specs.Lists.{loaded}
 use Rattle.contest_store.specs.declared.store_error.StoreError.{StoreError}
 use Rattle.contest_store_fixed_rows.specs.Spelling.{lists_in}
-use Rattle.contest_store_tables.specs.Connected.{IsAtRest, IsOfDesk}
-use Rattle.contest_store_tables.specs.Steps.{AreNumbered, Call, Content, Full, Holds, MakesNone, Showing}
-use Rattle.contest_store_tables.specs.Tables.{TableRows, rows_in}
-use Rattle.contest_store_tables.specs.declared.counts.Counts.{Counts}
-use Rattle.contest_store_tables.specs.declared.table_name.TableName.TheVariants.{Accounts, Submissions}
-use Rattle.contest_store_tables.proofs.HoldLemmas.{desk_holds}
-use Rattle.contest_store_tables.proofs.SoundRows.{rises_in}
-use Rattle.contest_store_valid.specs.Files.{has_small_files}
-use Rattle.contest_store_changes.specs.ContestTables.{loaded_tables}
-use Rattle.contest_store_changes.proofs.ValidSound.{valid_sound}
-use Rattle.contest_store_changes.proofs.WideRows.{shown_are_wide}
-use Rattle.contest_store_sqlite.specs.Loading.{AllRise}
-use Rattle.contest_store_sqlite.specs.Opening.{IsRead}
+use Rattle.contest_store_cells.specs.CellRows.{cell_rows}
+use Rattle.contest_store_tables.specs.Connected.{IsAtRest, IsOfDesk, IsOfOlderDesk}
 use Rattle.contest_store_tables.specs.Numbered.{IsNumbered}
-use Rattle.contest_store_sqlite.specs.Steps.{HoldsDesk, MakesNoneOfDesk}
-use Rattle.contest_store_sqlite.proofs.FoundContests.{found}
+use Rattle.contest_store_tables.specs.Steps.{Call, Content, Holds, IsLive, MakesNone, Showing, WithoutCells, with_rows}
+use Rattle.contest_store_tables.specs.Tables.{TableRows, rows_in, without_cells}
+use Rattle.contest_store_tables.proofs.HoldLemmas.{desk_holds, older_holds}
+use Rattle.contest_store_tables.proofs.SoundRows.{older_rises_in, rises_in}
+use Rattle.contest_store_tables.specs.declared.counts.Counts.{Counts}
+use Rattle.contest_store_tables.specs.declared.table_name.TableName.TheVariants.{Accounts, Submissions, Cells}
+use Rattle.contest_store_valid.specs.Files.{has_small_files}
+use Rattle.contest_store_changes.specs.ContestTables.{list_rows, loaded_tables, table_rows, valid_listed_in}
+use Rattle.contest_store_changes.specs.Laws.{IsWide}
+use Rattle.contest_store_changes.specs.Sound.{IsSound}
+use Rattle.contest_store_changes.proofs.CellsPassed.{put_twice}
+use Rattle.contest_store_changes.proofs.ValidSound.{listed_sound}
+use Rattle.contest_store_changes.proofs.WideRows.{shown_are_wide}
+use Rattle.contest_store_sqlite.specs.Contests.{listed_in_trees}
+use Rattle.contest_store_sqlite.specs.Creation.{KeepsLists}
+use Rattle.contest_store_sqlite.specs.Loading.{AllRise}
+use Rattle.contest_store_sqlite.specs.Opening.{HasDeskTables, IsRead}
+use Rattle.contest_store_sqlite.specs.Settling.{Keeps, MakesRight, MakesRightOfTables, ReadsTables, Rising}
+use Rattle.contest_store_sqlite.specs.Steps.{HasTables, HoldsTables, content_of}
+use Rattle.contest_store_sqlite.proofs.FoundContests.{Found, found}
+use Rattle.contest_store_sqlite.proofs.ShownContests.{shown_is}
 
 not_live : {P : Type 0} (b : Bool) → b ≡ false → IsTrue b → P
 not_live true is up = absurd (cc is)
 not_live false is up = absurd (cc up)
 
-abbrev shown_of : State → Content
-shown_of s = Showing (rows_in s.now.trees)
+-- lists that were read in a transaction, and whose cells were settled and committed
+module _ {T : Type 0} (x : T) (is_older : Bool) (old mid new : State) (b m : Counts) (lists : ContestState)
+    (one : Call (Ok x) old mid b m (HoldsTables is_older) (HasTables is_older) (MakesNone old (HoldsTables is_older)))
+    (are : HasCleanDisk mid → (rows : TableRows) (kept : Content) → Holds old (content_of is_older rows) kept → AllRise rows → lists_in (loaded_tables rows) ≡ Some lists)
+    (valid : (y : ContestState) → loaded y ≡ lists → (true && has_small_files y) ≡ is_valid y) (survives : Survives mid new (MakesRight lists mid)) where
+  early : HasCleanDisk new → HasCleanDisk mid
+  early clean = omega (arith, clean, survives.clean)
 
-module _ (old new : State) (survives : Survives old new (MakesNoneOfDesk old)) (outside : old.in_transaction ≡ false)
-    (rests : IsTrue old.is_open → IsAtRest old) (desk : IsOfDesk old) (numbered : IsNumbered old) where
-  early : HasCleanDisk new → HasCleanDisk old
-  early clean = omega (arith, survives.clean)
+  its : HasCleanDisk mid → (rows : TableRows) (kept : Content) → Holds old (content_of is_older rows) kept → AllRise rows → Found rows lists
+  its clean rows kept holds up = found rows lists (are clean rows kept holds up) valid
 
-  starts : HasCleanDisk new → IsTrue old.is_open → Holds old (shown_of old) (shown_of old)
-  starts clean up = desk_holds old (rests up) desk (numbered (early clean) up desk)
-
-  -- a crash leaves no more than it could before
-  pub no_more : Survives old new (λ _. ⊥)
-  no_more = survives_weaker old new _ _ (λ clean db made. (
-      let up = made.0 (not_live old.in_transaction outside) in
-      made.1 (shown_of old) (shown_of old) (starts clean up, (rows_in old.now.trees, refl))
-      )) survives
-
-module _ (old new : State) (b a : Counts) (outside : old.in_transaction ≡ false) (rests : IsTrue old.is_open → IsAtRest old) (desk : IsOfDesk old) (sound : IsTrue old.is_open → IsDatabase old.now)
-    (numbered : IsNumbered old) where
-  pub is_read : (r : Result ContestState StoreError) → OnOk r (Call r old new b a HoldsDesk Full (MakesNone old HoldsDesk)) → HasCleanDisk new
-      → ((now : TableRows) (kept : Content) → Holds old (Showing now) kept → AllRise now → IfOk r (λ lists. lists_in (loaded_tables now) ≡ Some lists))
-      → IfOk r (λ lists. (y : ContestState) → loaded y ≡ lists → (true && has_small_files y) ≡ is_valid y) → IfOk r (IsRead old new)
-  is_read (Err e) call clean are valid = tt
-  is_read (Ok lists) call clean are valid =
-      let all = rows_in old.now.trees in
-      let before : HasCleanDisk old = omega (arith, call.step.survives.clean) in
-      let up : IsTrue old.is_open = call.up clean (not_live old.in_transaction outside) in
-      let rise : AreNumbered old.now.trees = numbered before up desk in
-      let holds = desk_holds old (rests up) desk rise in
-      let rising : AllRise all = rises_in old.now.trees (subst (λ schema. IsSoundDatabase schema old.now.trees) desk (sound up)) rise in
-      let it = found all lists (are all (Showing all) holds rising) valid in
-      let own = valid_sound all it.contest (rising Accounts) (shown_are_wide old.now.trees Submissions) it.read in
-      let later : Holds new (Showing all) (Showing all) = (call.step.ok clean (Showing all) (Showing all) (holds, (all, refl))).0.0 in
+  rising : (clean : HasCleanDisk mid) (rows : TableRows) (kept : Content) → (holds : Holds old (content_of is_older rows) kept) → (up : AllRise rows) → Rising lists mid (Showing rows) kept
+  rising clean rows kept holds up =
+      let f = its clean rows kept holds up in
       record {
-        contest = it.contest;
-        desk = desk;
-        found = it.read;
-        held = sym it.held;
-        holds = record { sound = own.0; was_sound = own.0; holds = subst (λ every. Holds new (Showing every) (Showing every)) (sym own.1) later };
+        rows = rows;
+        shown = refl;
+        within = one.step.ok clean (content_of is_older rows) kept (holds, (rows, refl)) rows refl;
+        rises = up Cells;
+        contest = f.contest;
+        valid = f.valid;
+        held = f.held;
       }
+
+  if_kept : (r : Result ContestState StoreError) {P : Type 0} (Q : ContestState → Type 0) → IfOk r (λ kept. kept ≡ lists) → OnOk r P → (P → (kept : ContestState) → kept ≡ lists → Q kept) → IfOk r Q
+  if_kept (Ok kept) Q same p f = f p kept same
+  if_kept (Err e) Q same p f = tt
+
+  pub reads_tables : (r : Result ContestState StoreError) → IfOk r (λ kept. kept ≡ lists) → Keeps r lists mid new → ReadsTables r is_older old new
+  unfolding its rising
+  reads_tables r same keeps clean rows kept holds up =
+      let h = rising (early clean) rows kept holds up in
+      let f = its (early clean) rows kept holds up in
+      if_kept r _ same (keeps clean (Showing rows) kept h) (λ done own is. (f.contest, f.read, is ∙ sym f.held, done))
+
+  pub makes_right : Survives old new (MakesRightOfTables is_older old)
+  unfolding its rising
+  makes_right =
+      survives_then old mid new _ (MakesRight lists mid) (MakesRightOfTables is_older old)
+      (λ _ db none. (none.0, λ rows kept holds up. absurd (none.1 (content_of is_older rows) kept (holds, (rows, refl)))))
+      (λ clean db made. (
+        one.up (early clean),
+        λ rows kept holds up.
+            (let f = its (early clean) rows kept holds up in
+            (f.contest, f.read, made (Showing rows) kept (rising (early clean) rows kept holds up))),
+      ))
+      one.step.survives survives
+
+-- what was found is valid as far as its files are small
+pub are_valid : (found : Option ContestState) (lists : ContestState) → found ≡ Some lists → IfSome found (λ own. (y : ContestState) → loaded y ≡ own → (true && has_small_files y) ≡ is_valid y)
+    → (y : ContestState) → loaded y ≡ lists → (true && has_small_files y) ≡ is_valid y
+are_valid found lists is valid = subst (λ o. IfSome o (λ own. (y : ContestState) → loaded y ≡ own → (true && has_small_files y) ≡ is_valid y)) is valid
+
+-- where no valid contest was found nothing is made
+pub makes_none : (is_older : Bool) (old new : State) → Survives old new (λ db. (IsLive old → IsTrue old.is_open) × MakesNone old (HoldsTables is_older) db) → Survives old new (MakesRightOfTables is_older old)
+makes_none is_older old new survives =
+    survives_weaker old new _ _ (λ _ db none. (none.0, λ rows kept holds up. absurd (none.1 (content_of is_older rows) kept (holds, (rows, refl))))) survives
+
+pub makes_none_then : (is_older : Bool) (old mid new : State) → Survives old mid (λ db. (IsLive old → IsTrue old.is_open) × MakesNone old (HoldsTables is_older) db) → Survives mid new (λ _. ⊥)
+    → Survives old new (MakesRightOfTables is_older old)
+makes_none_then is_older old mid new one two =
+    makes_none is_older old new (survives_then old mid new _ (λ _. ⊥) _ (λ _ db none. none) (λ clean db none. absurd none) one two)
+
+-- where the tables of a desk stand outside of a transaction
+module _ (old : State) (is_older : Bool) (rows : TableRows) (desk : HasDeskTables old) (outside : old.in_transaction ≡ false) (listed : listed_in_trees old.now.trees ≡ valid_listed_in rows)
+    (holds : HasCleanDisk old → IsTrue old.is_open → Holds old (content_of is_older rows) (content_of is_older rows)) (rises : HasCleanDisk old → IsTrue old.is_open → AllRise rows)
+    (wide : AllByRecursion (IsWide Submissions) (rows Submissions)) where
+  -- the rows of the contest that they show, with its cells
+  whole : (x : ContestState) → AllRise rows → valid_listed_in rows ≡ Some x → IsSound x × (with_rows Cells (cell_rows x) rows ≡ table_rows x)
+  whole x up read =
+      let own = listed_sound rows x (up Accounts) wide read in
+      (own.0, ap (with_rows Cells (cell_rows x)) (sym own.1) ∙ put_twice Cells (rows Cells) (cell_rows x) (list_rows x))
+
+  pub is_read : (new : State) (r : Result ContestState StoreError) → (HasCleanDisk new → HasCleanDisk old) → (HasCleanDisk new → IsLive old → OnOk r (IsTrue old.is_open)) → ReadsTables r is_older old new → HasCleanDisk new
+      → IfOk r (IsRead old new)
+  is_read new (Err e) early up reads clean = tt
+  is_read new (Ok lists) early up reads clean =
+      let on = up clean (not_live old.in_transaction outside) in
+      let rising = rises (early clean) on in
+      let it = reads clean rows (content_of is_older rows) (holds (early clean) on) rising in
+      let own = whole it.0 rising it.1 in
+      record {
+        contest = it.0;
+        desk = desk;
+        found = listed ∙ it.1;
+        held = it.2;
+        holds = record { sound = own.0; was_sound = own.0; holds = subst (λ (every : TableRows). Holds new (Showing every) (Showing every)) own.1 it.3 };
+      }
+
+  -- a crash leaves no more than it could before, or that contest
+  pub keeps_lists : (new : State) → Survives old new (MakesRightOfTables is_older old) → KeepsLists old new
+  keeps_lists new survives =
+      survives_weaker old new _ _ (λ clean db made.
+      (let on = made.0 (not_live old.in_transaction outside) in
+      let before : HasCleanDisk old = omega (arith, clean, survives.clean) in
+      let rising = rises before on in
+      let it = made.1 rows (content_of is_older rows) (holds before on) rising in
+      let own = whole it.0 rising it.1 in
+      (it.0, listed ∙ it.1, shown_is db it.0 own.0 (it.2 ∙ own.1))))
+      survives
+
+-- such tables, where that of the cells stands
+module _ (old : State) (is : IsOfDesk old) (outside : old.in_transaction ≡ false) (rests : IsTrue old.is_open → IsAtRest old) (sound : IsTrue old.is_open → IsDatabase old.now) (numbered : IsNumbered old) where
+  abbrev own : TableRows
+  own = rows_in old.now.trees
+
+  holds : HasCleanDisk old → IsTrue old.is_open → Holds old (Showing own) (Showing own)
+  holds clean on = desk_holds old (rests on) is (numbered.desk clean on is)
+
+  rise : HasCleanDisk old → IsTrue old.is_open → AllRise own
+  rise clean on = rises_in old.now.trees (subst (λ schema. IsSoundDatabase schema old.now.trees) is (sound on)) (numbered.desk clean on is)
+
+  pub desk_read : (new : State) (r : Result ContestState StoreError) → (HasCleanDisk new → IsLive old → OnOk r (IsTrue old.is_open)) → Survives old new (MakesRightOfTables false old) → ReadsTables r false old new → HasCleanDisk new
+      → IfOk r (IsRead old new)
+  desk_read new r up survives reads clean =
+      is_read old false own (inl is) outside refl holds rise (shown_are_wide old.now.trees Submissions) new r (λ now. omega (arith, now, survives.clean)) up reads clean
+
+  pub desk_kept : (new : State) → Survives old new (MakesRightOfTables false old) → KeepsLists old new
+  desk_kept new survives = keeps_lists old false own (inl is) outside refl holds rise (shown_are_wide old.now.trees Submissions) new survives
+
+-- and where there is none yet
+module _ (old : State) (is : IsOfOlderDesk old) (outside : old.in_transaction ≡ false) (rests : IsTrue old.is_open → IsAtRest old) (sound : IsTrue old.is_open → IsDatabase old.now) (numbered : IsNumbered old) where
+  abbrev others : TableRows
+  others = rows_in (without_cells old.now.trees)
+
+  stand : HasCleanDisk old → IsTrue old.is_open → Holds old (WithoutCells others) (WithoutCells others)
+  stand clean on = older_holds old (rests on) is (numbered.older clean on is)
+
+  climb : HasCleanDisk old → IsTrue old.is_open → AllRise others
+  climb clean on = older_rises_in old.now.trees (subst (λ schema. IsSoundDatabase schema old.now.trees) is (sound on)) (numbered.older clean on is)
+
+  pub older_read : (new : State) (r : Result ContestState StoreError) → (HasCleanDisk new → IsLive old → OnOk r (IsTrue old.is_open)) → Survives old new (MakesRightOfTables true old) → ReadsTables r true old new → HasCleanDisk new
+      → IfOk r (IsRead old new)
+  older_read new r up survives reads clean =
+      is_read old true others (inr is) outside refl stand climb (shown_are_wide (without_cells old.now.trees) Submissions) new r (λ now. omega (arith, now, survives.clean)) up reads clean
+
+  pub older_kept : (new : State) → Survives old new (MakesRightOfTables true old) → KeepsLists old new
+  older_kept new survives = keeps_lists old true others (inr is) outside refl stand climb (shown_are_wide (without_cells old.now.trees) Submissions) new survives

@@ -1,11 +1,11 @@
--- The rows of all tables, loaded one table after the other.
+-- The rows of the tables of the lists, loaded one table after the other.
 use Rattle.std.proofs.Common.{◌≡◌, ◌∙◌, ℕ, ◌+◌, ◌<◌, ◌≤◌, List, map, fold, take, get_or, Ok, sym, ap, arith}
 use Rattle.std.proofs.lemmas.List.{map-id, take_all}
 use Rattle.std.proofs.lemmas.List.Sums.{fold_more}
 use Rattle.sqlite.specs.State.{HasCleanDisk, State}
 use Rattle.sqlite_value.specs.Order.{Row}
 use Rattle.contest_store_rows.specs.Tables.{Tables}
-use Rattle.contest_store_tables.specs.Schema.{all_tables}
+use Rattle.contest_store_tables.specs.Schema.{older_tables}
 use Rattle.contest_store_tables.specs.Statements.{loaded_row}
 use Rattle.contest_store_tables.specs.Steps.{Content, Full, MakesNone, Rises, Showing, Within}
 use Rattle.contest_store_tables.specs.Tables.{TableRows}
@@ -23,13 +23,13 @@ with_table now t name = with_loaded name (map (loaded_row name) (now name)) t
 
 -- the first so many tables
 abbrev first_loaded : ℕ → TableRows → Tables
-first_loaded i now = fold (with_table now) no_rows (take i all_tables)
+first_loaded i now = fold (with_table now) no_rows (take i older_tables)
 
-next_loaded : (now : TableRows) (i : ℕ) (d : TableName) → i < 10 → first_loaded (i + 1) now ≡ with_table now (first_loaded i now) (get_or all_tables i d)
-next_loaded now i d more = fold_more (with_table now) no_rows all_tables i d more
+next_loaded : (now : TableRows) (i : ℕ) (d : TableName) → i < 10 → first_loaded (i + 1) now ≡ with_table now (first_loaded i now) (get_or older_tables i d)
+next_loaded now i d more = fold_more (with_table now) no_rows older_tables i d more
 
 -- only submissions are loaded otherwise than they stand
-ten_loaded : (now : TableRows) → fold (with_table now) no_rows all_tables ≡ loaded_tables now
+ten_loaded : (now : TableRows) → fold (with_table now) no_rows older_tables ≡ loaded_tables now
 ten_loaded now i = record {
   desk = map-id (now Desk) i;
   contest = map-id (now Contest) i;
@@ -44,7 +44,7 @@ ten_loaded now i = record {
 }
 
 all_loaded : (now : TableRows) (i : ℕ) → 10 ≤ i → first_loaded i now ≡ loaded_tables now
-all_loaded now i past = ap (fold (with_table now) no_rows) (take_all i all_tables past) ∙ ten_loaded now
+all_loaded now i past = ap (fold (with_table now) no_rows) (take_all i older_tables past) ∙ ten_loaded now
 
 -- where the rows of each table rise by its key, these are what is loaded of them
 abbrev pub AreLoaded : (old cur : State) (loaded : Tables) → (TableRows → Tables) → Type 0
@@ -67,10 +67,10 @@ LoadsTable mid new name found =
 -- and then the next
 module _ {T : Type 0} (x : T) (old mid new : State) (b m a : Counts) (i : ℕ) (d : TableName) (before after : Tables) (found : List Row)
     (one : LoadsFirst old mid b m i before) (more : i < 10) (two : Reads (Ok x) mid new m a)
-    (loads : LoadsTable mid new (get_or all_tables i d) found) (put : after ≡ with_loaded (get_or all_tables i d) found before) where
+    (loads : LoadsTable mid new (get_or older_tables i d) found) (put : after ≡ with_loaded (get_or older_tables i d) found before) where
   rows_after : AreLoaded old new after (first_loaded (i + 1))
   rows_after clean now kept within up =
-      let name = get_or all_tables i d in
+      let name = get_or older_tables i d in
       let early : HasCleanDisk mid = omega (arith, clean, two.survives.clean) in
       let is = loads clean now kept (still_within tt old mid b m now kept one.step early within) (up name) in
       put ∙ ap (λ rows. with_loaded name rows before) is ∙ ap (λ t. with_table now t name) (one.rows early now kept within up) ∙ sym (next_loaded now i d more)

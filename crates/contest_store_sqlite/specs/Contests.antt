@@ -5,12 +5,16 @@ use Rattle.sqlite.specs.Tree.{Trees}
 use Rattle.contest_types.specs.State.{ContestState, new_contest}
 use Rattle.contest_store_tables.specs.Steps.{Holds, Showing}
 use Rattle.contest_store_tables.specs.Tables.{rows_in}
-use Rattle.contest_store_changes.specs.ContestTables.{table_rows, valid_contest_in}
+use Rattle.contest_store_changes.specs.ContestTables.{table_rows, valid_contest_in, valid_listed_in}
 use Rattle.contest_store_changes.specs.Sound.{IsSound}
 
 -- the valid contest that trees show, if they show one
 abbrev pub contest_in_trees : Trees → Option ContestState
 contest_in_trees db = valid_contest_in (rows_in db)
+
+-- the valid contest whose lists trees show, whatever their cells, if they show one
+abbrev pub listed_in_trees : Trees → Option ContestState
+listed_in_trees db = valid_listed_in (rows_in db)
 
 -- what stands for the contest where trees show none, as those of a store that is shut
 abbrev pub no_contest : ContestState

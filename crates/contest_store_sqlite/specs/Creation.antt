@@ -1,5 +1,5 @@
 -- What is made where a store is created, and what is found there.
-use Rattle.std.specs.Prelude.{◌≡◌, ◌≢◌, false, [], IfSome, Some}
+use Rattle.std.specs.Prelude.{◌≡◌, ◌≢◌, ◌⊎◌, false, [], IfSome, Some}
 use Rattle.sqlite.specs.State.{State, Survives}
 use Rattle.sqlite.specs.Tree.{Trees}
 use Rattle.contest_types.specs.SetupAdditions.{IsNew}
@@ -17,7 +17,7 @@ use Rattle.contest_store_tables.specs.Steps.{Content, Holding, Holds, OnlyMade, 
 use Rattle.contest_store_tables.specs.Tables.{rows_in}
 use Rattle.contest_store_changes.specs.ContestTables.{table_rows}
 use Rattle.contest_store_changes.specs.Kinds.{IsMoment}
-use Rattle.contest_store_sqlite.specs.Contests.{contest_in_trees, HoldsContests, may_leave_of}
+use Rattle.contest_store_sqlite.specs.Contests.{contest_in_trees, HoldsContests, listed_in_trees, may_leave_of}
 use Rattle.contest_store_sqlite.specs.Opening.{IsRead, Opened}
 use Rattle.contest_store_sqlite.specs.declared.open_error.OpenError.{OpenError}
 use Rattle.contest_store_sqlite.specs.declared.open_error.OpenError.TheVariants as open_error
@@ -33,16 +33,28 @@ pub record StoodEqual (c : Contest) (s : State) (kept : Kept) : Type 0 where
   pub opened : Opened s kept
   pub equal : opened.contest.fixed.settings.head ≡ c.head
 
--- a valid contest stood with another head, and no transaction is left
+-- trees show the valid contest whose lists stood, with its cells
+abbrev pub IsFilled : State → Trees → Type 0
+IsFilled s db = (x : ContestState) × (listed_in_trees s.now.trees ≡ Some x) × (contest_in_trees db ≡ Some x)
+
+-- the lists of a valid contest stood with another head, and no transaction is left
 pub record StoodOther (head : ContestHead) (s after : State) : Type 0 where
   pub contest : ContestState
-  pub found : contest_in_trees s.now.trees ≡ Some contest
+  pub found : listed_in_trees s.now.trees ≡ Some contest
   pub other : contest.fixed.settings.head ≢ head
   pub autocommit : after.in_transaction ≡ false
 
--- a crash leaves the lists that it could leave before, and no others: nothing is committed
+-- a crash leaves what it could leave before, or the contest whose lists stood, with its cells: nothing else is committed
 abbrev pub KeepsLists : (old new : State) → Type 0
-KeepsLists old new = Survives old new (λ _. ⊥)
+KeepsLists old new = Survives old new (IsFilled old)
+
+-- a crash leaves what it could leave before, or this contest, whole
+abbrev pub LeavesWhole : ContestState → (old new : State) → Type 0
+LeavesWhole x old new = Survives old new (λ db. contest_in_trees db ≡ Some x)
+
+-- or else the one whose lists stood, with its cells
+abbrev pub LeavesEither : ContestState → (old new : State) → Type 0
+LeavesEither x old new = Survives old new (λ db. (contest_in_trees db ≡ Some x) ⊎ IsFilled old db)
 
 -- the texts and the start of a contest are of their kinds
 pub record IsOfKindsContest (c : Contest) : Type 0 where

@@ -7,3 +7,4 @@ pub mod Loading
 pub mod Steps
 pub mod Opening
 pub mod Creation
+pub mod Settling

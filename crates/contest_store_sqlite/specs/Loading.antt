@@ -1,11 +1,11 @@
--- The rows of all tables, as they are loaded one table after the other.
+-- The rows of the tables of the lists, as they are loaded one table after the other.
 use Rattle.std.specs.Prelude.{List, []}
 use Rattle.sqlite_value.specs.Order.{Row}
 use Rattle.contest_store_rows.specs.Tables.{Tables}
 use Rattle.contest_store_tables.specs.Steps.{Rises}
 use Rattle.contest_store_tables.specs.Tables.{TableRows}
 use Rattle.contest_store_tables.specs.declared.table_name.TableName.{TableName}
-use Rattle.contest_store_tables.specs.declared.table_name.TableName.TheVariants.{Desk, Contest, Items, Accounts, Submissions, Proposals, Releases, Rejudgings, Members, Clarifications}
+use Rattle.contest_store_tables.specs.declared.table_name.TableName.TheVariants.{Desk, Contest, Items, Accounts, Submissions, Proposals, Releases, Rejudgings, Members, Clarifications, Cells}
 
 -- the rows of each table rise by its key, so that they have one order
 abbrev pub AllRise : TableRows → Type 0
@@ -14,7 +14,7 @@ AllRise rows = (name : TableName) → Rises name (rows name)
 abbrev pub no_rows : Tables
 no_rows = record { desk = []; contest = []; items = []; accounts = []; submissions = []; proposals = []; releases = []; rejudgings = []; members = []; clarifications = [] }
 
--- these rows in one table
+-- these rows in one table; those of the cells aren't of the lists
 abbrev pub with_loaded : TableName → List Row → Tables → Tables
 with_loaded Desk rows t = record t { desk = rows }
 with_loaded Contest rows t = record t { contest = rows }
@@ -26,3 +26,4 @@ with_loaded Releases rows t = record t { releases = rows }
 with_loaded Rejudgings rows t = record t { rejudgings = rows }
 with_loaded Members rows t = record t { members = rows }
 with_loaded Clarifications rows t = record t { clarifications = rows }
+with_loaded Cells rows t = t

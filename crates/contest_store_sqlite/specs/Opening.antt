@@ -1,20 +1,29 @@
 -- What is found where a store is opened.
-use Rattle.std.specs.Prelude.{◌≡◌, Some, false, true}
+use Rattle.std.specs.Prelude.{◌≡◌, ◌⊎◌, Option, Some, false, true}
 use Rattle.sqlite.specs.State.{State}
 use Rattle.contest_types.specs.State.{ContestState}
 use Rattle.contest_types.specs.Valid.{is_valid}
 use Rattle.contest_store.specs.Keeping.{Kept, LeavesNoMore, Shows}
 use Rattle.contest_lists.specs.Lists.{loaded}
-use Rattle.contest_store_tables.specs.Connected.{IsOfDesk}
+use Rattle.contest_store_tables.specs.Connected.{IsOfDesk, IsOfOlderDesk}
 use Rattle.contest_store_tables.specs.Schema.{desk_schema}
-use Rattle.contest_store_sqlite.specs.Contests.{contest_in_trees, HoldsContests, may_leave_of}
+use Rattle.contest_store_sqlite.specs.Contests.{HoldsContests, listed_in_trees, may_leave_of}
 use Rattle.contest_store_sqlite.specs.Value.{StoreValue}
 
--- the lists are those of the valid contest that the tables of a desk showed, and they show it still
+-- the tables of a desk stand, and no others; those of one that was made before there was a table of the cells have none
+abbrev pub HasDeskTables : State → Type 0
+HasDeskTables s = IsOfDesk s ⊎ IsOfOlderDesk s
+
+-- what a crash while it is opened may leave: what it could leave before, or the contest whose lists stood, with its cells
+abbrev pub may_leave_filled : State → Option ContestState → Type 0
+may_leave_filled s c = may_leave_of s c ⊎ ((x : ContestState) × (listed_in_trees s.now.trees ≡ Some x) × (c ≡ Some x))
+
+-- the lists are those of the valid contest whose lists the tables of a desk showed; they show it now with its cells, as it
+-- is committed
 pub record IsRead (old new : State) (lists : ContestState) : Type 0 where
   pub contest : ContestState
-  pub desk : IsOfDesk old
-  pub found : contest_in_trees old.now.trees ≡ Some contest
+  pub desk : HasDeskTables old
+  pub found : listed_in_trees old.now.trees ≡ Some contest
   pub held : lists ≡ loaded contest
   pub holds : HoldsContests new contest contest
 
@@ -23,14 +32,14 @@ pub record HasDesk (s : State) : Type 0 where
   pub now : IsOfDesk s
   pub committed : s.committed.schema ≡ desk_schema
 
--- a store shows the valid contest that the tables of the connection showed, which were those of a desk, and a crash leaves
--- no more than it could before
+-- a store shows the valid contest whose lists the tables of the connection showed, which were those of a desk; a crash
+-- leaves no more than it could before, or that contest with its cells
 pub record Opened (s : State) (kept : Kept) : Type 0 where
   pub contest : ContestState
-  pub desk : IsOfDesk s
-  pub found : contest_in_trees s.now.trees ≡ Some contest
+  pub desk : HasDeskTables s
+  pub found : listed_in_trees s.now.trees ≡ Some contest
   pub shows : Shows kept contest contest
-  pub crash : LeavesNoMore (may_leave_of s) kept.may_leave
+  pub crash : LeavesNoMore (may_leave_filled s) kept.may_leave
 
 -- a store shows a valid contest, as it was committed
 pub record ShowsValid (kept : Kept) : Type 0 where

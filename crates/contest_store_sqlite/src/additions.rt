@@ -6,17 +6,18 @@ ghost use Rattle.contest_types.specs.State.{ContestState, add};
 ghost use Rattle.contest_store_tables.specs.Connected.{shown_by, counts_of};
 ghost use Rattle.contest_store_tables.specs.Steps.{Call, Step, MakesNone};
 ghost use Rattle.contest_store_changes.specs.Additions.{Admits, Appends, HasAdded};
+ghost use Rattle.contest_store_changes.specs.CellSteps.{HasScored, Scores};
 ghost use Rattle.contest_store_sqlite.specs.Steps.{MayAdd};
 
 use contest_store::{ScoredLists, StoreError};
-use contest_store_changes::append;
+use contest_store_changes::{append, is_of_kinds, keep_cells};
 use contest_store_tables::Tables;
 use contest_types::Entry;
 use sqlite::Alter;
 use std::alloc::{AllocError, Global};
 
-/// The lists with one change, which is made in the tables too, in a transaction, which is begun where
-/// there is none.
+/// The lists with one change, which is made in the tables too, and in their cells, in a transaction, which
+/// is begun where there is none.
 ///
 /// # Errors
 ///
@@ -51,9 +52,10 @@ fn add_within<S: Alter>(
     ensures step { Step result (shown_by S.Store tables.old) (shown_by S.Store tables.new) (counts_of tables.old) (counts_of tables.new) (Admits lists entry.now) (HasAdded lists entry.now)
         (MakesNone (shown_by S.Store tables.old) (Admits lists entry.now)) }
 {
+    is_of_kinds(entry);
     match append_scored(tables, alloc, &lists, entry) {
         Ok(()) => match lists.add(alloc, entry) {
-            Ok(changed) => Ok(changed),
+            Ok(changed) => keep_scored(tables, changed, entry),
             Err(AllocError) => Err(tables.out_of_memory()),
         },
         Err(error) => {
@@ -63,7 +65,26 @@ fn add_within<S: Alter>(
     }
 }
 
-// Makes one change in the tables of a contest with these lists.
+// The lists with a change, whose cells are written in the tables after its rows.
+fn keep_scored<S: Alter>(
+    tables: &mut Tables<S>,
+    lists: ScoredLists,
+    entry: &Entry,
+) -> Result<ScoredLists, StoreError>
+    ensures lists { IfOk result (λ kept. kept ≡ lists) }
+    ensures step { Step result (shown_by S.Store tables.old) (shown_by S.Store tables.new) (counts_of tables.old) (counts_of tables.new) (Scores lists entry.now) (HasScored entry.now)
+        (MakesNone (shown_by S.Store tables.old) (Scores lists entry.now)) }
+{
+    match keep_cells(tables, &lists, entry) {
+        Ok(()) => Ok(lists),
+        Err(error) => {
+            drop(lists);
+            Err(error)
+        }
+    }
+}
+
+// Makes one change in the tables of the lists of a contest with these lists; its cells are as they were.
 fn append_scored<S: Alter>(
     tables: &mut Tables<S>,
     alloc: Global,

@@ -1,6 +1,6 @@
 //! A contest that is set up: its tables are made where there is none, and compared where they stand.
-ghost use Rattle.std.specs.Prelude.{◌≡◌, ◌⊎◌, ◌↔◌, [], IfErr, IfOk, IfSome, IsTrue, OnOk, Some, false, true};
-ghost use Rattle.sqlite.specs.State.{HasCleanDisk, Survives};
+ghost use Rattle.std.specs.Prelude.{◌≡◌, ◌⊎◌, ◌↔◌, [], IfErr, IfOk, IfSome, IsTrue, OnOk, false, true};
+ghost use Rattle.sqlite.specs.State.{HasCleanDisk};
 ghost use Rattle.contest_types.specs.State.{new_contest};
 ghost use Rattle.contest_types.specs.Valid.{is_valid};
 ghost use Rattle.contest_store_fixed_rows.specs.Spelling.{without_rows};
@@ -8,8 +8,7 @@ ghost use Rattle.contest_store_tables.specs.Connected.{IsBare, counts_of, shown_
 ghost use Rattle.contest_store_tables.specs.Steps.{Call, HasFirst, MakesNone, Step};
 ghost use Rattle.contest_store_changes.specs.Kinds.{IsMoment};
 ghost use Rattle.contest_store_changes.specs.Sound.{IsSound};
-ghost use Rattle.contest_store_sqlite.specs.Contests.{contest_in_trees};
-ghost use Rattle.contest_store_sqlite.specs.Creation.{HasContest, HasHeadAlone, HasNoRow, HoldsNone, IsMade, IsOfKindsContest, IsOfStore, IsReadEqual, KeepsLists, KeepsContest, MakesContest, StoodOther};
+ghost use Rattle.contest_store_sqlite.specs.Creation.{HasContest, HasHeadAlone, HasNoRow, HoldsNone, IsMade, IsOfKindsContest, IsOfStore, IsReadEqual, KeepsLists, KeepsContest, LeavesEither, LeavesWhole, MakesContest, StoodOther};
 ghost use Rattle.contest_store_tables.specs.Numbered.{IsNumbered};
 
 use crate::opening::read_desk;
@@ -96,7 +95,7 @@ fn is_moment_if_any(start: Option<Moment>)
 }
 
 /// The lists of the contest with this fixed part, whose tables are made where no table stands, or of
-/// the one that stands, where its head is the same.
+/// the one that stands, where its head is the same. Cells that the one that stands lacks are filled.
 ///
 /// # Errors
 ///
@@ -118,7 +117,8 @@ pub(crate) fn make_or_read<S: Alter>(
         → IfErr result (λ e. IsOfStore e ⊎ ((e ≡ Refusal.KeyReused) × StoodOther fixed.value.settings.head (shown_by S.Store tables.old) (shown_by S.Store tables.new))) }
     ensures kinds { IfErr result (λ e. IsOfStore e ⊎ (e ≡ Refusal.KeyReused)) }
     ensures counts { OnOk result (counts_of tables.new ≡ counts_of tables.old) }
-    ensures survives { Survives (shown_by S.Store tables.old) (shown_by S.Store tables.new) (λ db. contest_in_trees db ≡ Some (without_rows fixed.value)) }
+    ensures survives { LeavesEither (without_rows fixed.value) (shown_by S.Store tables.old) (shown_by S.Store tables.new) }
+    ensures bare { IsBare (shown_by S.Store tables.old) → LeavesWhole (without_rows fixed.value) (shown_by S.Store tables.old) (shown_by S.Store tables.new) }
     ensures stood { ¬ IsBare (shown_by S.Store tables.old) → KeepsLists (shown_by S.Store tables.old) (shown_by S.Store tables.new) }
     ensures reused { IfErr result (λ e. e ≡ Refusal.KeyReused → KeepsLists (shown_by S.Store tables.old) (shown_by S.Store tables.new)) }
 {
@@ -127,7 +127,11 @@ pub(crate) fn make_or_read<S: Alter>(
             Ok(lists) => Ok(lists),
             Err(error) => Err(error.refusal()),
         },
-        Standing::Desk | Standing::Foreign => read_equal(tables, alloc, fixed.settings.head()),
+        Standing::Desk | Standing::Older | Standing::Foreign => read_equal(
+            tables,
+            alloc,
+            fixed.settings.head(),
+        ),
     }
 }
 
@@ -151,8 +155,6 @@ fn read_equal<S: Alter>(
             if has_head(lists.lists().fixed(), head) {
                 Ok(lists)
             } else {
-                // the transaction of the reads is undone
-                tables.roll_back();
                 Err(Refusal::KeyReused)
             }
         }
@@ -178,7 +180,7 @@ fn make_contest<S: Alter>(
     requires sound { IsSound (without_rows fixed.value) }
     ensures made { HasCleanDisk (shown_by S.Store tables.new) → IfOk result (IsMade (without_rows fixed.value) (shown_by S.Store tables.old) (shown_by S.Store tables.new)) }
     ensures counts { OnOk result (counts_of tables.new ≡ counts_of tables.old) }
-    ensures survives { Survives (shown_by S.Store tables.old) (shown_by S.Store tables.new) (λ db. contest_in_trees db ≡ Some (without_rows fixed.value)) }
+    ensures survives { LeavesWhole (without_rows fixed.value) (shown_by S.Store tables.old) (shown_by S.Store tables.new) }
 {
     if tables.is_in_transaction() {
         return Err(StoreError::Fault);

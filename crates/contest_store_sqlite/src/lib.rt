@@ -2,6 +2,7 @@
 #![tactic(auto)]
 
 mod additions;
+mod cells;
 mod creation;
 mod files;
 mod keeper;

@@ -15,7 +15,7 @@ ghost use Rattle.contest_store_sqlite.specs.Steps.{HoldsDesk};
 
 use contest_store::{ScoredLists, StoreError};
 use contest_store_fixed_rows::{LoadedRows, read_lists};
-use contest_store_tables::{ALL_TABLES, TableName, Tables};
+use contest_store_tables::{LIST_TABLES, TableName, Tables};
 use sqlite::{Alter, Row};
 use std::alloc::{AllocError, Global};
 
@@ -62,7 +62,8 @@ pub(crate) fn find_lists<S: Alter>(
     }
 }
 
-fn find_within<S: Alter>(
+/// The same within a transaction.
+pub(crate) fn find_within<S: Alter>(
     tables: &mut Tables<S>,
     alloc: Global,
 ) -> Result<Option<ScoredLists>, StoreError>
@@ -88,7 +89,7 @@ fn read_scored(alloc: Global, rows: &LoadedRows) -> Result<Option<ScoredLists>, 
     }
 }
 
-/// The rows of all tables, within a transaction.
+/// The rows of the tables of the lists, within a transaction.
 pub(crate) fn load_rows<S: Alter>(
     tables: &mut Tables<S>,
     alloc: Global,
@@ -97,7 +98,7 @@ pub(crate) fn load_rows<S: Alter>(
     ensures step { Step result (shown_by S.Store tables.old) (shown_by S.Store tables.new) (counts_of tables.old) (counts_of tables.new) Full Full (MakesNone (shown_by S.Store tables.old) Full) }
 {
     let mut rows = without_rows(alloc);
-    for table in ALL_TABLES {
+    for table in LIST_TABLES {
         match tables.load(table) {
             Ok(found) => put(&mut rows, table, found),
             Err(error) => return Err(error),
@@ -137,5 +138,6 @@ fn put(rows: &mut LoadedRows, table: TableName, found: Vec<Row>)
         TableName::Rejudgings => rows.rejudgings = found,
         TableName::Members => rows.members = found,
         TableName::Clarifications => rows.clarifications = found,
+        TableName::Cells => drop(found),
     }
 }

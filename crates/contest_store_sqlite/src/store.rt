@@ -47,24 +47,26 @@ impl<S: Alter> Model for Store<S> {
 impl<S: Alter> Store<S> {
     ghost use Rattle.std.specs.Prelude.{◌⊎◌, false, IfOk, IfErr, IsTrue, OnOk, Some, true};
     ghost use Rattle.sqlite.specs.Held.{state};
-    ghost use Rattle.sqlite.specs.State.{HasCleanDisk, Survives};
+    ghost use Rattle.sqlite.specs.State.{HasCleanDisk};
     ghost use Rattle.contest_types.specs.State.{new_contest};
     ghost use Rattle.contest_types.specs.Valid.{is_valid};
     ghost use Rattle.contest_store_tables.specs.Connected.{IsBare};
     ghost use Rattle.contest_store.specs.Keeping.{LeavesOnly};
-    ghost use Rattle.contest_store_sqlite.specs.Contests.{committed_of, contest_in_trees, contest_of, may_leave_of};
-    ghost use Rattle.contest_store_sqlite.specs.Creation.{Created, IsOfStore, KeepsLists, StoodEqual, StoodOther};
+    ghost use Rattle.contest_store_sqlite.specs.Contests.{committed_of, contest_of, may_leave_of};
+    ghost use Rattle.contest_store_sqlite.specs.Creation.{Created, IsOfStore, KeepsLists, LeavesEither, StoodEqual, StoodOther};
     ghost use Rattle.contest_store_sqlite.specs.Keeping.{IsTrusted};
     ghost use Rattle.contest_store_sqlite.specs.Opening.{HasDesk, IsNew, Opened, ShowsValid};
     ghost use Rattle.contest_store_tables.specs.Numbered.{IsNumbered};
     ghost use Rattle.contest_store_sqlite.specs.Value.{shown_in, stored};
 
-    /// The store over the tables of a contest, which are read at once, outside of a transaction.
+    /// The store over the tables of a contest, which are read at once, outside of a transaction. Where their
+    /// cells have no row, or no table yet, they are filled in one commit; else they have to be those of the
+    /// lists.
     ///
     /// # Errors
     ///
     /// `OpenError` says when each comes. The connection is handed back, and what is committed is as it
-    /// was.
+    /// was, but for cells that were filled.
     pub fn open(alloc: Global, conn: Connection<S>) -> Result<Store<S>, (OpenError, Connection<S>)>
         requires { IsNumbered (state S.Store conn) }
         ensures opened { IfOk result (λ store. HasCleanDisk (shown_in S.Store store) → Opened (state S.Store conn) (stored S.Store store)) }
@@ -89,16 +91,17 @@ impl<S: Alter> Store<S> {
     }
 
     /// The store over the tables of a contest that is set up. Where no table stands, they are made with
-    /// the contest in one commit. Where a valid contest stands that has the same head, nothing is
-    /// changed: its start isn't compared, for it may have been set since.
+    /// the contest in one commit. Where a valid contest stands that has the same head, it is opened as
+    /// `open` does it: its start isn't compared, for it may have been set since.
     ///
     /// # Errors
     ///
     /// `Malformed` where a number of the head is off its range or the end is no moment: nothing is
     /// touched. `KeyReused` where a contest with another head stands. `StoreFault` where other tables
     /// stand or show no valid contest, where a transaction stands, or where the connection failed;
-    /// `Memory` where a growth was refused. The connection is handed back. Nothing is committed, but
-    /// that a crash may leave the contest where no table stood and the commit failed.
+    /// `Memory` where a growth was refused. The connection is handed back. What is committed is as it
+    /// was, but for cells that were filled where a contest stands; and a crash may leave the contest
+    /// where no table stood and the commit failed.
     pub fn create(
         alloc: Global,
         conn: Connection<S>,
@@ -114,8 +117,8 @@ impl<S: Alter> Store<S> {
         ensures differs { IfErr result (λ e. HasCleanDisk (state S.Store e.1) → e.0 ≡ Refusal.KeyReused → StoodOther contest.head (state S.Store conn) (state S.Store e.1)) }
         ensures kinds { IfErr result (λ e. (e.0 ≡ Refusal.Malformed) ⊎ ((e.0 ≡ Refusal.KeyReused) ⊎ IsOfStore e.0)) }
         ensures malformed { IfErr result (λ e. e.0 ≡ Refusal.Malformed → (is_valid (new_contest contest) ≡ false) × (e.1 ≡ conn)) }
-        ensures survives { IfOk result (λ store. Survives (state S.Store conn) (shown_in S.Store store) (λ db. contest_in_trees db ≡ Some (new_contest contest))) }
-        ensures refused { IfErr result (λ e. Survives (state S.Store conn) (state S.Store e.1) (λ db. contest_in_trees db ≡ Some (new_contest contest))) }
+        ensures survives { IfOk result (λ store. LeavesEither (new_contest contest) (state S.Store conn) (shown_in S.Store store)) }
+        ensures refused { IfErr result (λ e. LeavesEither (new_contest contest) (state S.Store conn) (state S.Store e.1)) }
         ensures unmade { IfErr result (λ e. ¬ IsBare (state S.Store conn) → KeepsLists (state S.Store conn) (state S.Store e.1)) }
         ensures unchanged { IfErr result (λ e. (e.0 ≡ Refusal.KeyReused) ⊎ (e.0 ≡ Refusal.Malformed) → KeepsLists (state S.Store conn) (state S.Store e.1)) }
     {

@@ -12,6 +12,7 @@ pub mod StepLemmas
 pub mod InsertLemmas
 pub mod RowLemmas
 pub mod MakingLemmas
+pub mod OlderLemmas
 pub mod UpdateLemmas
 pub mod PlaceLemmas
 pub mod ChangeLemmas

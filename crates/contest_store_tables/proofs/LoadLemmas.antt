@@ -17,7 +17,7 @@ use Rattle.contest_store_tables.specs.Tables.{show, by_key, rows_in}
 use Rattle.contest_store_tables.specs.Statements.{load_query, loaded_row, Loads}
 use Rattle.contest_store_tables.specs.Steps.{Rises}
 use Rattle.contest_store_tables.specs.declared.table_name.TableName.{TableName}
-use Rattle.contest_store_tables.specs.declared.table_name.TableName.TheVariants.{Desk, Contest, Items, Accounts, Submissions, Proposals, Releases, Rejudgings, Members, Clarifications}
+use Rattle.contest_store_tables.specs.declared.table_name.TableName.TheVariants.{Desk, Contest, Items, Accounts, Submissions, Proposals, Releases, Rejudgings, Members, Clarifications, Cells}
 
 ones : {A B : Type 0} (f : A → B) (xs : List A) → flat_map (λ x. f x ∷ []) xs ≡ map f xs
 ones f [] = refl
@@ -27,6 +27,7 @@ ones f (x ∷ xs) = ap (λ l. f x ∷ l) (ones f xs)
 abbrev key_of : TableName → Row → Row
 key_of Items r = column r 0 ∷ column r 1 ∷ []
 key_of Members r = column r 0 ∷ column r 1 ∷ []
+key_of Cells r = column r 0 ∷ column r 1 ∷ column r 2 ∷ []
 key_of name r = column r 0 ∷ []
 
 -- a row that is shown, as the load gives it
@@ -52,6 +53,7 @@ is_read Releases = record { gives = λ r. refl; sorts = λ a b. refl; whole = λ
 is_read Rejudgings = record { gives = λ r. refl; sorts = λ a b. refl; whole = λ os. refl; over = λ db. refl }
 is_read Members = record { gives = λ r. refl; sorts = λ a b. refl; whole = λ os. refl; over = λ db. refl }
 is_read Clarifications = record { gives = λ r. refl; sorts = λ a b. refl; whole = λ os. refl; over = λ db. refl }
+is_read Cells = record { gives = λ r. refl; sorts = λ a b. refl; whole = λ os. refl; over = λ db. refl }
 
 module _ (name : TableName) (db : Trees) where
   abbrev q : Query

@@ -15,18 +15,19 @@ use Rattle.sqlite_sql.specs.Ops.{binary, is_null}
 use Rattle.sqlite_sql.proofs.QueryLemmas.{key_cmp_total}
 use Rattle.sqlite_trees.specs.Tree.{IsAscending, IsTable, rowid}
 use Rattle.sqlite_trees.specs.View.{is_int}
+use Rattle.sqlite_schema.specs.declared.schema.Constraint.{Constraint}
 use Rattle.sqlite_schema.specs.declared.schema.Constraint.TheVariants.{NotNull, Unique}
 use Rattle.sqlite_schema.specs.declared.schema.Index.{Index}
 use Rattle.sqlite_schema.specs.declared.schema.Table.{Table}
-use Rattle.sqlite_schema.specs.Rules.{equal, differ, agree, clashes, guards, has_null, passes}
+use Rattle.sqlite_schema.specs.Rules.{Keeps, equal, differ, agree, clashes, guards, has_null, passes}
 use Rattle.sqlite_rules.proofs.KeyLemmas.{agree_back, differ_back}
 use Rattle.sqlite_catalog.specs.Listing.{IsSound}
-use Rattle.sqlite_keyed.proofs.ListLemmas.{all_weaker, all_both, all_from_test, ascending-map, ascending_weaker, none_from_any}
-use Rattle.contest_store_tables.specs.Schema.{form_of, desk_schema, desk_indexes}
-use Rattle.contest_store_tables.specs.Tables.{rows_in, show, by_key}
+use Rattle.sqlite_keyed.proofs.ListLemmas.{all-append, all_weaker, all_both, all_from_test, ascending-map, ascending_weaker, none_from_any}
+use Rattle.contest_store_tables.specs.Schema.{form_of, desk_schema, desk_indexes, older_schema}
+use Rattle.contest_store_tables.specs.Tables.{rows_in, show, by_key, without_cells}
 use Rattle.contest_store_tables.specs.Steps.{AreNumbered, Rises}
 use Rattle.contest_store_tables.specs.declared.table_name.TableName.{TableName}
-use Rattle.contest_store_tables.specs.declared.table_name.TableName.TheVariants.{Desk, Contest, Items, Accounts, Submissions, Proposals, Releases, Rejudgings, Members, Clarifications}
+use Rattle.contest_store_tables.specs.declared.table_name.TableName.TheVariants.{Desk, Contest, Items, Accounts, Submissions, Proposals, Releases, Rejudgings, Members, Clarifications, Cells}
 use Rattle.contest_store_tables.proofs.RowLemmas.{at_table}
 use Rattle.contest_store_tables.proofs.StrictSort.{rises_sorted}
 
@@ -110,6 +111,10 @@ two_full : (p q rest : Bool) → (not p && (not q && rest)) ≡ true → (p || (
 two_full true q rest h = absurd (cc)
 two_full false q rest h = one_full q rest h
 
+three_full : (p q r rest : Bool) → (not p && (not q && (not r && rest))) ≡ true → (p || (q || (r || false))) ≡ false
+three_full true q r rest h = absurd (cc)
+three_full false q r rest h = two_full q r rest h
+
 -- a unique index holds no second row with its values
 abbrev is_free : Trees → Table → Row → Index → Bool
 is_free db t row i = not (guards i t && clashes i.order i.columns (db t.tree) row)
@@ -118,7 +123,7 @@ no_clash : (b : Bool) → not (true && b) ≡ true → b ≡ false
 no_clash true h = absurd (cc)
 no_clash false h = refl
 
-module _ (db : Trees) (sound : IsSound desk_schema db) (numbered : AreNumbered db) where
+module _ (db : Trees) (full_columns : Keeps NotNull desk_schema db) (once : Keeps Unique desk_schema db) (numbered : AreNumbered db) where
   -- no two rows of a tree have one key
   abbrev AreApart : TableName → Type 0
   AreApart name = IsAscending (λ a b. is_eq (place_cmp (form_of name).primary a b) ≡ false) (db (form_of name).tree)
@@ -136,8 +141,8 @@ module _ (db : Trees) (sound : IsSound desk_schema db) (numbered : AreNumbered d
       let rows = db (form_of name).tree in
       let Present = λ (t : Table) (row : Row). passes NotNull desk_schema db t row ≡ true in
       let Passing = λ (t : Table) (row : Row). list_all (is_free db t row) desk_indexes ≡ true in
-      let present = at_table (λ t. AllByRecursion (Present t) (db t.tree)) name (sound.obeys.rules NotNull) in
-      let passing = at_table (λ t. AllByRecursion (Passing t) (db t.tree)) name (sound.obeys.rules Unique) in
+      let present = at_table (λ t. AllByRecursion (Present t) (db t.tree)) name full_columns in
+      let passing = at_table (λ t. AllByRecursion (Passing t) (db t.tree)) name once in
       apart_rows (form_of name).primary rows (numbered name).0 (numbered name).1 (all_weaker (Present (form_of name)) (IsFull name) full rows present)
       (all_weaker (Passing (form_of name)) (IsAlone name) (λ row h. alone row (all_from_test (is_free db (form_of name) row) desk_indexes h)) rows passing)
 
@@ -145,6 +150,7 @@ module _ (db : Trees) (sound : IsSound desk_schema db) (numbered : AreNumbered d
   apart Items = apart_keys Items (λ row h. two_full _ _ _ h) (λ row h. no_clash _ h.0)
   apart Accounts = apart_keys Accounts (λ row h. one_full _ _ h) (λ row h. no_clash _ h.1.1.0)
   apart Members = apart_keys Members (λ row h. two_full _ _ _ h) (λ row h. no_clash _ h.1.1.1.1.1.1.1.0)
+  apart Cells = apart_keys Cells (λ row h. three_full (is_null (column row 1)) (is_null (column row 2)) (is_null (column row 3)) _ h) (λ row h. no_clash _ h.1.1.1.1.1.1.1.1.1.0)
   apart Desk = apart_numbers _ (numbered Desk).0
   apart Contest = apart_numbers _ (numbered Contest).0
   apart Submissions = apart_numbers _ (numbered Submissions).0
@@ -165,12 +171,26 @@ shown_cmp Releases a b = refl
 shown_cmp Rejudgings a b = refl
 shown_cmp Members a b = refl
 shown_cmp Clarifications a b = refl
+shown_cmp Cells a b = refl
 
 -- what each table shows rises by its key
-pub rises_in : (db : Trees) → IsSound desk_schema db → AreNumbered db → (name : TableName) → Rises name (rows_in db name)
-rises_in db sound numbered name =
+rises : (db : Trees) → Keeps NotNull desk_schema db → Keeps Unique desk_schema db → AreNumbered db → (name : TableName) → Rises name (rows_in db name)
+rises db full once numbered name =
     let t = form_of name in
     let AreUntied = λ (a b : Row). is_eq (by_key t a b) ≡ false in
-    let trees = apart db sound numbered name in
+    let trees = apart db full once numbered name in
     let rows = ascending_weaker (λ a b. is_eq (place_cmp t.primary a b) ≡ false) (λ a b. AreUntied (show t a) (show t b)) (λ a b h. ap is_eq (shown_cmp name a b) ∙ h) _ trees in
     rises_sorted (by_key t) (key_cmp_total _ 0) _ (ascending-map AreUntied (show t) _ rows)
+
+pub rises_in : (db : Trees) → IsSound desk_schema db → AreNumbered db → (name : TableName) → Rises name (rows_in db name)
+rises_in db sound numbered name = rises db (sound.obeys.rules NotNull) (sound.obeys.rules Unique) numbered name
+
+-- what the tables of an older desk keep is kept by those of a desk that has no cell
+all_keep : (rule : Constraint) (db : Trees) → AllByRecursion (λ t. AllByRecursion (λ row. passes rule desk_schema (without_cells db) t row ≡ true) (without_cells db t.tree)) older_schema.tables
+    → Keeps rule desk_schema (without_cells db)
+all_keep rule db kept =
+    all-append (λ t. AllByRecursion (λ row. passes rule desk_schema (without_cells db) t row ≡ true) (without_cells db t.tree)) older_schema.tables (form_of Cells ∷ []) kept (tt, tt)
+
+-- so what the tables of an older desk show rises by their keys
+pub older_rises_in : (db : Trees) → IsSound older_schema db → AreNumbered (without_cells db) → (name : TableName) → Rises name (rows_in (without_cells db) name)
+older_rises_in db sound numbered name = rises (without_cells db) (all_keep NotNull db (sound.obeys.rules NotNull)) (all_keep Unique db (sound.obeys.rules Unique)) numbered name

@@ -4,10 +4,10 @@ use Rattle.sqlite_tied.specs.Compute.{everything}
 use Rattle.sqlite.specs.Listing.{understood}
 use Rattle.contest_store_tables.specs.Changes.{Changes}
 use Rattle.contest_store_tables.specs.Making.{Creates}
-use Rattle.contest_store_tables.specs.declared.row_change.RowChange.TheVariants.{Marks, RejudgingState, MemberState}
+use Rattle.contest_store_tables.specs.declared.row_change.RowChange.TheVariants.{Marks, RejudgingState, MemberState, Cell}
 use Rattle.contest_store_tables.specs.Schema.{form_of}
 use Rattle.contest_store_tables.specs.Statements.{Inserts, Loads, FindsFile}
-use Rattle.contest_store_tables.specs.declared.table_name.TableName.TheVariants.{Desk, Contest, Items, Accounts, Submissions, Proposals, Releases, Rejudgings, Members, Clarifications}
+use Rattle.contest_store_tables.specs.declared.table_name.TableName.TheVariants.{Desk, Contest, Items, Accounts, Submissions, Proposals, Releases, Rejudgings, Members, Clarifications, Cells}
 
 pub desk_created : Creates Desk (codes "CREATE TABLE desk (one INTEGER PRIMARY KEY, version INTEGER NOT NULL) STRICT")
 unfolding understood everything
@@ -49,6 +49,10 @@ pub clarifications_created : Creates Clarifications (codes "CREATE TABLE clarifi
 unfolding understood everything
 clarifications_created = record { is = refl; whole = refl; plain = (refl, refl); table = record (form_of Clarifications) { tree = 0 }; defined = refl; made = refl; uncounted = refl }
 
+pub cells_created : Creates Cells (codes "CREATE TABLE cells (audience INTEGER NOT NULL, team INTEGER NOT NULL, problem TEXT NOT NULL, judged INTEGER NOT NULL, pending INTEGER NOT NULL, solved INTEGER, penalties INTEGER NOT NULL, PRIMARY KEY (audience, team, problem)) STRICT")
+unfolding understood everything
+cells_created = record { is = refl; whole = refl; plain = (refl, refl); table = record (form_of Cells) { tree = 0 }; defined = refl; made = refl; uncounted = refl }
+
 pub desk_inserted : Inserts Desk (codes "INSERT INTO desk (one, version) VALUES (?1, ?2)")
 unfolding understood everything
 desk_inserted = record { is = refl; plain = (refl, refl) }
@@ -88,6 +92,10 @@ members_inserted = record { is = refl; plain = (refl, refl) }
 pub clarifications_inserted : Inserts Clarifications (codes "INSERT INTO clarifications (seq, audience, k, from_jury, account, problem, reply, text, time, key) VALUES (?1, ?2, ?3, ?4, ?5, ?6, ?7, ?8, ?9, ?10)")
 unfolding understood everything
 clarifications_inserted = record { is = refl; plain = (refl, refl) }
+
+pub cells_inserted : Inserts Cells (codes "INSERT INTO cells (audience, team, problem, judged, pending, solved, penalties) VALUES (?1, ?2, ?3, ?4, ?5, ?6, ?7)")
+unfolding understood everything
+cells_inserted = record { is = refl; plain = (refl, refl) }
 
 pub desk_loaded : Loads Desk (codes "SELECT one, version FROM desk ORDER BY one")
 unfolding understood everything
@@ -129,6 +137,10 @@ pub clarifications_loaded : Loads Clarifications (codes "SELECT seq, audience, k
 unfolding understood everything
 clarifications_loaded = record { names = codes "seq" ∷ codes "audience" ∷ codes "k" ∷ codes "from_jury" ∷ codes "account" ∷ codes "problem" ∷ codes "reply" ∷ codes "text" ∷ codes "time" ∷ codes "key" ∷ []; is = refl; plain = (refl, refl); unlisted = refl }
 
+pub cells_loaded : Loads Cells (codes "SELECT audience, team, problem, judged, pending, solved, penalties FROM cells ORDER BY audience, team, problem")
+unfolding understood everything
+cells_loaded = record { names = codes "audience" ∷ codes "team" ∷ codes "problem" ∷ codes "judged" ∷ codes "pending" ∷ codes "solved" ∷ codes "penalties" ∷ []; is = refl; plain = (refl, refl); unlisted = refl }
+
 pub file_found : FindsFile (codes "SELECT file FROM submissions WHERE team = ?1 AND k = ?2")
 unfolding understood everything
 file_found = record { names = codes "file" ∷ []; is = refl; plain = (refl, refl); unlisted = refl }
@@ -144,3 +156,7 @@ rejudging_state_changed = record { is = refl; plain = (refl, refl) }
 pub member_state_changed : Changes MemberState (codes "UPDATE members SET type = ?3, account = ?4, ready = ?5 WHERE rejudging = ?1 AND place = ?2")
 unfolding understood everything
 member_state_changed = record { is = refl; plain = (refl, refl) }
+
+pub cell_changed : Changes Cell (codes "UPDATE cells SET judged = ?4, pending = ?5, solved = ?6, penalties = ?7 WHERE audience = ?1 AND team = ?2 AND problem = ?3")
+unfolding understood everything
+cell_changed = record { is = refl; plain = (refl, refl) }

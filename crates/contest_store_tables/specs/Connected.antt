@@ -3,7 +3,7 @@ use Rattle.std.specs.Prelude.{◌≡◌, false, [], IsTrue}
 use Rattle.sqlite.specs.State.{State}
 use Rattle.sqlite.specs.Held.{Held, state}
 use Rattle.sqlite_trees.specs.declared.store.Store.{Ghosts}
-use Rattle.contest_store_tables.specs.Schema.{desk_schema}
+use Rattle.contest_store_tables.specs.Schema.{desk_schema, older_schema}
 use Rattle.contest_store_tables.specs.declared.counts.Counts.{Counts}
 use Rattle.contest_store_tables.specs.declared.tables.Tables.{Tables}
 
@@ -23,6 +23,10 @@ IsAtRest s = IsTrue s.is_open × (s.now ≡ s.committed)
 -- the tables of a contest stand, and no others
 abbrev pub IsOfDesk : State → Type 0
 IsOfDesk s = s.now.schema ≡ desk_schema
+
+-- those of an older desk stand, and no others
+abbrev pub IsOfOlderDesk : State → Type 0
+IsOfOlderDesk s = s.now.schema ≡ older_schema
 
 -- no table stands
 abbrev pub IsBare : State → Type 0

@@ -1,5 +1,5 @@
 -- The tables of a contest, as the statements that make them leave them (SQLite, "CREATE TABLE").
-use Rattle.std.specs.Prelude.{ℕ, Bool, true, false, List, [], ◌∷◌, map, None, Some, codes}
+use Rattle.std.specs.Prelude.{ℕ, Bool, true, false, List, [], ◌∷◌, ◌++◌, map, None, Some, codes}
 use Rattle.sqlite.specs.Collation.TheVariants.{Binary}
 use Rattle.sqlite.specs.declared.types.Value.TheVariants.{Null}
 use Rattle.sqlite.specs.Table.{Table}
@@ -11,7 +11,7 @@ use Rattle.sqlite_schema.specs.declared.schema.Index.{Index}
 use Rattle.sqlite_schema.specs.declared.schema.Stamps.{Stamps}
 use Rattle.sqlite_value.specs.Keys.{plain}
 use Rattle.contest_store_tables.specs.declared.table_name.TableName.{TableName}
-use Rattle.contest_store_tables.specs.declared.table_name.TableName.TheVariants.{Desk, Contest, Items, Accounts, Submissions, Proposals, Releases, Rejudgings, Members, Clarifications}
+use Rattle.contest_store_tables.specs.declared.table_name.TableName.TheVariants.{Desk, Contest, Items, Accounts, Submissions, Proposals, Releases, Rejudgings, Members, Clarifications, Cells}
 
 abbrev pub column_of : Kind → (not_null : Bool) → List ℕ → Column
 column_of kind not_null name = record { name = name; kind = kind; is_strict = true; not_null = not_null; default = Null; collation = Binary }
@@ -93,10 +93,17 @@ form_of Members = table_of (codes "members") 15 (1 ∷ 2 ∷ []) []
 form_of Clarifications = numbered_table (codes "clarifications") 17 ((2 ∷ 3 ∷ []) ∷ [])
     (number_or_none (codes "seq") ∷ number (codes "audience") ∷ number (codes "k") ∷ number (codes "from_jury") ∷ text (codes "account") ∷ text_or_none (codes "problem")
     ∷ text_or_none (codes "reply") ∷ text (codes "text") ∷ number (codes "time") ∷ text_or_none (codes "key") ∷ [])
+form_of Cells = table_of (codes "cells") 19 (1 ∷ 2 ∷ 3 ∷ []) []
+    (number (codes "audience") ∷ number (codes "team") ∷ text (codes "problem") ∷ number (codes "judged") ∷ number (codes "pending") ∷ number_or_none (codes "solved")
+    ∷ number (codes "penalties") ∷ [])
+
+-- those of an older desk, which was made before there was a table of the cells
+abbrev pub older_tables : List TableName
+older_tables = Desk ∷ Contest ∷ Items ∷ Accounts ∷ Submissions ∷ Proposals ∷ Releases ∷ Rejudgings ∷ Members ∷ Clarifications ∷ []
 
 -- in the order in which they are made
 abbrev pub all_tables : List TableName
-all_tables = Desk ∷ Contest ∷ Items ∷ Accounts ∷ Submissions ∷ Proposals ∷ Releases ∷ Rejudgings ∷ Members ∷ Clarifications ∷ []
+all_tables = older_tables ++ Cells ∷ []
 
 -- the place of a table among them
 abbrev pub index_of : TableName → ℕ
@@ -110,17 +117,24 @@ index_of Releases = 6
 index_of Rejudgings = 7
 index_of Members = 8
 index_of Clarifications = 9
+index_of Cells = 10
 
 abbrev pub index_on : List ℕ → (tree table : ℕ) → List ℕ → Index
 index_on name tree table columns = record { name = name; tree = tree; table = table; columns = columns; order = plain; is_unique = true }
 
-abbrev pub desk_indexes : List Index
-desk_indexes =
+abbrev pub older_indexes : List Index
+older_indexes =
     index_on (codes "sqlite_autoindex_items_1") 3 2 (1 ∷ 2 ∷ []) ∷ index_on (codes "sqlite_autoindex_items_2") 4 2 (1 ∷ 3 ∷ [])
     ∷ index_on (codes "sqlite_autoindex_accounts_1") 6 5 (1 ∷ []) ∷ index_on (codes "sqlite_autoindex_accounts_2") 7 5 (4 ∷ [])
     ∷ index_on (codes "sqlite_autoindex_submissions_1") 9 8 (2 ∷ 3 ∷ []) ∷ index_on (codes "sqlite_autoindex_submissions_2") 10 8 (2 ∷ 9 ∷ [])
     ∷ index_on (codes "sqlite_autoindex_releases_1") 13 12 (2 ∷ 3 ∷ 4 ∷ []) ∷ index_on (codes "sqlite_autoindex_members_1") 16 15 (1 ∷ 2 ∷ [])
     ∷ index_on (codes "sqlite_autoindex_clarifications_1") 18 17 (2 ∷ 3 ∷ []) ∷ []
+
+abbrev pub desk_indexes : List Index
+desk_indexes = older_indexes ++ index_on (codes "sqlite_autoindex_cells_1") 20 19 (1 ∷ 2 ∷ 3 ∷ []) ∷ []
+
+abbrev pub older_schema : Schema
+older_schema = record { tables = map form_of older_tables; indexes = older_indexes; views = [] }
 
 abbrev pub desk_schema : Schema
 desk_schema = record { tables = map form_of all_tables; indexes = desk_indexes; views = [] }

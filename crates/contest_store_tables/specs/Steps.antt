@@ -17,8 +17,8 @@ use Rattle.sqlite_rules.specs.Cast.{cast_row}
 use Rattle.sqlite_trees.specs.Tree.{IsAscending, IsTable, rowid}
 use Rattle.sqlite_trees.specs.View.{is_int}
 use Rattle.contest_store.specs.declared.store_error.StoreError.{StoreError}
-use Rattle.contest_store_tables.specs.Schema.{form_of, all_tables, desk_schema}
-use Rattle.contest_store_tables.specs.Tables.{TableRows, rows_in, show, by_key}
+use Rattle.contest_store_tables.specs.Schema.{form_of, all_tables, desk_schema, older_schema}
+use Rattle.contest_store_tables.specs.Tables.{TableRows, rows_in, show, by_key, without_cells}
 use Rattle.contest_store_tables.specs.Statements.{given_terms}
 use Rattle.contest_store_tables.specs.Counts.{CountsCall}
 use Rattle.contest_store_tables.specs.declared.counts.Counts.{Counts}
@@ -32,19 +32,23 @@ schema_with = fold (λ s name. created s (form_of name)) (record { tables = []; 
 abbrev pub AreNumbered : Trees → Type 0
 AreNumbered db = (name : TableName) → IsTable (db (form_of name).tree) × AllByRecursion (λ r. IsTrue (is_int (rowid r))) (db (form_of name).tree)
 
--- what a database has: these tables alone, all of them empty, or the tables of a desk with these rows
+-- what a database has: these tables alone, all of them empty, or the tables of a desk with these rows, or those of an
+-- older desk
 pub data Content : Type 0 where
   OnlyMade : List TableName → Content
   Showing : TableRows → Content
+  WithoutCells : TableRows → Content
 
 abbrev pub HasContent : Database → Content → Type 0
 HasContent d (OnlyMade made) = (d.schema ≡ schema_with made) × AllByRecursion (λ (t : Table). d.trees t.tree ≡ []) d.schema.tables
 HasContent d (Showing rows) = (d.schema ≡ desk_schema) × (rows_in d.trees ≡ rows) × AreNumbered d.trees
+HasContent d (WithoutCells rows) = (d.schema ≡ older_schema) × (rows_in (without_cells d.trees) ≡ rows) × AreNumbered (without_cells d.trees)
 
 -- trees that show these rows; of tables without a row nothing is said
 abbrev pub Spells : Trees → Content → Type 0
 Spells db (OnlyMade made) = Unit {0}
 Spells db (Showing rows) = rows_in db ≡ rows
+Spells db (WithoutCells rows) = rows_in (without_cells db) ≡ rows
 
 -- an open connection has this content now, and this one as it was last committed
 pub record Holds (s : State) (now kept : Content) : Type 0 where
@@ -63,6 +67,10 @@ Within s now kept = Holds s now kept × IsTrue s.in_transaction
 abbrev pub Full : Holding
 Full s now kept = Within s now kept × ((rows : TableRows) × (now ≡ Showing rows))
 
+-- the tables of an older desk stand
+abbrev pub FullOlder : Holding
+FullOlder s now kept = Within s now kept × ((rows : TableRows) × (now ≡ WithoutCells rows))
+
 -- the last commit became this
 abbrev pub Ended : Holding
 Ended s now kept = Holds s now now
@@ -78,6 +86,10 @@ HasCreated count s now kept = Within s (OnlyMade (take count all_tables)) kept
 -- all tables are made, and are empty
 abbrev pub HasMade : Holding
 HasMade s now kept = Within s (Showing (λ _. [])) kept
+
+-- where the tables of an older desk stood, those of a desk do, with the same rows and no cell
+abbrev pub HasCells : Holding
+HasCells s now kept = (rows : TableRows) → now ≡ WithoutCells rows → Within s (Showing rows) kept
 
 -- these rows in place of those of one table
 abbrev pub with_rows : TableName → List Row → TableRows → TableRows

@@ -6,11 +6,13 @@ use Rattle.std.specs.declared.cmp.Ordering.{Ordering}
 use Rattle.sqlite.specs.Order.{Row, column}
 use Rattle.sqlite.specs.Table.{Table}
 use Rattle.sqlite.specs.Tree.{Trees}
+use Rattle.sqlite_trees.specs.Tree.{with_tree}
 use Rattle.sqlite_value.specs.Keys.{rising}
 use Rattle.sqlite_sql.specs.Query.{key_cmp}
 use Rattle.sqlite_keyed.specs.Lists.{sort_by}
 use Rattle.contest_store_tables.specs.Schema.{form_of}
 use Rattle.contest_store_tables.specs.declared.table_name.TableName.{TableName}
+use Rattle.contest_store_tables.specs.declared.table_name.TableName.TheVariants.{Cells}
 
 -- where its columns stand in a row of the tree, which begins with the row's number and has none in its place
 abbrev pub columns_of : Table → List ℕ
@@ -30,3 +32,7 @@ TableRows = TableName → List Row
 
 abbrev pub rows_in : Trees → TableRows
 rows_in db name = sort_by (by_key (form_of name)) (map (show (form_of name)) (db (form_of name).tree))
+
+-- the trees of an older desk, as if the table of the cells were there and had no row
+abbrev pub without_cells : Trees → Trees
+without_cells db = with_tree db (form_of Cells).tree []

@@ -37,8 +37,14 @@ pub(crate) struct IndexForm {
     pub(crate) columns: &'static [usize],
 }
 
+/// How many tables an older desk has: those that are made first.
+pub(crate) const OLDER_TABLES: usize = 10;
+
+/// And how many indexes.
+pub(crate) const OLDER_INDEXES: usize = 9;
+
 /// The tables, in the order in which they are made.
-pub(crate) static TABLE_FORMS: [TableForm; 10] = [
+pub(crate) static TABLE_FORMS: [TableForm; 11] = [
     TableForm {
         name: b"desk",
         tree: 0,
@@ -191,10 +197,26 @@ pub(crate) static TABLE_FORMS: [TableForm; 10] = [
             TextOrNone(b"key"),
         ],
     },
+    TableForm {
+        name: b"cells",
+        tree: 19,
+        key: None,
+        primary: &[1, 2, 3],
+        uniques: &[&[1, 2, 3]],
+        columns: &[
+            Number(b"audience"),
+            Number(b"team"),
+            Text(b"problem"),
+            Number(b"judged"),
+            Number(b"pending"),
+            NumberOrNone(b"solved"),
+            Number(b"penalties"),
+        ],
+    },
 ];
 
 /// The indexes, in the order in which they are made.
-pub(crate) static INDEX_FORMS: [IndexForm; 9] = [
+pub(crate) static INDEX_FORMS: [IndexForm; 10] = [
     IndexForm {
         name: b"sqlite_autoindex_items_1",
         tree: 3,
@@ -248,5 +270,11 @@ pub(crate) static INDEX_FORMS: [IndexForm; 9] = [
         tree: 18,
         table: 17,
         columns: &[2, 3],
+    },
+    IndexForm {
+        name: b"sqlite_autoindex_cells_1",
+        tree: 20,
+        table: 19,
+        columns: &[1, 2, 3],
     },
 ];

@@ -14,5 +14,5 @@ mod texts;
 pub use counts::{Counts, one_more};
 pub use row_change::RowChange;
 pub use standing::Standing;
-pub use table_name::{ALL_TABLES, TableName};
+pub use table_name::{ALL_TABLES, LIST_TABLES, TableName};
 pub use tables::Tables;

@@ -10,4 +10,6 @@ pub enum RowChange {
     RejudgingState,
     /// Type, account and ready, in a row of `Members`.
     MemberState,
+    /// Judged, pending, solved and penalties, in a row of `Cells`.
+    Cell,
 }

@@ -2,9 +2,11 @@
 ghost use Rattle.std.specs.Prelude.{◌≡◌, ◌↔◌, [], map, IsTrue};
 ghost use Rattle.sqlite_value.specs.Keys.{plain};
 ghost use Rattle.contest_store_tables.specs.Forms.{column_in, table_in, index_in};
-ghost use Rattle.contest_store_tables.specs.Schema.{no_stamps, desk_schema};
+ghost use Rattle.contest_store_tables.specs.Schema.{no_stamps, desk_schema, older_schema};
 
-use crate::forms::{ColumnForm, INDEX_FORMS, IndexForm, TABLE_FORMS, TableForm};
+use crate::forms::{
+    ColumnForm, INDEX_FORMS, IndexForm, OLDER_INDEXES, OLDER_TABLES, TABLE_FORMS, TableForm,
+};
 use sqlite_schema::code::Terms;
 use sqlite_schema::schema::{Column, Index, Kind, Schema, Stamps, Table};
 use sqlite_value::keys::{Collation, Order};
@@ -147,13 +149,30 @@ fn are_indexes(indexes: &[Index], forms: &[IndexForm]) -> bool
             .all(|(index, form)| is_index(index, form))
 }
 
+fn has_only(schema: &Schema, tables: &[TableForm], indexes: &[IndexForm]) -> bool
+    ensures { IsTrue result ↔ (schema.now ≡ record { tables = map table_in tables.now; indexes = map index_in indexes.now; views = [] }) }
+{
+    are_tables(schema.tables.as_slice(), tables)
+        && are_indexes(schema.indexes.as_slice(), indexes)
+        && schema.views.is_empty()
+}
+
 /// Whether the tables of a desk stand, and no others.
 pub(crate) fn is_of_desk(schema: &Schema) -> bool
     ensures { IsTrue result ↔ (schema.now ≡ desk_schema) }
 {
-    are_tables(schema.tables.as_slice(), &TABLE_FORMS)
-        && are_indexes(schema.indexes.as_slice(), &INDEX_FORMS)
-        && schema.views.is_empty()
+    has_only(schema, &TABLE_FORMS, &INDEX_FORMS)
+}
+
+/// Whether the tables of an older desk stand, and no others.
+pub(crate) fn is_of_older_desk(schema: &Schema) -> bool
+    ensures { IsTrue result ↔ (schema.now ≡ older_schema) }
+{
+    has_only(
+        schema,
+        &TABLE_FORMS[..OLDER_TABLES],
+        &INDEX_FORMS[..OLDER_INDEXES],
+    )
 }
 
 /// Whether no table stands.

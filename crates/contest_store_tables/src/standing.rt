@@ -7,6 +7,8 @@ pub enum Standing {
     Bare,
     /// The tables of a desk, and no others.
     Desk,
+    /// The tables of a desk but that of the cells, and no others.
+    Older,
     /// Others.
     Foreign,
 }

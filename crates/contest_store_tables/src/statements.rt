@@ -8,7 +8,7 @@ ghost use Rattle.contest_store_tables.specs.Connected.{shown_by, counts_of};
 ghost use Rattle.contest_store_tables.specs.Schema.{index_of};
 ghost use Rattle.contest_store_tables.specs.Statements.{loaded_row, files_of};
 ghost use Rattle.contest_store_tables.specs.declared.table_name.TableName.TheVariants.{Submissions};
-ghost use Rattle.contest_store_tables.specs.Steps.{Call, Step, Content, Showing, Holds, Within, Full, Ended, Rises, HasFirst, HasCreated, HasMade, HasInserted, MakesNone, MakesNow};
+ghost use Rattle.contest_store_tables.specs.Steps.{Call, Step, Content, Showing, Holds, Within, Full, FullOlder, Ended, Rises, HasFirst, HasCreated, HasMade, HasCells, HasInserted, MakesNone, MakesNow};
 ghost use Rattle.contest_store_tables.specs.Tables.{TableRows};
 
 use crate::table_name::ALL_TABLES;
@@ -49,6 +49,15 @@ impl<S: Alter> Tables<S> {
             }
         }
         Ok(())
+    }
+
+    /// Makes the table of the cells, which is empty then, within a transaction in which the tables of an
+    /// older desk stand.
+    pub fn make_cells(&mut self) -> Result<(), StoreError>
+        ensures { Step result (shown_by S.Store self.old) (shown_by S.Store self.new) (counts_of self.old) (counts_of self.new) FullOlder HasCells
+            (MakesNone (shown_by S.Store self.old) FullOlder) }
+    {
+        self.execute(create_text(TableName::Cells), &[])
     }
 
     /// Inserts a row into a table, within a transaction.

@@ -23,10 +23,12 @@ pub enum TableName {
     Members,
     /// The clarifications.
     Clarifications,
+    /// The cells of the teams at the problems, under either mask.
+    Cells,
 }
 
-/// All tables, in the order in which they are made.
-pub const ALL_TABLES: [TableName; 10] = [
+/// The tables of the lists, in the order in which they are made: all but that of the cells.
+pub const LIST_TABLES: [TableName; 10] = [
     TableName::Desk,
     TableName::Contest,
     TableName::Items,
@@ -37,4 +39,19 @@ pub const ALL_TABLES: [TableName; 10] = [
     TableName::Rejudgings,
     TableName::Members,
     TableName::Clarifications,
+];
+
+/// All tables, in the order in which they are made.
+pub const ALL_TABLES: [TableName; 11] = [
+    TableName::Desk,
+    TableName::Contest,
+    TableName::Items,
+    TableName::Accounts,
+    TableName::Submissions,
+    TableName::Proposals,
+    TableName::Releases,
+    TableName::Rejudgings,
+    TableName::Members,
+    TableName::Clarifications,
+    TableName::Cells,
 ];

@@ -30,6 +30,8 @@ pub(crate) fn create_text(table: TableName) -> &'static str
             "CREATE TABLE members (rejudging INTEGER NOT NULL, place INTEGER NOT NULL, team INTEGER NOT NULL, k INTEGER NOT NULL, type TEXT, account TEXT, ready INTEGER NOT NULL, PRIMARY KEY (rejudging, place)) STRICT",
         TableName::Clarifications =>
             "CREATE TABLE clarifications (seq INTEGER PRIMARY KEY, audience INTEGER NOT NULL, k INTEGER NOT NULL, from_jury INTEGER NOT NULL, account TEXT NOT NULL, problem TEXT, reply TEXT, text TEXT NOT NULL, time INTEGER NOT NULL, key TEXT, UNIQUE (audience, k)) STRICT",
+        TableName::Cells =>
+            "CREATE TABLE cells (audience INTEGER NOT NULL, team INTEGER NOT NULL, problem TEXT NOT NULL, judged INTEGER NOT NULL, pending INTEGER NOT NULL, solved INTEGER, penalties INTEGER NOT NULL, PRIMARY KEY (audience, team, problem)) STRICT",
     }
 }
 
@@ -56,6 +58,8 @@ pub(crate) fn insert_text(table: TableName) -> &'static str
             "INSERT INTO members (rejudging, place, team, k, type, account, ready) VALUES (?1, ?2, ?3, ?4, ?5, ?6, ?7)",
         TableName::Clarifications =>
             "INSERT INTO clarifications (seq, audience, k, from_jury, account, problem, reply, text, time, key) VALUES (?1, ?2, ?3, ?4, ?5, ?6, ?7, ?8, ?9, ?10)",
+        TableName::Cells =>
+            "INSERT INTO cells (audience, team, problem, judged, pending, solved, penalties) VALUES (?1, ?2, ?3, ?4, ?5, ?6, ?7)",
     }
 }
 
@@ -80,6 +84,8 @@ pub(crate) fn load_text(table: TableName) -> &'static str
             "SELECT rejudging, place, team, k, type, account, ready FROM members ORDER BY rejudging, place",
         TableName::Clarifications =>
             "SELECT seq, audience, k, from_jury, account, problem, reply, text, time, key FROM clarifications ORDER BY seq",
+        TableName::Cells =>
+            "SELECT audience, team, problem, judged, pending, solved, penalties FROM cells ORDER BY audience, team, problem",
     }
 }
 
@@ -93,6 +99,8 @@ pub(crate) fn change_text(change: RowChange) -> &'static str
         RowChange::RejudgingState => "UPDATE rejudgings SET state = ?2 WHERE n = ?1",
         RowChange::MemberState =>
             "UPDATE members SET type = ?3, account = ?4, ready = ?5 WHERE rejudging = ?1 AND place = ?2",
+        RowChange::Cell =>
+            "UPDATE cells SET judged = ?4, pending = ?5, solved = ?6, penalties = ?7 WHERE audience = ?1 AND team = ?2 AND problem = ?3",
     }
 }
 

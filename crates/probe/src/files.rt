@@ -57,7 +57,7 @@ fn bare<S: Alter + Drop>(conn: Connection<S>) -> Result<Connection<S>, Refusal>
     let tables = Tables::new(conn);
     match tables.standing() {
         Standing::Bare => Ok(tables.into_connection()),
-        Standing::Desk | Standing::Foreign => Err(Refusal::KeyReused),
+        Standing::Desk | Standing::Older | Standing::Foreign => Err(Refusal::KeyReused),
     }
 }
 

@@ -5,6 +5,8 @@
 #[cfg(test)]
 mod changes;
 #[cfg(test)]
+mod older;
+#[cfg(test)]
 mod rows;
 #[cfg(test)]
 mod sixteen;

@@ -11,9 +11,9 @@ struct Case {
     standing: Standing,
 }
 
-const DROP: &str = "DROP TABLE clarifications";
+const DROP: &str = "DROP TABLE cells";
 
-static CASES: [Case; 9] = [
+static CASES: [Case; 11] = [
     Case {
         is_made: false,
         statements: &[],
@@ -46,12 +46,24 @@ static CASES: [Case; 9] = [
         statements: &["CREATE VIEW versions AS SELECT version FROM desk"],
         standing: Standing::Foreign,
     },
+    // without the cells
+    Case {
+        is_made: true,
+        statements: &[DROP],
+        standing: Standing::Older,
+    },
+    // and without the clarifications
+    Case {
+        is_made: true,
+        statements: &[DROP, "DROP TABLE clarifications"],
+        standing: Standing::Foreign,
+    },
     // as it was
     Case {
         is_made: true,
         statements: &[
             DROP,
-            "CREATE TABLE clarifications (seq INTEGER PRIMARY KEY, audience INTEGER NOT NULL, k INTEGER NOT NULL, from_jury INTEGER NOT NULL, account TEXT NOT NULL, problem TEXT, reply TEXT, text TEXT NOT NULL, time INTEGER NOT NULL, key TEXT, UNIQUE (audience, k)) STRICT",
+            "CREATE TABLE cells (audience INTEGER NOT NULL, team INTEGER NOT NULL, problem TEXT NOT NULL, judged INTEGER NOT NULL, pending INTEGER NOT NULL, solved INTEGER, penalties INTEGER NOT NULL, PRIMARY KEY (audience, team, problem)) STRICT",
         ],
         standing: Standing::Desk,
     },
@@ -60,16 +72,16 @@ static CASES: [Case; 9] = [
         is_made: true,
         statements: &[
             DROP,
-            "CREATE TABLE clarifications (seq INTEGER PRIMARY KEY, audience INTEGER NOT NULL, k INTEGER NOT NULL, from_jury INTEGER NOT NULL, account TEXT NOT NULL, problem TEXT, reply TEXT, text TEXT NOT NULL, time INTEGER NOT NULL, key TEXT, more TEXT, UNIQUE (audience, k)) STRICT",
+            "CREATE TABLE cells (audience INTEGER NOT NULL, team INTEGER NOT NULL, problem TEXT NOT NULL, judged INTEGER NOT NULL, pending INTEGER NOT NULL, solved INTEGER, penalties INTEGER NOT NULL, more TEXT, PRIMARY KEY (audience, team, problem)) STRICT",
         ],
         standing: Standing::Foreign,
     },
-    // with a time that may be missing
+    // with a count that may be missing
     Case {
         is_made: true,
         statements: &[
             DROP,
-            "CREATE TABLE clarifications (seq INTEGER PRIMARY KEY, audience INTEGER NOT NULL, k INTEGER NOT NULL, from_jury INTEGER NOT NULL, account TEXT NOT NULL, problem TEXT, reply TEXT, text TEXT NOT NULL, time INTEGER, key TEXT, UNIQUE (audience, k)) STRICT",
+            "CREATE TABLE cells (audience INTEGER NOT NULL, team INTEGER NOT NULL, problem TEXT NOT NULL, judged INTEGER, pending INTEGER NOT NULL, solved INTEGER, penalties INTEGER NOT NULL, PRIMARY KEY (audience, team, problem)) STRICT",
         ],
         standing: Standing::Foreign,
     },

@@ -2,7 +2,7 @@ use Rattle.std.proofs.Common.{◌≡◌, Some, inl, refl, subst}
 use Rattle.sqlite.specs.Held.{state}
 use Rattle.sqlite.specs.State.{HasCleanDisk}
 use Rattle.contest_streams.specs.Streams.{stream}
-use Rattle.contest_store_sqlite.specs.Contests.{contest_in_trees, may_leave_of}
+use Rattle.contest_store_sqlite.specs.Contests.{listed_in_trees, may_leave_of}
 use Rattle.contest_store_sqlite.specs.Keeping.{IsTrusted}
 use Rattle.contest_store_sqlite.specs.Value.{stored}
 use Rattle.contest_cli_words.specs.declared.command_error.CommandError.TheVariants.{Refused}
@@ -25,7 +25,7 @@ pub returns-in-Err : goal.returns-in-Err
 returns-in-Err g c =
     let old = state g.S.Store c.args.conn in
     record {
-      told = cut_off _ (λ x. contest_in_trees old.now.trees ≡ Some x) _ _ _ _ (Refused c.refusal.result) c.refuse.result (inl (of_open c.refusal.result c.refusal.ensures.kinds)) refl
+      told = cut_off _ (λ x. listed_in_trees old.now.trees ≡ Some x) _ _ _ _ (Refused c.refusal.result) c.refuse.result (inl (of_open c.refusal.result c.refusal.ensures.kinds)) refl
           (inl (keeps_same (stream g.O.Write.contents c.args.out.now).bytes)) c.refuse.ensures.status c.refuse.ensures.told;
       leaves = leaves_no_more old (state g.S.Store c.in-Err.conn) c.in-Err.ensures.refused;
     }

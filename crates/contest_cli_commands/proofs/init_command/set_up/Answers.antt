@@ -3,7 +3,7 @@ use Rattle.sqlite.specs.Held.{state}
 use Rattle.sqlite.specs.State.{HasCleanDisk}
 use Rattle.contest_store.specs.Keeping.{LeavesOnly}
 use Rattle.contest_store_sqlite.specs.Contests.{committed_of, may_leave_of}
-use Rattle.contest_cli_commands.specs.Init.{Sets}
+use Rattle.contest_cli_commands.specs.Init.{LeavesNew, Sets}
 use Rattle.contest_cli_commands.proofs.InitLemmas.{refused_stops, sets}
 use Rattle.contest_cli_commands.proofs.init_command.set_up.Goals as goal
 
@@ -21,3 +21,7 @@ pub returns-in-Err-clause-err : goal.returns-in-Err-clause-err
 returns-in-Err-clause-err g c =
     refused_stops c.args.contest (state g.S.Store c.args.conn) (state g.S.Store c.in-Err.conn) _ c.in-Err.refusal c.requires.valid
     c.in-Err.ensures.kinds c.in-Err.ensures.malformed c.in-Err.ensures.differs
+
+pub returns-in-Ok-clause-leaves : goal.returns-in-Ok-clause-leaves
+returns-in-Ok-clause-leaves g c =
+    subst (λ conn. LeavesNew c.args.contest (state g.S.Store c.args.conn) (state g.S.Store conn)) (sym c.into_connection.ensures.connection) c.in-Ok.ensures.survives

@@ -1,7 +1,7 @@
 use Rattle.std.proofs.Common.{◌≡◌, Some, inl, subst}
 use Rattle.sqlite.specs.Held.{state}
 use Rattle.sqlite.specs.State.{HasCleanDisk}
-use Rattle.contest_store_sqlite.specs.Contests.{contest_in_trees, may_leave_of}
+use Rattle.contest_store_sqlite.specs.Contests.{listed_in_trees, may_leave_of}
 use Rattle.contest_store_sqlite.specs.Keeping.{IsTrusted}
 use Rattle.contest_store_sqlite.specs.Value.{stored}
 use Rattle.contest_cli_commands.proofs.PrintLemmas.{leaves_no_more, of_open, shown_by_desk, stopped}
@@ -22,6 +22,6 @@ pub returns-in-Err : goal.returns-in-Err
 returns-in-Err g c =
     let old = state g.S.Store c.args.conn in
     record {
-      told = stopped _ (λ x. contest_in_trees old.now.trees ≡ Some x) c.args.now c.args.asked _ _ _ _ _ (λ _. inl (of_open c.refusal.result c.refusal.ensures.kinds)) c.refuse.ensures.status c.refuse.ensures.told;
+      told = stopped _ (λ x. listed_in_trees old.now.trees ≡ Some x) c.args.now c.args.asked _ _ _ _ _ (λ _. inl (of_open c.refusal.result c.refusal.ensures.kinds)) c.refuse.ensures.status c.refuse.ensures.told;
       leaves = leaves_no_more old (state g.S.Store c.in-Err.conn) c.in-Err.ensures.refused;
     }

@@ -4,7 +4,7 @@ use Rattle.contest_types.specs.State.{ContestState}
 use Rattle.contest_types.specs.declared.entry.Entry.TheVariants.{NewRelease}
 use Rattle.contest_types.specs.declared.fixed.Fixed.{Fixed}
 use Rattle.contest_store_tables.specs.Connected.{counts_of, shown_by}
-use Rattle.contest_store_changes.specs.Additions.{HasAdded}
+use Rattle.contest_store_changes.specs.Additions.{HasListed}
 use Rattle.contest_store_tables.specs.declared.table_name.TableName.TheVariants.{Releases}
 use Rattle.contest_store_changes.proofs.AppendLemmas.{adds_row, never_admitted, unfit}
 use Rattle.contest_store_changes.proofs.AppendedRows.{adds_release}
@@ -27,5 +27,5 @@ returns-then-not-release_fits g c =
     let row = c.args.release.now in
     let rows = c.releases-row.result.now in
     let room : length rows + 2 < 2 ^ 63 = search rules in
-    never_admitted c.insert.result (shown_by g.S.Store c.args.tables.now) (shown_by g.S.Store c.insert.new.self) (counts_of c.args.tables.now) (counts_of c.insert.new.self) lists (NewRelease row) _ (HasAdded lists (NewRelease row))
+    never_admitted c.insert.result (shown_by g.S.Store c.args.tables.now) (shown_by g.S.Store c.insert.new.self) (counts_of c.args.tables.now) (counts_of c.insert.new.self) lists (NewRelease row) _ (HasListed lists (NewRelease row))
     (λ x sound held may. unfit c.if-not-release_fits.ensures (release_fits x row sound may (subst (λ (vs : List Release). length vs + 2 < 2 ^ 63) (c.releases-row.ensures ∙ ap (λ (l : ContestState). l.releases) (sym held)) room))) c.insert.ensures

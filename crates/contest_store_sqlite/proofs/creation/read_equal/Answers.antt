@@ -1,5 +1,4 @@
-use Rattle.std.proofs.Common.{◌∙◌, ap, refl, rules, sym}
-use Rattle.sqlite.proofs.StateLemmas.{survives_then}
+use Rattle.std.proofs.Common.{◌∙◌, ap, refl, sym}
 use Rattle.contest_types.specs.State.{ContestState, FixedPart}
 use Rattle.contest_store_tables.specs.Connected.{shown_by}
 use Rattle.contest_store_sqlite.proofs.MadeContests.{is_equal}
@@ -9,8 +8,3 @@ pub returns-then-has_head-clause-equal : goal.returns-then-has_head-clause-equal
 returns-then-has_head-clause-equal g c clean =
     is_equal (shown_by g.S.Store c.args.tables.now) (shown_by g.S.Store c.read_desk.new.tables) c.args.head.now c.in-Ok.lists c.requires.stood (c.in-Ok.ensures.read clean)
     (ap (λ (f : FixedPart). f.settings.head) (sym (c.fixed.ensures ∙ ap (λ (x : ContestState). x.fixed) c.lists-in-Ok.ensures)) ∙ c.if-has_head.ensures.0 refl) c.in-Ok.ensures.survives
-
-pub returns-else-has_head-clause-survives : goal.returns-else-has_head-clause-survives
-returns-else-has_head-clause-survives g c =
-    survives_then (shown_by g.S.Store c.args.tables.now) (shown_by g.S.Store c.read_desk.new.tables) _ _ _ _ (λ _ _ none. none) (λ _ _ none. none)
-    c.in-Ok.ensures.survives (search rules)

@@ -1,4 +1,4 @@
-use Rattle.contest_store_tables.proofs.TextMeanings.{marks_changed, rejudging_state_changed, member_state_changed}
+use Rattle.contest_store_tables.proofs.TextMeanings.{marks_changed, rejudging_state_changed, member_state_changed, cell_changed}
 use Rattle.contest_store_tables.proofs.texts.change_text.Goals as goal
 
 pub returns-in-Marks : goal.returns-in-Marks
@@ -9,3 +9,6 @@ returns-in-RejudgingState c = rw c.in-RejudgingState.is rejudging_state_changed
 
 pub returns-in-MemberState : goal.returns-in-MemberState
 returns-in-MemberState c = rw c.in-MemberState.is member_state_changed
+
+pub returns-in-Cell : goal.returns-in-Cell
+returns-in-Cell c = rw c.in-Cell.is cell_changed

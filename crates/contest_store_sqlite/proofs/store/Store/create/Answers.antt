@@ -1,11 +1,10 @@
-use Rattle.std.proofs.Common.{◌≡◌, Some, true, ap, subst, subst₂, sym}
-use Rattle.sqlite.specs.State.{HasCleanDisk, Survives}
+use Rattle.std.proofs.Common.{true, ap, subst, subst₂, sym}
+use Rattle.sqlite.specs.State.{HasCleanDisk}
 use Rattle.sqlite.specs.Held.{state}
 use Rattle.contest_types.specs.State.{ContestState}
 use Rattle.contest_store_fixed_rows.specs.Spelling.{without_rows}
 use Rattle.contest_store_tables.specs.Connected.{IsBare, counts_of, shown_by}
-use Rattle.contest_store_sqlite.specs.Contests.{contest_in_trees}
-use Rattle.contest_store_sqlite.specs.Creation.{Created, KeepsLists, StoodEqual, StoodOther}
+use Rattle.contest_store_sqlite.specs.Creation.{Created, KeepsLists, LeavesEither, StoodEqual, StoodOther}
 use Rattle.contest_store_sqlite.specs.Keeping.{kept_of}
 use Rattle.contest_store_sqlite.proofs.CreatedStores.{created, created_whole, either_desk, either_valid, keeps_lists, not_set_up, stood_equal, stood_other, told}
 use Rattle.contest_store_sqlite.proofs.store.Store.create.Goals as goal
@@ -20,9 +19,10 @@ returns-in-Ok-make_or_read-clause-created g c clean bare =
     let old = shown_by g.S.Store c.new-tables.result in
     let new = shown_by g.S.Store c.make_or_read.new.tables in
     let same = c.new-tables.ensures.connection in
+    let was_bare = subst (λ conn. IsBare (state g.S.Store conn)) (sym same) bare in
     subst (λ conn. Created c.args.contest (state g.S.Store conn) (kept_of new (counts_of c.make_or_read.new.tables) 0 true)) same
     (created (without_rows c.in-Ok.fixed.value) c.in-Ok.fixed.value.settings.head old new c.in-Ok-make_or_read.lists c.args.contest (counts_of c.make_or_read.new.tables) 0 true clean
-    c.in-Ok.ensures.value (c.in-Ok-make_or_read.ensures.outcome clean) c.make_or_read.ensures.survives (subst (λ conn. IsBare (state g.S.Store conn)) (sym same) bare))
+    c.in-Ok.ensures.value (c.in-Ok-make_or_read.ensures.outcome clean) (c.make_or_read.ensures.bare was_bare) was_bare)
 
 pub returns-in-Ok-make_or_read-clause-shows : goal.returns-in-Ok-make_or_read-clause-shows
 returns-in-Ok-make_or_read-clause-shows g c clean =
@@ -42,7 +42,7 @@ returns-in-Ok-make_or_read-clause-stood g c clean other =
 pub returns-in-Ok-make_or_read-clause-survives : goal.returns-in-Ok-make_or_read-clause-survives
 returns-in-Ok-make_or_read-clause-survives g c =
     let new = shown_by g.S.Store c.make_or_read.new.tables in
-    subst₂ (λ conn x. Survives (state g.S.Store conn) new (λ db. contest_in_trees db ≡ Some x)) c.new-tables.ensures.connection c.in-Ok.ensures.value c.make_or_read.ensures.survives
+    subst₂ (λ conn x. LeavesEither x (state g.S.Store conn) new) c.new-tables.ensures.connection c.in-Ok.ensures.value c.make_or_read.ensures.survives
 
 pub returns-in-Err-make_or_read-clause-differs : goal.returns-in-Err-make_or_read-clause-differs
 returns-in-Err-make_or_read-clause-differs g c clean is =

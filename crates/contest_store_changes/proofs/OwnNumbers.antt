@@ -18,7 +18,7 @@ use Rattle.contest_types.proofs.SettingsTest.{at_most}
 use Rattle.contest_types.proofs.SetupLemmas.{all_wider}
 use Rattle.contest_types.proofs.ValidParts.{four, parts}
 
-abbrev number_of : Submission → ℕ
+abbrev pub number_of : Submission → ℕ
 number_of s = s.number
 
 abbrev with_number : ℕ → List Submission → List Submission
@@ -37,10 +37,10 @@ both_tests p q (x ∷ xs) =
     go (p x)
 
 -- rows that count up from a number
-first_is : (n k m : ℕ) (ns : List ℕ) → n ∷ ns ≡ range_with_len k (suc m) → n ≡ k
+pub first_is : (n k m : ℕ) (ns : List ℕ) → n ∷ ns ≡ range_with_len k (suc m) → n ≡ k
 first_is n k m ns e = cc e
 
-rest_is : (n k m : ℕ) (ns : List ℕ) → n ∷ ns ≡ range_with_len k (suc m) → ns ≡ range_with_len (k + 1) m
+pub rest_is : (n k m : ℕ) (ns : List ℕ) → n ∷ ns ≡ range_with_len k (suc m) → ns ≡ range_with_len (k + 1) m
 rest_is n k m ns e = cc e
 
 -- a number that is none of so many from k on
@@ -77,9 +77,9 @@ at_most_one k n (s ∷ ss) up =
     go (s.number == n) refl
 
 -- a team's submissions, of a valid contest
-record CountsUp (own : List Submission) : Type 0 where
-  up : map number_of own ≡ range_with_len 1 (length own)
-  few : length own ≤ TEAM_SUBMISSIONS
+pub record CountsUp (own : List Submission) : Type 0 where
+  pub up : map number_of own ≡ range_with_len 1 (length own)
+  pub few : length own ≤ TEAM_SUBMISSIONS
 
 counts_up : (own : List Submission) → are_valid_submissions own ≡ true → CountsUp own
 counts_up own series =
@@ -90,7 +90,7 @@ counts_up own series =
     let all : numbers ≡ range_with_len 1 (length numbers) = (bytes_eq-Decides numbers (range_with_len 1 (length numbers))).0 tests.first in
     record { up = all ∙ ap (range_with_len 1) (length-map own number_of); few = at_most (length own) TEAM_SUBMISSIONS tests.fourth }
 
-own_counts : (x : ContestState) (team : ℕ) → is_valid x ≡ true → CountsUp (submissions_of team x.submissions)
+pub own_counts : (x : ContestState) (team : ℕ) → is_valid x ≡ true → CountsUp (submissions_of team x.submissions)
 own_counts x team valid =
     let any : Submission = record { team = team; number = 0; time = 0; problem = 0; language = 0; entry_point = None; file = []; key = None } in
     counts_up (submissions_of team x.submissions)

@@ -1,0 +1,4 @@
+pub mod CellRows
+pub mod CellLaws
+pub mod PlacedCells
+pub mod Listing

@@ -1,0 +1,16 @@
+use Rattle.contest_store_fixed_rows.specs.Spelling.{without_rows}
+use Rattle.contest_store_tables.specs.Connected.{shown_by}
+use Rattle.contest_store_sqlite.proofs.MadeContests.{either_filled, either_whole}
+use Rattle.contest_store_sqlite.proofs.creation.make_or_read.Goals as goal
+
+pub returns-in-Ok-clause-survives : goal.returns-in-Ok-clause-survives
+returns-in-Ok-clause-survives g c =
+    either_whole (without_rows c.args.fixed.value) (shown_by g.S.Store c.args.tables.now) (shown_by g.S.Store c.make_contest.new.tables) c.make_contest.ensures.survives
+
+pub returns-in-Err-clause-survives : goal.returns-in-Err-clause-survives
+returns-in-Err-clause-survives g c =
+    either_whole (without_rows c.args.fixed.value) (shown_by g.S.Store c.args.tables.now) (shown_by g.S.Store c.make_contest.new.tables) c.make_contest.ensures.survives
+
+pub returns-in-Desk-clause-survives : goal.returns-in-Desk-clause-survives
+returns-in-Desk-clause-survives g c =
+    either_filled (without_rows c.args.fixed.value) (shown_by g.S.Store c.args.tables.now) (shown_by g.S.Store c.read_equal.new.tables) c.read_equal.ensures.survives
