@@ -150,7 +150,7 @@ module _ (db : Trees) (full_columns : Keeps NotNull desk_schema db) (once : Keep
   apart Items = apart_keys Items (λ row h. two_full _ _ _ h) (λ row h. no_clash _ h.0)
   apart Accounts = apart_keys Accounts (λ row h. one_full _ _ h) (λ row h. no_clash _ h.1.1.0)
   apart Members = apart_keys Members (λ row h. two_full _ _ _ h) (λ row h. no_clash _ h.1.1.1.1.1.1.1.0)
-  apart Cells = apart_keys Cells (λ row h. three_full (is_null (column row 1)) (is_null (column row 2)) (is_null (column row 3)) _ h) (λ row h. no_clash _ h.1.1.1.1.1.1.1.1.1.0)
+  apart Cells = apart_keys Cells (λ r h. three_full (is_null (column r 1)) (is_null (column r 2)) (is_null (column r 3)) _ h) (λ row h. no_clash _ h.1.1.1.1.1.1.1.1.1.0)
   apart Desk = apart_numbers _ (numbered Desk).0
   apart Contest = apart_numbers _ (numbered Contest).0
   apart Submissions = apart_numbers _ (numbered Submissions).0
