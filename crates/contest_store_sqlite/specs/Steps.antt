@@ -1,12 +1,11 @@
 -- What the calls on the tables start from.
-use Rattle.std.specs.Prelude.{◌≡◌, Bool, IsTrue, false, true}
+use Rattle.std.specs.Prelude.{◌≡◌, Bool, false, true}
 use Rattle.sqlite.specs.State.{State}
-use Rattle.sqlite.specs.Tree.{Trees}
 use Rattle.contest_lists.specs.Lists.{loaded}
 use Rattle.contest_types.specs.Addable.{is_addable}
 use Rattle.contest_types.specs.State.{ContestState}
 use Rattle.contest_types.specs.declared.entry.Entry.{Entry}
-use Rattle.contest_store_tables.specs.Steps.{Content, Holding, Holds, IsLive, MakesNone, Showing, Within, WithoutCells}
+use Rattle.contest_store_tables.specs.Steps.{Content, Holding, Holds, Showing, Within, WithoutCells}
 use Rattle.contest_store_tables.specs.Tables.{TableRows}
 use Rattle.contest_store_changes.specs.ContestTables.{table_rows}
 use Rattle.contest_store_changes.specs.Sound.{IsSound}
@@ -14,10 +13,6 @@ use Rattle.contest_store_changes.specs.Sound.{IsSound}
 -- the tables of a desk stand
 abbrev pub HoldsDesk : Holding
 HoldsDesk s now kept = Holds s now kept × ((rows : TableRows) × (now ≡ Showing rows))
-
--- where they stand in an open connection nothing is made
-abbrev pub MakesNoneOfDesk : State → Trees → Type 0
-MakesNoneOfDesk old db = (IsLive old → IsTrue old.is_open) × MakesNone old HoldsDesk db
 
 -- what a desk's tables have: these rows, and no table of the cells where it is older than that
 abbrev pub content_of : (is_older : Bool) → TableRows → Content
