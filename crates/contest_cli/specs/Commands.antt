@@ -8,7 +8,7 @@ use Rattle.contest_streams.specs.Streams.{Stream}
 use Rattle.contest_cli_words.specs.Endings.{TellsWords}
 use Rattle.contest_cli_words.specs.Help.{is_help}
 use Rattle.contest_cli.specs.declared.invocation.CommandName.{CommandName}
-use Rattle.contest_cli.specs.declared.invocation.CommandName.TheVariants.{Replay, Init, Import, Board, Awards, Export, Serve}
+use Rattle.contest_cli.specs.declared.invocation.CommandName.TheVariants.{Replay, Init, Import, Board, Awards, Export, Serve, Upgrade}
 use Rattle.contest_cli.specs.declared.invocation.Invocation.{Invocation}
 use Rattle.contest_cli.specs.declared.invocation.Invocation.TheVariants.{Nothing, Help, To, HelpOf, Unknown}
 
@@ -21,7 +21,8 @@ command_named word =
     else (if bytes_eq word (codes "board") then Some Board
     else (if bytes_eq word (codes "awards") then Some Awards
     else (if bytes_eq word (codes "export") then Some Export
-    else (if bytes_eq word (codes "serve") then Some Serve else None))))))
+    else (if bytes_eq word (codes "serve") then Some Serve
+    else (if bytes_eq word (codes "upgrade") then Some Upgrade else None)))))))
 
 -- what a command is asked for by its options
 abbrev pub asked_of : CommandName → List Text → Invocation
@@ -46,7 +47,7 @@ AsksHelp words = (invocation_of words ≡ Help) ⊎ ((command : CommandName) × 
 
 -- what is said of a command that there isn't
 abbrev pub unknown_command : Text → List ℕ
-unknown_command name = codes "error: unknown command '" ++ name ++ codes "'; the commands are replay, init, import, board, awards, export, serve and help\n"
+unknown_command name = codes "error: unknown command '" ++ name ++ codes "'; the commands are replay, init, import, board, awards, export, serve, upgrade and help\n"
 
 -- the first of the words, empty where there is none
 abbrev pub first_word : List Text → Text

@@ -1,24 +1,30 @@
 -- What each command that keeps a contest in a file asks of the machine, and how it ends on what was opened.
-use Rattle.std.specs.Prelude.{◌≡◌, ℕ, Bool, if◌then◌else◌, Option, Some, None}
+use Rattle.std.specs.Prelude.{◌≡◌, ◌⊎◌, ℕ, Bool, if◌then◌else◌, Option, Some, None}
 use Rattle.std.specs.Io.KnownBytes.{Keeps}
 use Rattle.sqlite_trees.specs.declared.store.Store.{Ghosts}
 use Rattle.sqlite.specs.Held.{Held, state}
 use Rattle.contest_streams.specs.Streams.{Stream}
+use Rattle.contest_types.specs.declared.refusal.Refusal.TheVariants.{BodyTooLarge}
 use Rattle.contest_cli_commands.specs.Exporting.{Exports}
 use Rattle.contest_cli_commands.specs.Import.{Imports}
 use Rattle.contest_cli_commands.specs.Init.{Inits}
+use Rattle.contest_cli_commands.specs.Inputs.{IsTooLarge}
 use Rattle.contest_cli_commands.specs.Printing.{Prints}
 use Rattle.contest_cli_commands.specs.Serve.{Serves}
+use Rattle.contest_cli_commands.specs.Upgrade.{Upgrades}
+use Rattle.contest_cli_machine.specs.Unopened.{IsNoFile}
 use Rattle.contest_cli_words.specs.declared.asked_board.Who.{Who}
 use Rattle.contest_cli_words.specs.declared.asked_board.Who.TheVariants.{Jury, Public}
 use Rattle.contest_cli_words.specs.declared.asked_text.AskedText.TheVariants.{Awards, Board}
 use Rattle.contest_cli_words.specs.declared.awards_words.AwardsWords.{AwardsWords}
 use Rattle.contest_cli_words.specs.declared.board_words.BoardWords.{BoardWords}
 use Rattle.contest_cli_words.specs.declared.command_error.CommandError.{CommandError}
+use Rattle.contest_cli_words.specs.declared.command_error.CommandError.TheVariants.{Refused}
 use Rattle.contest_cli_words.specs.declared.export_words.ExportWords.{ExportWords}
 use Rattle.contest_cli_words.specs.declared.import_words.ImportWords.{ImportWords}
 use Rattle.contest_cli_words.specs.declared.init_words.InitWords.{InitWords}
 use Rattle.contest_cli_words.specs.declared.serve_words.ServeWords.{ServeWords}
+use Rattle.contest_cli_words.specs.declared.upgrade_words.UpgradeWords.{UpgradeWords}
 
 -- whether a command leaves its moment to the clock: never, always, or, as `board` and `awards`, if its words name none
 abbrev pub LooksNever : {A : Type 0} → A → Type 0
@@ -32,6 +38,10 @@ BoardLooks asked = asked.at ≡ None
 
 abbrev pub AwardsLooks : AwardsWords → Type 0
 AwardsLooks asked = asked.at ≡ None
+
+-- what `init` reads can't be opened or read, or is too large; or memory was refused
+abbrev pub LacksContest : CommandError → Type 0
+LacksContest stop = IsNoFile stop ⊎ ((stop ≡ Refused BodyTooLarge) × ((input : Stream) × IsTooLarge input))
 
 -- a command that reads no file lacks none
 abbrev pub LacksNothing : CommandError → Type 0
@@ -71,6 +81,10 @@ module _ {S : Type 0} (g : Ghosts S) where
   -- `export`
   abbrev pub ExportsOn : ExportWords → (out_old out_new err_old err_new : Stream) → (old new : Held S) → (status : ℕ) → Type 0
   ExportsOn asked out_old out_new err_old err_new old new status = Exports out_old out_new err_old err_new (state g old) (state g new) status
+
+  -- `upgrade`
+  abbrev pub UpgradesOn : UpgradeWords → (out_old out_new err_old err_new : Stream) → (old new : Held S) → (status : ℕ) → Type 0
+  UpgradesOn asked out_old out_new err_old err_new old new status = Upgrades out_old out_new err_old err_new (state g old) (state g new) status
 
   -- `serve`, where this is to serve so many clients
   abbrev pub ServesOnce : (All : (asked requests : ℕ) → (out_old out_new : Stream) → (old new : Held S) → Type 0)

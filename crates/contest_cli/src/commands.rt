@@ -15,7 +15,7 @@ use contest_cli_machine::{Host, HostListener, HostNetwork, Listen, Machine, Netw
 use contest_cli_replay::replay;
 use contest_cli_words::{
     AwardsWords, BoardWords, CommandError, ExportWords, ImportWords, InitWords, ServeWords,
-    borrowed, refuse_arguments, show, tell,
+    UpgradeWords, borrowed, refuse_arguments, show, tell,
 };
 use contest_streams::Counted;
 use contest_types::Refusal;
@@ -161,6 +161,9 @@ fn run_command<M: Machine, R: Read, O: Write, E: Write>(
             alloc, machine, words, out, err,
         ),
         CommandName::Serve => run_by_words::<M, ServeWords, O, E>(alloc, machine, words, out, err),
+        CommandName::Upgrade => run_by_words::<M, UpgradeWords, O, E>(
+            alloc, machine, words, out, err,
+        ),
     }
 }
 
@@ -178,7 +181,7 @@ fn unknown_command(alloc: Global, name: &str) -> Result<String, AllocError>
     ensures { IfOk result (λ text. string_bytes text ≡ unknown_command name.now) }
 {
     format!(in alloc;
-        "error: unknown command '{name}'; the commands are replay, init, import, board, awards, export, serve and help\n"
+        "error: unknown command '{name}'; the commands are replay, init, import, board, awards, export, serve, upgrade and help\n"
     )
 }
 

@@ -7,7 +7,7 @@ use clap::Command;
 use contest_cli_replay::ReplayWords;
 use contest_cli_words::{
     AwardsWords, BoardWords, CommandError, CommandWords, ExportWords, ImportWords, InitWords,
-    ServeWords, command_of, show_help,
+    ServeWords, UpgradeWords, command_of, show_help,
 };
 use contest_streams::Counted;
 use contest_types::Refusal;
@@ -21,14 +21,15 @@ Jury and scoreboard desk of a programming contest
 Usage: desk <COMMAND>
 
 Commands:
-  replay  Reads a contest as CSV on standard input and prints its board
-  init    Sets up a contest in a file, from its contest object as JSON
-  import  Adds all rows of a file to a contest, or none, and prints how many
-  board   Prints the board of a contest as somebody sees it
-  awards  Prints the awards of a contest, once somebody is shown them
-  export  Prints all submissions of a contest as CSV
-  serve   Serves a contest over HTTP, to this machine alone
-  help    Prints this text
+  replay   Reads a contest as CSV on standard input and prints its board
+  init     Sets up a contest in a file, from its contest object as JSON
+  import   Adds all rows of a file to a contest, or none, and prints how many
+  board    Prints the board of a contest as somebody sees it
+  awards   Prints the awards of a contest, once somebody is shown them
+  export   Prints all submissions of a contest as CSV
+  serve    Serves a contest over HTTP, to this machine alone
+  upgrade  Makes a file of the first schema one of the schema of today
+  help     Prints this text
 
 Examples:
   desk replay --at 1:30:00 < contest.csv
@@ -38,6 +39,7 @@ Examples:
   desk awards cup.db --jury
   desk export cup.db > submissions.csv
   desk serve cup.db --requests 1000 --port 8080
+  desk upgrade cup.db
 
 'desk <COMMAND> --help' tells more of a command. docs/FORMATS.md says how to
 write a contest as CSV.
@@ -71,5 +73,6 @@ fn app_of<'a>(alloc: Global, command: CommandName) -> Result<Command<'a>, AllocE
         CommandName::Awards => command_of(alloc, &AwardsWords::command()),
         CommandName::Export => command_of(alloc, &ExportWords::command()),
         CommandName::Serve => command_of(alloc, &ServeWords::command()),
+        CommandName::Upgrade => command_of(alloc, &UpgradeWords::command()),
     }
 }

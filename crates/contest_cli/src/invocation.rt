@@ -21,6 +21,8 @@ pub enum CommandName {
     Export,
     /// `serve`.
     Serve,
+    /// `upgrade`.
+    Upgrade,
 }
 
 /// What the words ask for.
@@ -67,6 +69,7 @@ fn command_named(word: &str) -> Option<CommandName>
         "awards" => Some(CommandName::Awards),
         "export" => Some(CommandName::Export),
         "serve" => Some(CommandName::Serve),
+        "upgrade" => Some(CommandName::Upgrade),
         _ => None,
     }
 }

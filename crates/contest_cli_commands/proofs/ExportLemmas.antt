@@ -14,34 +14,34 @@ use Rattle.contest_cli_words.specs.CommandErrors.{exit_status_of, line_of}
 use Rattle.contest_cli_words.specs.declared.command_error.CommandError.{CommandError}
 use Rattle.contest_cli_words.specs.declared.command_error.CommandError.TheVariants.{File}
 use Rattle.contest_cli_commands.specs.Exporting.{Exports, ExportsKept, PutsFront, TellsExport}
-use Rattle.contest_cli_commands.specs.Printing.{IsStoreStop}
+use Rattle.contest_cli_commands.specs.Printing.{IsStoreStop, StopsOpening}
 
 -- a crash after a look leaves no more than before
 pub leaves_by_look : {T : Type 0} (r : Result T StoreError) (old new : Kept) → OnlyReads r old new → new.is_clean → LeavesNoMore old.may_leave new.may_leave
 leaves_by_look r old new l clean c left = elim (l.crash clean c left) [ inl before ↦ before | inr none ↦ absurd none.1 ]
 
 -- why it ended early is told, and nothing is out or a front of the text
-pub cut_off : (clean : Type 0) (Is : ContestState → Type 0) (out_old out_new err_old err_new : Stream) (stop : CommandError) (status : ℕ)
-    → IsStoreStop stop ⊎ ((stop ≡ File) × Fails out_old out_new) → exit_status_of stop ≡ 1
+pub cut_off : (clean : Type 0) (Is : ContestState → Type 0) (Stops : CommandError → Type 0) (out_old out_new err_old err_new : Stream) (stop : CommandError) (status : ℕ)
+    → Stops stop ⊎ ((stop ≡ File) × Fails out_old out_new) → exit_status_of stop ≡ 1
     → Keeps out_old.bytes out_new.bytes ⊎ (clean → PutsFront Is out_old out_new) → status ≡ exit_status_of stop → Tells err_old err_new (line_of stop)
-    → TellsExport clean Is out_old out_new err_old err_new status
-cut_off clean Is out_old out_new err_old err_new stop status why one front is told = record {
+    → TellsExport clean Is Stops out_old out_new err_old err_new status
+cut_off clean Is Stops out_old out_new err_old err_new stop status why one front is told = record {
   statuses = omega (arith, one, is);
   done = λ e. absurd (omega (arith, one, is, e));
   refused = λ e. (stop, told, why, front);
 }
 
 -- what is told of one contest is told of another that is the same
-told_of : (clean other : Type 0) (Is Was : ContestState → Type 0) (out_old out_new err_old err_new : Stream) (status : ℕ)
-    → (other → clean) → (other → (x : ContestState) → Is x → Was x) → TellsExport clean Is out_old out_new err_old err_new status → TellsExport other Was out_old out_new err_old err_new status
-told_of clean other Is Was out_old out_new err_old err_new status as_clean same t = record {
+told_of : (clean other : Type 0) (Is Was : ContestState → Type 0) (Stops More : CommandError → Type 0) (out_old out_new err_old err_new : Stream) (status : ℕ)
+    → (other → clean) → (other → (x : ContestState) → Is x → Was x) → ((stop : CommandError) → Stops stop → More stop) → TellsExport clean Is Stops out_old out_new err_old err_new status → TellsExport other Was More out_old out_new err_old err_new status
+told_of clean other Is Was Stops More out_old out_new err_old err_new status as_clean same more t = record {
   statuses = t.statuses;
   done = λ e. let d = t.done e in ((λ c. let g = d.0 (as_clean c) in (g.0, same c g.0 g.1, g.2)), d.1);
   refused = λ e.
       let d = t.refused e in (
         d.0,
         d.1,
-        d.2,
+        elim d.2 [ inl stops ↦ inl (more d.0 stops) | inr failed ↦ inr failed ],
         elim d.3 [
           | inl keeps ↦ inl keeps
           | inr front ↦ inr (λ c. let g = front (as_clean c) in (g.0, same c g.0 g.1, g.2))
@@ -55,7 +55,7 @@ pub shown_by_store : (out_old out_new err_old err_new : Stream) (status : ℕ) (
     → (HasCleanDisk new → last.is_clean) → (HasCleanDisk new → Opened old first) → (HasCleanDisk new → LeavesNoMore last.may_leave (may_leave_of new))
     → Exports out_old out_new err_old err_new old new status
 shown_by_store out_old out_new err_old err_new status old new first last shows as_clean opened kept = record {
-  told = told_of last.is_clean (HasCleanDisk new) (λ x. x ≡ first.contest) (λ x. listed_in_trees old.now.trees ≡ Some x) out_old out_new err_old err_new status as_clean
-      (λ clean x is. let o = opened clean in o.found ∙ ap Some (sym (is ∙ o.shows.now_is))) shows.told;
+  told = told_of last.is_clean (HasCleanDisk new) (λ x. x ≡ first.contest) (λ x. listed_in_trees old.now.trees ≡ Some x) IsStoreStop (StopsOpening old new) out_old out_new err_old err_new status as_clean
+      (λ clean x is. let o = opened clean in o.found ∙ ap Some (sym (is ∙ o.shows.now_is))) (λ stop is. inl is) shows.told;
   leaves = λ clean d left. (opened clean).crash d (shows.crash (as_clean clean) d (kept clean d left));
 }

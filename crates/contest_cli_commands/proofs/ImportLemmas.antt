@@ -5,7 +5,7 @@ use Rattle.contest_types.specs.State.{ContestState}
 use Rattle.contest_streams.specs.Streams.{Fails, Stream, TakesFront, Tells}
 use Rattle.contest_types.specs.declared.limits.TheConstants.{IMPORTED_FILE}
 use Rattle.contest_types.specs.declared.refusal.Refusal.{Refusal}
-use Rattle.contest_types.specs.declared.refusal.Refusal.TheVariants.{Memory, StoreFault}
+use Rattle.contest_types.specs.declared.refusal.Refusal.TheVariants.{Memory, OldSchema, StoreFault}
 use Rattle.contest_streams.specs.declared.input.InputFault.{InputFault}
 use Rattle.contest_streams.specs.declared.input.InputFault.TheVariants as fault
 use Rattle.contest_store.specs.Keeping.{Kept, LeavesOnly, LeavesOr}
@@ -16,11 +16,12 @@ use Rattle.contest_types.specs.declared.import_kind.ImportKind.{ImportKind}
 use Rattle.contest_desk.specs.Imports.{import_step}
 use Rattle.contest_desk.specs.Items.{HasStoreError}
 use Rattle.contest_store_sqlite.specs.Contests.{may_leave_of}
-use Rattle.contest_store_sqlite.specs.Creation.{IsOfOpen, KeepsLists}
+use Rattle.contest_store_sqlite.specs.Creation.{KeepsLists, open_refusal}
+use Rattle.contest_store_sqlite.specs.declared.open_error.OpenError.{OpenError}
 use Rattle.contest_store_sqlite.specs.declared.open_error.OpenError.TheVariants as open_error
-use Rattle.contest_store_sqlite.specs.Opening.{Opened}
+use Rattle.contest_store_sqlite.specs.Opening.{FindsFirst, Opened}
 use Rattle.contest_cli_words.specs.Endings.{Shows}
-use Rattle.contest_cli_commands.specs.Import.{Imports, LeavesStep, RefusesImport, Steps, StopsImport, added_line}
+use Rattle.contest_cli_commands.specs.Import.{Imports, LeavesStep, RefusesImport, Steps, StepsOrFinds, StopsImport, added_line}
 use Rattle.contest_cli_commands.specs.Inputs.{WasRead}
 use Rattle.contest_cli_words.specs.CommandErrors.{exit_status_of, line_of, stop_of}
 use Rattle.contest_cli_words.specs.declared.command_error.CommandError.{CommandError}
@@ -38,9 +39,15 @@ by_error : (e : StoreError) (r : Refusal) → r ≡ refusal_of e → HasStoreErr
 by_error error.Fault r is = inl (ap Err is)
 by_error error.Memory r is = inr (ap Err is)
 
--- what an open is refused with is such a refusal
-pub is_of_open : (r : Refusal) → IsOfOpen r → HasStoreError {A = ℕ} (Err r)
-is_of_open r (open_error.Store e, is) = by_error e r is
+old_of : (r : Refusal) → ◌≡◌ {A = Result ℕ Refusal} (Err r) (Err OldSchema) → r ≡ OldSchema
+old_of r is = cc
+
+pub no_error : (added : ℕ) → ¬ HasStoreError {A = ℕ} (Ok added)
+no_error added (inl fault) = cc
+no_error added (inr memory) = cc
+
+none_added : (added : ℕ) → ◌≡◌ {A = Result ℕ Refusal} (Ok added) (Err OldSchema) → ⊥
+none_added added is = cc
 
 module _ (now : ℕ) (kind : ImportKind) (input : Stream) (old new : State) where
   -- where no more than cells was committed, a crash leaves what it could leave before, or the contest that stood with its cells
@@ -48,8 +55,22 @@ module _ (now : ℕ) (kind : ImportKind) (input : Stream) (old new : State) wher
   leaves_as_before keeps clean c left = elim (keeps.crash clean left.0 left.1) [ inl before ↦ inl (inl (left.0, before, left.2)) | inr filled ↦ inl (inr (filled.0, filled.1, sym left.2 ∙ filled.2)) ]
 
   -- why rows that were read aren't added
-  pub refuses : (r : Refusal) → (¬ HasStoreError {A = ℕ} (Err r) → HasCleanDisk new → Steps now kind input old new (Err r)) → RefusesImport now kind input old new r
-  refuses r steps = elim (decided r) [ inl failed ↦ inl failed | inr other ↦ inr (inr (steps other)) ]
+  pub refuses : (r : Refusal) → (¬ HasStoreError {A = ℕ} (Err r) → StepsOrFinds now kind input old new (Err r)) → RefusesImport now kind input old new r
+  refuses r steps = elim (decided r) [
+    | inl failed ↦ inl failed
+    | inr other ↦ elim (steps other) [ inl first ↦ inr (inl (old_of r first.0, first.1)) | inr is ↦ inr (inr (inr is)) ]
+  ]
+
+  -- why no desk was opened
+  pub finds : (e : OpenError) (r : Refusal) → r ≡ open_refusal e → (e ≡ open_error.OldSchema → FindsFirst old new) → ¬ HasStoreError {A = ℕ} (Err r)
+      → StepsOrFinds now kind input old new (Err r)
+  finds (open_error.Store e) r is first ordinary = absurd (ordinary (by_error e r is))
+  finds open_error.OldSchema r is first ordinary = inl (ap Err is, first refl)
+
+  -- rows were added, so the step's
+  pub added_steps : (added : ℕ) → StepsOrFinds now kind input old new (Ok added) → HasCleanDisk new → Steps now kind input old new (Ok added)
+  added_steps added (inl first) = absurd (none_added added first.0)
+  added_steps added (inr steps) = steps
 
   module _ (bytes : List ℕ) (read : WasRead input bytes) (kept : Kept) (opened : Opened old kept) where
     -- the desk's answer is that of the contest that was found
@@ -78,7 +99,7 @@ pub fault_stops : (now : ℕ) (kind : ImportKind) (in_old in_new : Stream) (s : 
     → (f ≡ fault.TooLarge → TakesFront in_old.bytes in_new.bytes (IMPORTED_FILE + 1)) → (f ≡ fault.File → Fails in_old in_new)
     → StopsImport now kind in_old in_new s s (stop_of f)
 fault_stops now kind in_old in_new s fault.File large failed = (failed refl, keeps_lists s)
-fault_stops now kind in_old in_new s fault.TooLarge large failed = inr (inl (refl, too_large in_old.bytes in_new.bytes (large refl), keeps_lists s))
+fault_stops now kind in_old in_new s fault.TooLarge large failed = inr (inr (inl (refl, too_large in_old.bytes in_new.bytes (large refl), keeps_lists s)))
 fault_stops now kind in_old in_new s fault.Memory large failed = inl (inr refl)
 
 module _ (now : ℕ) (kind : ImportKind) (in_old in_new : Stream) (old new : State) (leaves : HasCleanDisk new → LeavesStep now kind in_old old new) (err_old err_new : Stream) (status : ℕ) where

@@ -8,19 +8,20 @@ use Rattle.contest_types.specs.Valid.{is_valid}
 use Rattle.contest_types.specs.declared.contest.Contest.{Contest}
 use Rattle.contest_types.specs.declared.limits.TheConstants.{IMPORTED_FILE}
 use Rattle.contest_types.specs.declared.refusal.Refusal.{Refusal}
-use Rattle.contest_types.specs.declared.refusal.Refusal.TheVariants.{BodyTooLarge, KeyReused, Malformed, Memory, StoreFault}
+use Rattle.contest_types.specs.declared.refusal.Refusal.TheVariants.{BodyTooLarge, KeyReused, Malformed, Memory, OldSchema, StoreFault}
 use Rattle.contest_streams.specs.declared.input.InputFault.{InputFault}
 use Rattle.contest_streams.specs.declared.input.InputFault.TheVariants as fault
 use Rattle.contest_store.specs.Keeping.{LeavesOnly}
-use Rattle.contest_store.specs.StoreErrors.{refusal_of}
-use Rattle.contest_store.specs.declared.store_error.StoreError.{StoreError}
 use Rattle.contest_store.specs.declared.store_error.StoreError.TheVariants as failure
 use Rattle.contest_import.specs.ContestFile.{IsContestFile}
 use Rattle.contest_store_tables.specs.Connected.{IsBare}
 use Rattle.contest_store_tables.specs.declared.counts.Counts.{Counts}
 use Rattle.contest_store_sqlite.specs.Contests.{committed_of, may_leave_of}
-use Rattle.contest_store_sqlite.specs.Creation.{Created, IsOfStore, StoodEqual, StoodOther}
+use Rattle.contest_store_sqlite.specs.Creation.{Created, IsOfOpen, KeepsLists, StoodEqual, StoodOther, open_refusal}
+use Rattle.contest_store_sqlite.specs.declared.open_error.OpenError.{OpenError}
+use Rattle.contest_store_sqlite.specs.declared.open_error.OpenError.TheVariants as open_error
 use Rattle.contest_store_sqlite.specs.Keeping.{kept_of}
+use Rattle.contest_store_sqlite.specs.Opening.{FindsFirst}
 use Rattle.contest_cli_commands.specs.Init.{Inits, LeavesContest, LeavesNew, ReadsContest, RefusesContest, RefusesFile, Sets, SetsFile, StopsContest, StopsFile, StopsInit}
 use Rattle.contest_cli_words.specs.CommandErrors.{exit_status_of, line_of, stop_of}
 use Rattle.contest_cli_words.specs.declared.command_error.CommandError.{CommandError}
@@ -43,17 +44,21 @@ unsaid_stops old new limit bytes file r all same (inr none) =
     subst (λ (given : Refusal). RefusesFile old given) (sym none.0) (file, was_read old all same, none.1)
 
 module _ (c : Contest) (old new : State) where
-  refused_by : (e : StoreError) → RefusesContest c old new (refusal_of e)
-  refused_by failure.Fault = tt
-  refused_by failure.Memory = tt
+  refused_by : (e : OpenError) → (open_refusal e ≡ OldSchema → FindsFirst old new × KeepsLists old new) → RefusesContest c old new (open_refusal e)
+  refused_by (open_error.Store failure.Fault) first = tt
+  refused_by (open_error.Store failure.Memory) first = tt
+  refused_by open_error.OldSchema first = first refl
 
   -- why a valid contest isn't set up
-  pub refused_stops : (P : Type 0) (r : Refusal) → is_valid (new_contest c) ≡ true → (r ≡ Malformed) ⊎ ((r ≡ KeyReused) ⊎ IsOfStore r)
+  pub refused_stops : (P : Type 0) (r : Refusal) → is_valid (new_contest c) ≡ true → (r ≡ Malformed) ⊎ ((r ≡ KeyReused) ⊎ IsOfOpen r)
       → (r ≡ Malformed → (is_valid (new_contest c) ≡ false) × P) → (HasCleanDisk new → r ≡ KeyReused → StoodOther c.head old new)
+      → ((r ≡ KeyReused) ⊎ (r ≡ Malformed) → KeepsLists old new) → (r ≡ OldSchema → FindsFirst old new × KeepsLists old new)
       → StopsContest c old new (Refused r)
-  refused_stops P r valid (inl is) malformed differs = let other = (malformed is).0 in cc
-  refused_stops P r valid (inr (inl is)) malformed differs = subst (λ (given : Refusal). RefusesContest c old new given) (sym is) (λ clean. differs clean is)
-  refused_stops P r valid (inr (inr failed)) malformed differs = subst (λ (given : Refusal). RefusesContest c old new given) (sym failed.1) (refused_by failed.0)
+  refused_stops P r valid (inl is) malformed differs keeps first = let other = (malformed is).0 in cc
+  refused_stops P r valid (inr (inl is)) malformed differs keeps first =
+      subst (λ (given : Refusal). RefusesContest c old new given) (sym is) ((λ clean. differs clean is), keeps (inl is))
+  refused_stops P r valid (inr (inr failed)) malformed differs keeps first =
+      subst (λ (given : Refusal). RefusesContest c old new given) (sym failed.1) (refused_by failed.0 (λ is. first (failed.1 ∙ is)))
 
   leaves_shown : (x : ContestState) → IsTrue new.is_open → committed_of new ≡ x → (IsTrue new.is_open → LeavesOnly (may_leave_of new) (committed_of new)) → LeavesOnly (may_leave_of new) x
   leaves_shown x up is settled = subst (λ (y : ContestState). LeavesOnly (may_leave_of new) y) is (settled up)
@@ -81,7 +86,8 @@ file_stops in_old in_new s (Refused _) stops = absurd stops
 file_stops in_old in_new s _ stops = absurd stops
 
 pub contest_stops : (in_old in_new : Stream) (c : Contest) (old new : State) (stop : CommandError) → ReadsContest in_old c → StopsContest c old new stop → StopsInit in_old in_new old new stop
-contest_stops in_old in_new c old new (Refused KeyReused) reads stops = (c, reads, stops)
+contest_stops in_old in_new c old new (Refused KeyReused) reads stops = (c, reads, stops.0, stops.1)
+contest_stops in_old in_new c old new (Refused OldSchema) reads stops = stops
 contest_stops in_old in_new c old new (Refused StoreFault) reads stops = tt
 contest_stops in_old in_new c old new (Refused Memory) reads stops = tt
 contest_stops in_old in_new c old new (Refused _) reads stops = absurd stops

@@ -1,4 +1,4 @@
-mod InputLemmas
+pub mod InputLemmas
 mod InitLemmas
 mod OpeningLemmas
 mod ImportLemmas
@@ -8,3 +8,4 @@ mod ClientLemmas
 mod ServingLemmas
 mod ServeEndings
 mod TableLemmas
+pub mod UpgradeEndings

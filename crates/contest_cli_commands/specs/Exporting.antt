@@ -11,7 +11,7 @@ use Rattle.contest_export.specs.SubmissionsCsv.{submissions_csv}
 use Rattle.contest_cli_words.specs.CommandErrors.{line_of}
 use Rattle.contest_cli_words.specs.declared.command_error.CommandError.{CommandError}
 use Rattle.contest_cli_words.specs.declared.command_error.CommandError.TheVariants.{File}
-use Rattle.contest_cli_commands.specs.Printing.{IsStoreStop}
+use Rattle.contest_cli_commands.specs.Printing.{IsStoreStop, StopsOpening}
 
 -- `out` has the submissions of some contest which is this one, or a front of their text
 abbrev pub PutsOut : (Is : ContestState → Type 0) → (old new : Stream) → Type 0
@@ -21,22 +21,22 @@ abbrev pub PutsFront : (Is : ContestState → Type 0) → (old new : Stream) →
 PutsFront Is old new = (x : ContestState) × Is x × AppendsFront old.bytes new.bytes (submissions_csv x)
 
 -- what is told, by the status, while the disk is as `clean` says: 0 with the whole text on `out`; 1 with a line on `err` of
--- the store's fault, of want of memory, or of `out`, which failed. Nothing is out then, or a front of the text
-pub record TellsExport (clean : Type 0) (Is : ContestState → Type 0) (out_old out_new err_old err_new : Stream) (status : ℕ) : Type 0 where
+-- what stops it, as the store's fault, or of `out`, which failed. Nothing is out then, or a front of the text
+pub record TellsExport (clean : Type 0) (Is : ContestState → Type 0) (Stops : CommandError → Type 0) (out_old out_new err_old err_new : Stream) (status : ℕ) : Type 0 where
   pub statuses : status ≤ 1
   pub done : status ≡ 0 → (clean → PutsOut Is out_old out_new) × Keeps err_old.bytes err_new.bytes
   pub refused : status ≡ 1 → (stop : CommandError) × Tells err_old err_new (line_of stop)
-      × (IsStoreStop stop ⊎ ((stop ≡ File) × Fails out_old out_new))
+      × (Stops stop ⊎ ((stop ≡ File) × Fails out_old out_new))
       × (Keeps out_old.bytes out_new.bytes ⊎ (clean → PutsFront Is out_old out_new))
 
 -- how it ends: what is told is of the valid contest whose lists the tables showed, and a crash leaves no more than it
 -- could before, or that contest with its cells
 pub record Exports (out_old out_new err_old err_new : Stream) (old new : State) (status : ℕ) : Type 0 where
-  pub told : TellsExport (HasCleanDisk new) (λ x. listed_in_trees old.now.trees ≡ Some x) out_old out_new err_old err_new status
+  pub told : TellsExport (HasCleanDisk new) (λ x. listed_in_trees old.now.trees ≡ Some x) (StopsOpening old new) out_old out_new err_old err_new status
   pub leaves : HasCleanDisk new → LeavesNoMore (may_leave_filled old) (may_leave_of new)
 
 -- the same of a contest that a store keeps
 pub record ExportsKept (out_old out_new err_old err_new : Stream) (old new : Kept) (status : ℕ) : Type 0 where
-  pub told : TellsExport new.is_clean (λ x. x ≡ old.contest) out_old out_new err_old err_new status
+  pub told : TellsExport new.is_clean (λ x. x ≡ old.contest) IsStoreStop out_old out_new err_old err_new status
   pub crash : new.is_clean → LeavesNoMore old.may_leave new.may_leave
   pub clean : new.is_clean → old.is_clean

@@ -6,13 +6,13 @@ use Rattle.sqlite.specs.State.{HasCleanDisk, State}
 use Rattle.contest_types.specs.State.{ContestState}
 use Rattle.contest_streams.specs.Streams.{AppendsFront, Fails, Stream, Tells}
 use Rattle.contest_types.specs.declared.refusal.Refusal.{Refusal}
-use Rattle.contest_types.specs.declared.refusal.Refusal.TheVariants.{BodyTooLarge, Memory, StoreFault}
+use Rattle.contest_types.specs.declared.refusal.Refusal.TheVariants.{BodyTooLarge, Memory, OldSchema, StoreFault}
 use Rattle.contest_store.specs.Keeping.{LeavesOnly}
 use Rattle.contest_types.specs.declared.import_kind.ImportKind.{ImportKind}
 use Rattle.contest_desk.specs.Imports.{import_step}
 use Rattle.contest_store_sqlite.specs.Contests.{listed_in_trees, may_leave_of}
 use Rattle.contest_store_sqlite.specs.Creation.{KeepsLists}
-use Rattle.contest_store_sqlite.specs.Opening.{may_leave_filled}
+use Rattle.contest_store_sqlite.specs.Opening.{FindsFirst, may_leave_filled}
 use Rattle.contest_cli_commands.specs.Inputs.{IsTooLarge, WasRead}
 use Rattle.contest_cli_words.specs.CommandErrors.{line_of}
 use Rattle.contest_cli_words.specs.declared.command_error.CommandError.{CommandError}
@@ -32,12 +32,17 @@ pub record Steps (now : ℕ) (kind : ImportKind) (input : Stream) (old new : Sta
   pub answered : (import_step contest now kind bytes).0 ≡ answer
   pub leaves : LeavesOnly (may_leave_of new) (import_step contest now kind bytes).1
 
--- why it refuses: the store, want of memory, the size of the file, or what the step says
+-- an answer is what its step gives, or tells of tables of the first schema
+abbrev pub StepsOrFinds : (now : ℕ) → ImportKind → Stream → (old new : State) → Result ℕ Refusal → Type 0
+StepsOrFinds now kind input old new answer = ((answer ≡ Err OldSchema) × FindsFirst old new) ⊎ (HasCleanDisk new → Steps now kind input old new answer)
+
+-- why it refuses: the store, want of memory, tables of the first schema, the size of the file, or what the step says
 abbrev pub RefusesImport : (now : ℕ) → ImportKind → Stream → State → State → Refusal → Type 0
 RefusesImport now kind input old new r =
     ((r ≡ StoreFault) ⊎ (r ≡ Memory))
+    ⊎ (((r ≡ OldSchema) × FindsFirst old new)
     ⊎ (((r ≡ BodyTooLarge) × IsTooLarge input × KeepsLists old new)
-    ⊎ (HasCleanDisk new → Steps now kind input old new (Err r)))
+    ⊎ (HasCleanDisk new → Steps now kind input old new (Err r))))
 
 -- the refusal, or the reader that failed
 abbrev pub StopsImport : (now : ℕ) → ImportKind → (in_old in_new : Stream) → State → State → CommandError → Type 0

@@ -6,12 +6,13 @@ use Rattle.contest_types.specs.State.{ContestState, new_contest}
 use Rattle.contest_streams.specs.Streams.{Fails, Stream, Tells}
 use Rattle.contest_types.specs.declared.contest.Contest.{Contest}
 use Rattle.contest_types.specs.declared.refusal.Refusal.{Refusal}
-use Rattle.contest_types.specs.declared.refusal.Refusal.TheVariants.{BodyTooLarge, KeyReused, Malformed, Memory, StoreFault}
+use Rattle.contest_types.specs.declared.refusal.Refusal.TheVariants.{BodyTooLarge, KeyReused, Malformed, Memory, OldSchema, StoreFault}
 use Rattle.contest_store.specs.Keeping.{LeavesOnly}
 use Rattle.contest_import.specs.ContestFile.{IsContestFile}
 use Rattle.contest_store_tables.specs.Connected.{IsBare}
 use Rattle.contest_store_sqlite.specs.Contests.{contest_in_trees, listed_in_trees, may_leave_of}
 use Rattle.contest_store_sqlite.specs.Creation.{IsFilled, KeepsLists, StoodOther}
+use Rattle.contest_store_sqlite.specs.Opening.{FindsFirst}
 use Rattle.contest_cli_commands.specs.Inputs.{IsTooLarge, WasRead}
 use Rattle.contest_cli_words.specs.CommandErrors.{line_of}
 use Rattle.contest_cli_words.specs.declared.command_error.CommandError.{CommandError}
@@ -50,7 +51,8 @@ SetsFile input old new = (c : Contest) × ReadsContest input c × (HasCleanDisk 
 
 -- why a contest isn't set up
 abbrev pub RefusesContest : Contest → State → State → Refusal → Type 0
-RefusesContest c old new KeyReused = HasCleanDisk new → StoodOther c.head old new
+RefusesContest c old new KeyReused = (HasCleanDisk new → StoodOther c.head old new) × KeepsLists old new
+RefusesContest c old new OldSchema = FindsFirst old new × KeepsLists old new
 RefusesContest c old new StoreFault = Unit {0}
 RefusesContest c old new Memory = Unit {0}
 RefusesContest c old new _ = ⊥
@@ -67,7 +69,8 @@ LeavesNew c old new = Survives old new (λ db. (contest_in_trees db ≡ Some (ne
 abbrev pub RefusesInit : Stream → State → State → Refusal → Type 0
 RefusesInit input old new BodyTooLarge = IsTooLarge input × KeepsLists old new
 RefusesInit input old new Malformed = ReadsNone input × KeepsLists old new
-RefusesInit input old new KeyReused = (c : Contest) × ReadsContest input c × (HasCleanDisk new → StoodOther c.head old new)
+RefusesInit input old new KeyReused = (c : Contest) × ReadsContest input c × (HasCleanDisk new → StoodOther c.head old new) × KeepsLists old new
+RefusesInit input old new OldSchema = FindsFirst old new × KeepsLists old new
 RefusesInit input old new StoreFault = Unit {0}
 RefusesInit input old new Memory = Unit {0}
 RefusesInit input old new _ = ⊥

@@ -1,8 +1,10 @@
 pub mod Inputs
 pub mod Init
 pub mod Import
+pub mod Looking
 pub mod Printing
 pub mod Exporting
 pub mod Clients
 pub mod Served
 pub mod Serve
+pub mod Upgrade

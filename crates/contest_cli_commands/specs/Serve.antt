@@ -7,7 +7,6 @@ use Rattle.sqlite.specs.Held.{Held, state}
 use Rattle.sqlite.specs.State.{HasCleanDisk, State}
 use Rattle.contest_types.specs.State.{ContestState}
 use Rattle.contest_streams.specs.Streams.{AppendsFront, Counting, Fails, Stream, Tells}
-use Rattle.contest_types.specs.declared.refusal.Refusal.TheVariants.{Memory, StoreFault}
 use Rattle.contest_desk.specs.Runs.{IsRun, LeavesAfter}
 use Rattle.contest_desk.specs.declared.item.Answer.{Answer}
 use Rattle.contest_desk.specs.declared.item.Item.{Item}
@@ -17,17 +16,22 @@ use Rattle.contest_store_sqlite.specs.Opening.{Opened, may_leave_filled}
 use Rattle.contest_store_sqlite.specs.Value.{StoreValue, shown_in, stored}
 use Rattle.contest_cli_words.specs.CommandErrors.{line_of}
 use Rattle.contest_cli_words.specs.declared.command_error.CommandError.{CommandError}
-use Rattle.contest_cli_words.specs.declared.command_error.CommandError.TheVariants.{Clock, File, Net, Refused}
+use Rattle.contest_cli_words.specs.declared.command_error.CommandError.TheVariants.{Clock, File, Net}
 use Rattle.contest_cli_commands.specs.Clients.{ServesClients}
+use Rattle.contest_cli_commands.specs.Printing.{StopsOpening}
 use Rattle.contest_cli_machine.specs.Ports.{IsPort}
 
 -- what is told of a port that clients can connect to
 abbrev pub listening_line : (port : ℕ) → List ℕ
 listening_line port = codes "listening on 127.0.0.1:" ++ decimal port ++ codes "\n"
 
--- no desk can be made of the file, or nobody can connect: nothing is told of a port
-abbrev pub StopsBefore : CommandError → Type 0
-StopsBefore stop = (stop ≡ Refused StoreFault) ⊎ ((stop ≡ Refused Memory) ⊎ (stop ≡ Net))
+-- for this reason no desk can be made of the file, or nobody can connect: nothing is told of a port
+abbrev pub StopsBefore : (Opening : CommandError → Type 0) → CommandError → Type 0
+StopsBefore Opening stop = Opening stop ⊎ (stop ≡ Net)
+
+-- a desk is made already
+abbrev pub StopsNone : CommandError → Type 0
+StopsNone stop = ⊥
 
 -- clients were served, until none can connect any more or there is no moment
 abbrev pub StopsAfter : CommandError → Type 0
@@ -40,11 +44,11 @@ TellsPort asked out_old out_new stop =
     ⊎ ((stop ≡ File) × Fails out_old out_new × AppendsFront out_old.bytes out_new.bytes (listening_line port)))
 
 -- what is told, by the status: with 0 the port on `out`; with 1 a line on `err` of the first fault
-pub record TellsServing (asked : ℕ) (out_old out_new err_old err_new : Stream) (status : ℕ) : Type 0 where
+pub record TellsServing (Opening : CommandError → Type 0) (asked : ℕ) (out_old out_new err_old err_new : Stream) (status : ℕ) : Type 0 where
   pub statuses : status ≤ 1
   pub done : status ≡ 0 → (port : ℕ) × IsPort asked port × Appends out_old.bytes out_new.bytes (listening_line port) × Keeps err_old.bytes err_new.bytes
   pub refused : status ≡ 1 → (stop : CommandError) × Tells err_old err_new (line_of stop)
-      × ((StopsBefore stop × Keeps out_old.bytes out_new.bytes) ⊎ TellsPort asked out_old out_new stop)
+      × ((StopsBefore Opening stop × Keeps out_old.bytes out_new.bytes) ⊎ TellsPort asked out_old out_new stop)
 
 -- the tables showed the lists of a valid contest, and from it there is a run of the machine by one request at most of each of so many
 -- clients; a crash leaves what it may leave after that run
@@ -61,7 +65,7 @@ pub record ServesTables (clients : ℕ) (old new : State) : Type 0 where
 -- how it ends: what is told of it, and what becomes of the tables, which stay as they were where no desk can be made of
 -- them. With status 0 one was
 pub record Serves (asked requests : ℕ) (out_old out_new err_old err_new : Stream) (old new : State) (status : ℕ) : Type 0 where
-  pub told : TellsServing asked out_old out_new err_old err_new status
+  pub told : TellsServing (StopsOpening old new) asked out_old out_new err_old err_new status
   pub done : status ≡ 0 → HasCleanDisk new → ServesTables requests old new
   pub leaves : HasCleanDisk new → KeepsLists old new ⊎ ServesTables requests old new
 

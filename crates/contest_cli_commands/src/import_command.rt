@@ -3,9 +3,9 @@ ghost use Rattle.std.specs.Prelude.{IfErr, IfOk, Ok};
 ghost use Rattle.sqlite.specs.Held.{state};
 ghost use Rattle.sqlite.specs.State.{HasCleanDisk};
 ghost use Rattle.contest_streams.specs.Streams.{Stream, stream};
-ghost use Rattle.contest_desk.specs.Items.{HasStoreError};
 ghost use Rattle.contest_store_tables.specs.Numbered.{IsNumbered};
-ghost use Rattle.contest_cli_commands.specs.Import.{Imports, LeavesStep, Steps, StopsImport};
+ghost use Rattle.contest_desk.specs.Items.{HasStoreError};
+ghost use Rattle.contest_cli_commands.specs.Import.{Imports, LeavesStep, Steps, StepsOrFinds, StopsImport};
 ghost use Rattle.contest_cli_commands.specs.Inputs.{WasRead};
 
 use crate::added_line::added_line;
@@ -76,8 +76,8 @@ fn import_bytes<S: Alter>(
     bytes: &[u8],
 ) -> (Result<u64, Refusal>, Connection<S>)
     requires { IsNumbered (state S.Store conn) }
-    ensures steps { (input : Stream) → WasRead input bytes.now → ¬ HasStoreError result.0 → HasCleanDisk (state S.Store result.1)
-        → Steps now kind input (state S.Store conn) (state S.Store result.1) result.0 }
+    ensures steps { (input : Stream) → WasRead input bytes.now → ¬ HasStoreError result.0
+        → StepsOrFinds now kind input (state S.Store conn) (state S.Store result.1) result.0 }
     ensures leaves { (input : Stream) → WasRead input bytes.now → HasCleanDisk (state S.Store result.1)
         → LeavesStep now kind input (state S.Store conn) (state S.Store result.1) }
 {

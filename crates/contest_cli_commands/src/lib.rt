@@ -6,10 +6,12 @@ mod export_command;
 mod import_command;
 mod init_command;
 mod listening_line;
+mod look;
 mod opening;
 mod print_command;
 mod serve_command;
 mod serving;
+mod upgrade_command;
 
 pub use export_command::run_export;
 pub use import_command::run_import;
@@ -18,3 +20,4 @@ pub use opening::open_desk;
 pub use print_command::run_print;
 pub use serve_command::run_serve;
 pub use serving::serve;
+pub use upgrade_command::run_upgrade;

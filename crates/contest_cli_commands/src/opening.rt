@@ -1,10 +1,10 @@
 //! The desk of a contest that a connection holds.
-ghost use Rattle.std.specs.Prelude.{IfErr, IfOk};
+ghost use Rattle.std.specs.Prelude.{◌≡◌, IfErr, IfOk, IsTrue};
 ghost use Rattle.sqlite.specs.Held.{state};
 ghost use Rattle.sqlite.specs.State.{HasCleanDisk};
 ghost use Rattle.contest_desk.specs.Serving.{IsSettled};
 ghost use Rattle.contest_store_sqlite.specs.Creation.{KeepsLists};
-ghost use Rattle.contest_store_sqlite.specs.Opening.{IsNew, Opened, ShowsValid};
+ghost use Rattle.contest_store_sqlite.specs.Opening.{IsNew, IsOfFirst, Opened, ShowsValid};
 ghost use Rattle.contest_store_tables.specs.Numbered.{IsNumbered};
 ghost use Rattle.contest_store_sqlite.specs.Value.{shown_in, stored};
 
@@ -32,6 +32,7 @@ pub fn open_desk<S: Alter>(
     ensures survives { IfOk result (λ desk. KeepsLists (state S.Store conn) (shown_in S.Store desk)) }
     ensures new { IfOk result IsNew }
     ensures refused { IfErr result (λ e. KeepsLists (state S.Store conn) (state S.Store e.1)) }
+    ensures first { IfErr result (λ e. HasCleanDisk (state S.Store e.1) → e.0 ≡ OpenError.OldSchema → IsTrue (state S.Store conn).is_open → IsOfFirst (state S.Store conn)) }
 {
     let store = Store::open(alloc, conn)?;
     match Desk::new(alloc, store) {

@@ -1,19 +1,23 @@
 //! The commands `board` and `awards`: a text of the contest that a connection holds, as somebody sees it.
-ghost use Rattle.std.specs.Prelude.{◌≡◌, ◌⊎◌, Some, None, IfErr, IfOk, true};
+ghost use Rattle.std.specs.Prelude.{◌≡◌, Option, Result, Some, None, Err, IfErr, IfOk, true};
 ghost use Rattle.std.specs.Option.{option_map};
 ghost use Rattle.sqlite.specs.Held.{state};
-ghost use Rattle.contest_types.specs.Masks.{is_audience};
 ghost use Rattle.contest_score.specs.Awards.{shown_awards};
 ghost use Rattle.contest_text.specs.AwardsText.{awards_text};
 ghost use Rattle.contest_view.specs.Scoreboards.{board_found};
 ghost use Rattle.contest_streams.specs.Streams.{stream};
+ghost use Rattle.contest_score.specs.Ranking.{Scoreboard};
+ghost use Rattle.contest_desk.specs.Boards.{board_told};
+ghost use Rattle.contest_desk.specs.Serving.{OnlyReads};
 ghost use Rattle.contest_store.specs.Keeping.{LeavesNoMore};
+ghost use Rattle.contest_store.specs.declared.store_error.StoreError.{StoreError};
 ghost use Rattle.contest_store_tables.specs.Numbered.{IsNumbered};
-ghost use Rattle.contest_cli_words.specs.CommandErrors.{IsMemory, IsWords, IsWordsOrMemory};
-ghost use Rattle.contest_cli_commands.specs.Printing.{AreOf, IsStoreStop, Prints, PrintsKept, StopsText, asked_text, audience_of, text_seen, who_of, written};
+ghost use Rattle.contest_cli_commands.specs.Looking.{is_there};
+ghost use Rattle.contest_cli_commands.specs.Printing.{AreOf, IsStoreStop, Prints, PrintsKept, StopsText, asked_text, text_seen, written};
 
+use crate::look::{Look, look_of};
 use crate::opening::open_desk;
-use contest_cli_words::{AskedText, BoardFormat, CommandError, Who, show};
+use contest_cli_words::{AskedText, BoardFormat, CommandError, show};
 use contest_desk::Desk;
 use contest_score::{Award, Board};
 use contest_store::ContestStore;
@@ -25,7 +29,7 @@ use std::alloc::{AllocError, Global};
 use std::io::Write;
 
 /// Runs `board` or `awards`: opens the desk of a contest, and writes what somebody sees at a moment. Answers
-/// the exit status: 0 where all of it is on `out`, 2 where no team has the id that is asked for, 1 where
+/// the exit status: 0 where all of it is on `out`, 2 where no team or no group has the id that is asked for, 1 where
 /// something else was refused or `out` failed; where it isn't 0, `err` is told why. And the connection, on
 /// which nothing was changed.
 pub fn run_print<S: Alter, O: Write, E: Write>(
@@ -97,40 +101,31 @@ fn text_for<S: ContestStore>(
     ensures crash { (S.kept desk.new).is_clean → LeavesNoMore (S.kept desk.old).may_leave (S.kept desk.new).may_leave }
     ensures clean { (S.kept desk.new).is_clean → (S.kept desk.old).is_clean }
 {
-    let audience = audience_of(alloc, settings, who_of(asked))?;
-    let text = text_seen(alloc, desk, settings, marks, now, audience, asked)?;
+    let look = look_of(alloc, settings, asked)?;
+    let text = text_seen(alloc, desk, settings, marks, now, look, asked)?;
     Ok(text)
 }
 
-fn who_of(asked: AskedText<'_>) -> Who<'_>
-    ensures { result ≡ who_of asked.entry }
-{
-    match asked {
-        AskedText::Board(asked) => asked.who,
-        AskedText::Awards(who) => who,
-    }
-}
-
-// What is written for an audience that is there.
+// What is written for who looks, where they and their group are there.
 fn text_seen<S: ContestStore>(
     alloc: Global,
     desk: &mut Desk<S>,
     settings: &Settings,
     marks: &Marks,
     now: Moment,
-    audience: Audience,
+    look: Look,
     asked: AskedText<'_>,
 ) -> Result<Vec<u8>, Refusal>
-    ensures text { (S.kept desk.new).is_clean → AreOf settings.now marks.now (S.kept desk.old).contest → IfOk result (λ text. text_seen now asked.entry (S.kept desk.old).contest audience ≡ Some text.items) }
-    ensures stops { (S.kept desk.new).is_clean → AreOf settings.now marks.now (S.kept desk.old).contest → is_audience settings.now audience ≡ true → IfErr result (λ refusal. IsStoreStop (CommandError.Refused refusal)) }
+    ensures text { (S.kept desk.new).is_clean → AreOf settings.now marks.now (S.kept desk.old).contest → IfOk result (λ text. text_seen now asked.entry (S.kept desk.old).contest look ≡ Some text.items) }
+    ensures stops { (S.kept desk.new).is_clean → AreOf settings.now marks.now (S.kept desk.old).contest → is_there settings.now look ≡ true → IfErr result (λ refusal. IsStoreStop (CommandError.Refused refusal)) }
     ensures crash { (S.kept desk.new).is_clean → LeavesNoMore (S.kept desk.old).may_leave (S.kept desk.new).may_leave }
     ensures clean { (S.kept desk.new).is_clean → (S.kept desk.old).is_clean }
 {
     match asked {
         AskedText::Board(asked) => {
-            board_seen(alloc, desk, settings, marks, now, audience, asked.format)
+            board_seen(alloc, desk, settings, marks, now, look, asked.format)
         }
-        AskedText::Awards(_) => awards_seen(alloc, desk, settings, now, audience),
+        AskedText::Awards(_) => awards_seen(alloc, desk, settings, now, look.audience),
     }
 }
 
@@ -140,16 +135,33 @@ fn board_seen<S: ContestStore>(
     settings: &Settings,
     marks: &Marks,
     now: Moment,
-    audience: Audience,
+    look: Look,
     format: BoardFormat,
 ) -> Result<Vec<u8>, Refusal>
-    ensures text { (S.kept desk.new).is_clean → IfOk result (λ text. option_map (written format settings.now marks.now now audience) (board_found audience now (S.kept desk.old).contest) ≡ Some text.items) }
-    ensures stops { (S.kept desk.new).is_clean → is_audience (S.kept desk.old).contest.fixed.settings audience ≡ true → IfErr result (λ refusal. IsStoreStop (CommandError.Refused refusal)) }
+    ensures text { (S.kept desk.new).is_clean → IfOk result (λ text. option_map (written format settings.now marks.now now look) (board_found look.audience now look.group (S.kept desk.old).contest) ≡ Some text.items) }
+    ensures stops { (S.kept desk.new).is_clean → is_there (S.kept desk.old).contest.fixed.settings look ≡ true → IfErr result (λ refusal. IsStoreStop (CommandError.Refused refusal)) }
     ensures crash { (S.kept desk.new).is_clean → LeavesNoMore (S.kept desk.old).may_leave (S.kept desk.new).may_leave }
     ensures clean { (S.kept desk.new).is_clean → (S.kept desk.old).is_clean }
 {
-    let board = desk.board(alloc, now, audience)?;
-    written(alloc, format, settings, marks, now, audience, &board)
+    let board = board_of(alloc, desk, now, look)?;
+    written(alloc, format, settings, marks, now, look, &board)
+}
+
+// The whole board, or that of a group.
+fn board_of<S: ContestStore>(
+    alloc: Global,
+    desk: &mut Desk<S>,
+    now: Moment,
+    look: Look,
+) -> Result<Board, Refusal>
+    ensures board { (S.kept desk.new).is_clean → IfOk result (λ b. board_found look.audience now look.group (S.kept desk.old).contest ≡ Some b) }
+    ensures missing { (S.kept desk.new).is_clean → result ≡ Err Refusal.NotFound → board_found look.audience now look.group (S.kept desk.old).contest ≡ None }
+    ensures leaves { (r : Result (Option Scoreboard) StoreError) × (result ≡ board_told r) × OnlyReads r (S.kept desk.old) (S.kept desk.new) }
+{
+    match look.group {
+        Some(group) => desk.group_board(alloc, now, look.audience, group),
+        None => desk.board(alloc, now, look.audience),
+    }
 }
 
 fn awards_seen<S: ContestStore>(
@@ -177,32 +189,6 @@ fn awards_written(alloc: Global, settings: &Settings, awards: &[Award]) -> Resul
     Ok(text.into_bytes())
 }
 
-// The audience that looks. The error is that no team has the id, or want of memory.
-fn audience_of(alloc: Global, settings: &Settings, who: Who<'_>) -> Result<Audience, CommandError>
-    ensures ok { IfOk result (λ audience. audience_of settings.now who.entry ≡ Some audience) }
-    ensures there { IfOk result (λ audience. is_audience settings.now audience ≡ true) }
-    ensures err { IfErr result (λ stop. IsMemory stop ⊎ (IsWords stop × (audience_of settings.now who.entry ≡ None))) }
-{
-    match who {
-        Who::Public => Ok(Audience::Public),
-        Who::Jury => Ok(Audience::Jury),
-        Who::Team(id) => match settings.team_place(id.as_bytes()) {
-            Some(place) => Ok(Audience::Team(place + 1)),
-            None => Err(no_team(alloc, id)),
-        },
-    }
-}
-
-// What is said of an id that no team has.
-fn no_team(alloc: Global, id: &str) -> CommandError
-    ensures { IsWordsOrMemory result }
-{
-    match format!(in alloc; "error: '{id}' of '--audience' is no team's id\n") {
-        Ok(message) => CommandError::Usage(message),
-        Err(AllocError) => CommandError::from(AllocError),
-    }
-}
-
 // A board, as it is asked for. The error is want of memory.
 fn written(
     alloc: Global,
@@ -210,15 +196,23 @@ fn written(
     settings: &Settings,
     marks: &Marks,
     now: Moment,
-    audience: Audience,
+    look: Look,
     board: &Board,
 ) -> Result<Vec<u8>, Refusal>
-    ensures text { IfOk result (λ text. text.items ≡ written format settings.now marks.now now audience board.now) }
+    ensures text { IfOk result (λ text. text.items ≡ written format settings.now marks.now now look board.now) }
     ensures err { IfErr result (λ e. e ≡ Refusal.Memory) }
 {
     match format {
         BoardFormat::Text => {
-            let text = board_text(alloc, settings, marks, now, audience, board)?;
+            let text = board_text(
+                alloc,
+                settings,
+                marks,
+                now,
+                look.audience,
+                look.group,
+                board,
+            )?;
             Ok(text.into_bytes())
         }
         BoardFormat::Csv => {

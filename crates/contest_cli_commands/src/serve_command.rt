@@ -7,7 +7,7 @@ ghost use Rattle.contest_store_tables.specs.Numbered.{IsNumbered};
 ghost use Rattle.contest_store_sqlite.specs.Value.{stored};
 ghost use Rattle.contest_cli_commands.specs.Clients.{ServesClients};
 ghost use Rattle.contest_cli_machine.specs.Ports.{IsPort};
-ghost use Rattle.contest_cli_commands.specs.Serve.{Serves, ServesAll, ServesHere, TellsServing, listening_line};
+ghost use Rattle.contest_cli_commands.specs.Serve.{Serves, ServesAll, ServesHere, StopsNone, TellsServing, listening_line};
 ghost use Rattle.contest_cli_commands.specs.Served.{ServesSome};
 
 use crate::listening_line::listening_line;
@@ -59,7 +59,7 @@ fn serve_desk<S: ContestStore, N: Network, O: Write, E: Write>(
     out: &mut Counted<O>,
     err: &mut Counted<E>,
 ) -> u8
-    ensures told { TellsServing port (stream O.contents out.old) (stream O.contents out.new)
+    ensures told { TellsServing StopsNone port (stream O.contents out.old) (stream O.contents out.new)
         (stream E.contents err.old) (stream E.contents err.new) result }
     ensures clients { result ≡ 0 → ServesHere N.Listener.port_of (ServesClients N.Listener.gives N.Listener.parts (N.shows network.now) N.Listener.Reader.remaining N.Listener.Writer.contents S.kept)
         port requests (stream O.contents out.old) (stream O.contents out.new) desk.old desk.new }
@@ -83,7 +83,7 @@ fn serve_from<S: ContestStore, N: Network, O: Write, E: Write>(
     err: &mut Counted<E>,
 ) -> u8
     ensures told { (asked : ℕ) → IsPort asked (N.Listener.port_of listener.old)
-        → TellsServing asked (stream O.contents out.old) (stream O.contents out.new)
+        → TellsServing StopsNone asked (stream O.contents out.old) (stream O.contents out.new)
         (stream E.contents err.old) (stream E.contents err.new) result }
     ensures line { result ≡ 0 → Appends (O.contents out.old.inner) (O.contents out.new.inner) (listening_line (N.Listener.port_of listener.old)) }
     ensures clients { result ≡ 0 → ServesClients N.Listener.gives N.Listener.parts (N.shows network.now) N.Listener.Reader.remaining N.Listener.Writer.contents S.kept requests listener.old listener.new desk.old desk.new }

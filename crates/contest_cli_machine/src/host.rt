@@ -11,12 +11,13 @@ ghost use Rattle.contest_store_tables.specs.Numbered.{IsNumbered};
 ghost use Rattle.contest_cli_machine.specs.Unopened.{IsNoFile, IsNoStore};
 
 use crate::host_network::HostNetwork;
-use crate::machine::{Machine, MachineClock, Opened};
+use crate::machine::{Machine, MachineClock};
+use crate::opening::Opening;
 use contest_cli_words::CommandError;
 use contest_streams::Counted;
 use contest_types::{Moment, Refusal};
 use sqlite::{Connection, Error, ErrorCode, FileFrom, FileStore, Start};
-use std::fs::{File, Files};
+use std::fs::{self, File, Files};
 use std::io::{self, ErrorKind};
 use std::time::{Clock, SystemTime, UNIX_EPOCH};
 
@@ -42,15 +43,25 @@ impl<'a, D: Start> Machine for Host<'a, D> {
 
     type Outside = HostNetwork<'a>;
 
-    ghost found = { λ conn. HasCleanDisk (file_state conn) → AreFoundIn (image_at D.Start) (file_state conn).now.trees };
+    ghost found = { λ opening conn. HasCleanDisk (file_state conn) → AreFoundIn (image_at D.Start) (file_state conn).now.trees };
+
+    fn outside(&self) -> HostNetwork<'a> {
+        HostNetwork { rt: self.rt }
+    }
+
+    fn has(&self, file: &str) -> Result<bool, CommandError> {
+        is_there(self.rt, file)
+    }
 
     fn open(
         self,
         file: &str,
-    ) -> Result<Opened<FileStore<FileFrom<D>>, HostNetwork<'a>>, CommandError> {
-        let conn = open_store(self.rt, file, self.disk)?;
-        let outside = HostNetwork { rt: self.rt };
-        Ok(Opened { conn, outside })
+        opening: Opening,
+    ) -> Result<Connection<FileStore<FileFrom<D>>>, CommandError> {
+        match find(self.rt, file, opening) {
+            Ok(()) => open_store(self.rt, file, self.disk),
+            Err(stop) => Err(stop),
+        }
     }
 
     fn close(mut store: FileStore<FileFrom<D>>) {
@@ -80,6 +91,44 @@ fn moment_of(time: SystemTime) -> Option<Moment>
     match u64::try_from(since_1970.as_millis()) {
         Ok(milliseconds) => Moment::from_milliseconds(milliseconds),
         Err(_) => None,
+    }
+}
+
+// Whether something is at a path. A link counts by what it leads to.
+fn is_there<F: Files>(files: &F, path: &str) -> Result<bool, CommandError>
+    ensures { IfErr result IsNoStore }
+{
+    match fs::exists(files, path) {
+        Ok(there) => Ok(there),
+        Err(error) => Err(unseen(&error)),
+    }
+}
+
+// What is said of a path at which nothing can be looked for.
+fn unseen(error: &io::Error) -> CommandError
+    ensures memory { error_kind error.now ≡ ErrorKind.OutOfMemory → result ≡ CommandError.Refused Memory }
+    ensures fault { error_kind error.now ≢ ErrorKind.OutOfMemory → result ≡ CommandError.Refused StoreFault }
+{
+    if error.kind() == ErrorKind::OutOfMemory {
+        CommandError::Refused(Refusal::Memory)
+    } else {
+        CommandError::Refused(Refusal::StoreFault)
+    }
+}
+
+// Looks for a file that has to be there: an SQLite file would be made by its opening.
+fn find<F: Files>(files: &F, path: &str, opening: Opening) -> Result<(), CommandError>
+    ensures { IfErr result IsNoStore }
+{
+    match opening {
+        Opening::Existing => {
+            if is_there(files, path)? {
+                Ok(())
+            } else {
+                Err(CommandError::Refused(Refusal::StoreFault))
+            }
+        }
+        Opening::New => Ok(()),
     }
 }
 

@@ -6,8 +6,10 @@ mod host;
 mod host_network;
 mod machine;
 mod network;
+mod opening;
 
 pub use host::Host;
 pub use host_network::{HostListener, HostNetwork};
-pub use machine::{Machine, MachineClock, Opened, Outside};
+pub use machine::{Machine, MachineClock, Outside};
 pub use network::{Connected, Listen, Network};
+pub use opening::Opening;

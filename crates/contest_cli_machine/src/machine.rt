@@ -3,22 +3,15 @@ ghost use Rattle.std.specs.Prelude.{◌≡◌, IfOk, IfErr};
 ghost use Rattle.sqlite.specs.Held.{Held, state};
 ghost use Rattle.contest_store_tables.specs.Numbered.{IsNumbered};
 ghost use Rattle.contest_cli_machine.specs.Unopened.{IsNoFile, IsNoStore};
+ghost use Rattle.contest_cli_machine.specs.declared.opening.Opening.{Opening as TheOpening};
 
 use crate::network::Network;
+use crate::opening::Opening;
 use contest_cli_words::CommandError;
 use contest_streams::Counted;
 use contest_types::Moment;
 use sqlite::{Alter, Connection};
 use std::io::Read;
-
-/// The file that keeps a contest, and what is outside of it.
-#[derive(Drop)]
-pub struct Opened<S: Alter + Drop, W: Outside> {
-    /// The SQLite file that keeps the contest.
-    pub conn: Connection<S>,
-    /// The rest of the machine.
-    pub outside: W,
-}
 
 /// The clock of a machine.
 pub trait MachineClock {
@@ -49,17 +42,29 @@ pub trait Machine: MachineClock + Drop {
     /// The rest of the machine.
     type Outside: Outside;
 
-    /// What is known of an SQLite file that was opened.
-    ghost found: { Held Self.Disk → Type 0 };
+    /// What is known of an SQLite file that was opened in this way.
+    ghost found: { TheOpening → Held Self.Disk → Type 0 };
 
-    /// The SQLite file at `file`, which is made where there is none.
+    /// The rest of the machine.
+    fn outside(&self) -> Self::Outside;
+
+    /// Whether something is at the path `file`.
     ///
     /// # Errors
     ///
-    /// `StoreFault` where it can't be opened, or want of memory.
-    fn open(self, file: &str) -> Result<Opened<Self::Disk, Self::Outside>, CommandError>
-        ensures found { IfOk result (λ opened. found opened.conn) }
-        ensures numbered { IfOk result (λ opened. IsNumbered (state Self.Disk.Store opened.conn)) }
+    /// `StoreFault` where that can't be told, or want of memory.
+    fn has(&self, file: &str) -> Result<bool, CommandError>
+        ensures { IfErr result IsNoStore };
+
+    /// The SQLite file at `file`. With `Existing` it isn't made, nor is anything beside it, where there is
+    /// none.
+    ///
+    /// # Errors
+    ///
+    /// `StoreFault` where it can't be opened, or isn't there and none is made; or want of memory.
+    fn open(self, file: &str, opening: Opening) -> Result<Connection<Self::Disk>, CommandError>
+        ensures found { IfOk result (λ conn. found opening conn) }
+        ensures numbered { IfOk result (λ conn. IsNumbered (state Self.Disk.Store conn)) }
         ensures refused { IfErr result IsNoStore };
 
     /// Parts from an SQLite file: what its log holds goes into the file itself, where that can be done. What

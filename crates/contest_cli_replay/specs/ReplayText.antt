@@ -24,7 +24,7 @@ moment_for s (Some (negsuc n)) = 0
 
 -- the text of the model's board for a caller at a moment, of the contest with these submissions
 abbrev pub board_text_of : Audience → Setup → Marks → ℕ → List JudgedSubmission → List ℕ
-board_text_of who s marks now us = board_text s marks now who (seen_board who now (replay_contest s marks us))
+board_text_of who s marks now us = board_text s marks now who None (seen_board who now None (replay_contest s marks us))
 
 -- the text of the board of a replayed contest: of its submissions up to the moment
 abbrev pub shown_text : Audience → Marks → ℕ → ReplayLists → List ℕ

@@ -49,8 +49,8 @@ fn text_of(
     ensures err { IfErr result (λ e. e ≡ Refusal.Memory) }
 {
     let cells = plain_cells(alloc, settings, marks, audience, now, submissions)?;
-    let board = board(alloc, settings, &cells)?;
-    board_text(alloc, settings, marks, now, audience, &board)
+    let board = board(alloc, settings, None, &cells)?;
+    board_text(alloc, settings, marks, now, audience, None, &board)
 }
 
 /// Who looks: the jury, or anyone.

@@ -8,6 +8,7 @@ use Rattle.contest_cli_words.specs.ExportWords.{export_app}
 use Rattle.contest_cli_words.specs.ImportWords.{import_app, import_wanted}
 use Rattle.contest_cli_words.specs.InitWords.{init_app, init_wanted}
 use Rattle.contest_cli_words.specs.ServeWords.{serve_app}
+use Rattle.contest_cli_words.specs.UpgradeWords.{upgrade_app}
 
 pub init_wants : wants_words init_wanted init_app ≡ true
 unfolding clap_on_literals init_app
@@ -32,3 +33,7 @@ awards_wants = refl
 pub export_wants : wants_words only_file export_app ≡ true
 unfolding clap_on_literals export_app
 export_wants = refl
+
+pub upgrade_wants : wants_words only_file upgrade_app ≡ true
+unfolding clap_on_literals upgrade_app
+upgrade_wants = refl

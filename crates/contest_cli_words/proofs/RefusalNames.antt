@@ -33,6 +33,7 @@ fits (refusal.ImportRow n cause) = refl
 fits refusal.SettingsClosed = refl
 fits refusal.StoreFault = refl
 fits refusal.Memory = refl
+fits refusal.OldSchema = refl
 
 pub name_is_short : (row : RefusalRow) (r : Refusal) → told_by row ≡ row_of r → length row.name.now ≤ 19
 name_is_short row r told = omega (arith, ap length (name_told row r told), leb-true (length (refusal_name r)) 19 (fits r))

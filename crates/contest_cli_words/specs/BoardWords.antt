@@ -1,5 +1,6 @@
 -- What the words of `board` name.
 use Rattle.std.specs.Prelude.{◌≡◌, ◌≢◌, ◌⊎◌, ◌∷◌, List, [], Option, Some, None, codes}
+use Rattle.std.specs.Option.{option_map}
 use Rattle.clap.specs.Simple.{App}
 use Rattle.clap.specs.Walk.{Row, Text, first_of}
 use Rattle.contest_cli_words.specs.declared.asked_board.BoardFormat.{BoardFormat}
@@ -14,7 +15,7 @@ use Rattle.contest_cli_words.specs.declared.board_words.BoardWords.{BoardWords}
 -- the command
 unfoldable pub board_app : App
 board_app =
-    command_with (codes "board") (word (codes "FILE") ∷ option (codes "audience") ∷ option (codes "at") ∷ option (codes "format") ∷ [])
+    command_with (codes "board") (word (codes "FILE") ∷ option (codes "audience") ∷ option (codes "group") ∷ option (codes "at") ∷ option (codes "format") ∷ [])
 
 -- who is named, anyone where nobody is; the words win over a team's id
 abbrev pub NamesWho : Option Text → Who → Type 0
@@ -31,5 +32,6 @@ NamesFormat text format.Csv = text ≡ Some (codes "csv")
 pub record NamesBoard (values : List Row) (named : BoardWords) : Type 0 where
   pub file_is : first_of (codes "FILE") values ≡ Some named.file.now
   pub who_is : NamesWho (first_of (codes "audience") values) named.asked.who
+  pub group_is : first_of (codes "group") values ≡ option_map (λ id. id.now) named.asked.group
   pub format_is : NamesFormat (first_of (codes "format") values) named.asked.format
   pub moment_is : NamesMoment (first_of (codes "at") values) named.at

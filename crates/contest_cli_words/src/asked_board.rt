@@ -25,6 +25,8 @@ pub enum BoardFormat {
 pub struct AskedBoard<'a> {
     /// Who looks at it.
     pub who: Who<'a>,
+    /// The id of the group whose board it is; none for the whole board.
+    pub group: Option<&'a str>,
     /// How it is written.
     pub format: BoardFormat,
 }

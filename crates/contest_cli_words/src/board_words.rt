@@ -25,7 +25,7 @@ pub struct BoardWords<'a> {
     pub at: Option<Moment>,
 }
 
-static ROWS: [WordRow; 4] = [
+static ROWS: [WordRow; 5] = [
     WordRow {
         name: "FILE",
         kind: WordKind::Word,
@@ -35,6 +35,11 @@ static ROWS: [WordRow; 4] = [
         name: "audience",
         kind: WordKind::Option("WHO"),
         help: "Shows what they see: public, jury or a team's id [default: public]",
+    },
+    WordRow {
+        name: "group",
+        kind: WordKind::Option("GROUP"),
+        help: "Shows the teams of the group with this id, ranked among each other",
     },
     WordRow {
         name: "at",
@@ -74,13 +79,14 @@ impl<'a> CommandWords<'a> for BoardWords<'a> {
     fn named(alloc: Global, values: &ArgMatches<'a>) -> Result<BoardWords<'a>, CommandError> {
         let file = word_in(values, "FILE");
         let who = who_in(value_in(values, "audience"));
+        let group = value_in(values, "group");
         let at = moment_in(alloc, value_in(values, "at"))?;
         let Some(format) = format_in(value_in(values, "format")) else {
             return Err(no_format(alloc));
         };
         Ok(BoardWords {
             file,
-            asked: AskedBoard { who, format },
+            asked: AskedBoard { who, group, format },
             at,
         })
     }

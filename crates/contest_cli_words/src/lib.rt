@@ -18,6 +18,7 @@ mod init_words;
 mod output;
 mod refusal_line;
 mod serve_words;
+mod upgrade_words;
 
 pub use arguments::{has_flag, value_in, word_in};
 pub use asked_board::{AskedBoard, BoardFormat, Who};
@@ -35,3 +36,4 @@ pub use init_words::InitWords;
 pub use output::{show, tell};
 pub use refusal_line::{LINE, push_number};
 pub use serve_words::ServeWords;
+pub use upgrade_words::UpgradeWords;

@@ -4,4 +4,5 @@
 pub mod demo;
 mod entries;
 mod filling;
+pub mod first_schema;
 mod rows;

@@ -1,8 +1,8 @@
 -- What the store's calls leave, of a thing that is done or that failed.
-use Rattle.std.proofs.Common.{◌≡◌, ◌∙◌, ℕ, List, Some, Result, Ok, Err, refl, sym, ap, subst, inl, inr}
-use Rattle.std.specs.Prelude.{◌⊎◌, ◌↔◌, Bool, true, false, IsTrue, IsFalse, Option}
+use Rattle.std.proofs.Common.{◌≡◌, ◌∙◌, ℕ, List, Result, Ok, Err, refl, sym, subst, inl, inr}
+use Rattle.std.specs.Prelude.{◌↔◌, IsTrue, IsFalse}
 use Rattle.std.proofs.lemmas.Bool.{false≢true}
-use Rattle.contest_types.specs.State.{ContestState, add_all}
+use Rattle.contest_types.specs.State.{add_all}
 use Rattle.contest_types.specs.declared.entry.Entry.{Entry}
 use Rattle.contest_store.specs.Keeping.{CountsFaults, Kept, LeavesNoMore, LeavesOnly}
 use Rattle.contest_store.specs.declared.store_error.StoreError.{StoreError}

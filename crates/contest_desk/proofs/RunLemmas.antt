@@ -5,7 +5,7 @@ use Rattle.std.proofs.lemmas.List.{append_assoc}
 use Rattle.std.proofs.lemmas.List.Elements.{All-pop}
 use Rattle.contest_types.specs.State.{ContestState}
 use Rattle.contest_streams.specs.Streams.{one_more}
-use Rattle.contest_store.specs.Keeping.{Kept, LeavesNoMore, LeavesOnly, LeavesOr}
+use Rattle.contest_store.specs.Keeping.{Kept, LeavesNoMore, LeavesOr}
 use Rattle.contest_desk.specs.Doing.{DoesOrFails}
 use Rattle.contest_desk.specs.Items.{IsFaultAnswer, IsStoreAnswer, item_entries, item_step}
 use Rattle.contest_desk.specs.Runs.{IsServed, IsRun, LeavesAfter, RunsTo, CountsAnswer, CountsAnswers}

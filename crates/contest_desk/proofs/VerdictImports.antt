@@ -1,5 +1,5 @@
 -- What a file of verdicts adds: never a failure, and what can't be noticed of it.
-use Rattle.std.proofs.Common.{◌≡◌, ◌+◌, ◌∙◌, ℕ, Bool, true, false, List, [], ◌∷◌, ◌++◌, Option, Some, None, Result, Ok, Err, refl, ap, inl, inr, subst}
+use Rattle.std.proofs.Common.{◌≡◌, ◌+◌, ℕ, Bool, true, false, List, [], ◌∷◌, ◌++◌, Option, Some, None, Result, Ok, Err, refl, ap, inl, inr, subst}
 use Rattle.std.specs.Prelude.{if◌then◌else◌}
 use Rattle.std.specs.List.{flat_map}
 use Rattle.contest_files.specs.FieldTexts.{Text}
@@ -20,7 +20,7 @@ use Rattle.contest_rules.specs.declared.proposing.NewVerdict.{NewVerdict}
 use Rattle.contest_rules.specs.declared.verdicts.NamedVerdict.{NamedVerdict}
 use Rattle.contest_rules.specs.declared.verdicts.WantedVerdict.{WantedVerdict}
 use Rattle.contest_import_verdicts.specs.VerdictFiles.{after_records, entries_if, if_added, imported_verdict, or_fault_of, verdict_on, verdict_records, verdict_wanted, verdicts_in, wanted_in, with_verdict, with_verdicts}
-use Rattle.contest_desk.specs.Imports.{entries_of, imported}
+use Rattle.contest_desk.specs.Imports.{entries_of}
 use Rattle.contest_desk.specs.Unseen.{AreUnseen, IsUnseenRelease}
 use Rattle.contest_desk.specs.VerdictLaws.{ImportedVerdictsAreUnseen, PendingVerdictsAreUnseen}
 use Rattle.contest_desk.proofs.ImportLemmas.{imported_holds}

@@ -1,6 +1,6 @@
 -- What doing one thing leaves of a kept contest, whoever keeps it: a request that is handled, a file that is imported, an
 -- item of a run (own).
-use Rattle.std.specs.Prelude.{◌≡◌, ◌⊎◌, ◌≤◌, ℕ, List, IsTrue, IsFalse}
+use Rattle.std.specs.Prelude.{◌≡◌, ◌⊎◌, ◌≤◌, List, IsTrue, IsFalse}
 use Rattle.contest_types.specs.State.{ContestState}
 use Rattle.contest_types.specs.declared.entry.Entry.{Entry}
 use Rattle.contest_streams.specs.Streams.{Failed, one_more}

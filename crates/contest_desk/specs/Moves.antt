@@ -1,5 +1,5 @@
 -- What others add to two contests that are alike for an audience (own).
-use Rattle.std.specs.Prelude.{◌≡◌, true, false, List, [], ◌∷◌}
+use Rattle.std.specs.Prelude.{◌≡◌, ◌⊎◌, true, false, List, [], ◌∷◌, length}
 use Rattle.contest_types.specs.Addable.{are_addable}
 use Rattle.contest_types.specs.Alike.{Alike, open_clarification}
 use Rattle.contest_types.specs.Masks.{owns}
@@ -10,6 +10,7 @@ use Rattle.contest_types.specs.declared.entry.Entry.{Entry}
 use Rattle.contest_types.specs.declared.entry.Entry.TheVariants.{NewClarification, NewRelease, NewSubmission, NewType, NewLanguage, NewProblem, NewGroup, NewTeam, NewAccount, SetStart, SetThaw, SetFinalized}
 use Rattle.contest_types.specs.declared.audience.Audience.{Audience}
 use Rattle.contest_types.specs.declared.clarification.Clarification.{Clarification}
+use Rattle.contest_types.specs.declared.objects.Team.{Team}
 use Rattle.contest_types.specs.declared.submission.Release.{Release}
 use Rattle.contest_types.specs.declared.submission.Submission.{Submission}
 use Rattle.contest_desk.specs.Unseen.{IsUnseen}
@@ -44,6 +45,11 @@ abbrev pub TellsLike : Audience → ContestState → Clarification → Entry →
 TellsLike a x c (NewClarification d) = TellTheSame a x c d
 TellsLike a x c _ = ⊥
 
+-- a new team that isn't the audience itself, or is in no group: else the audience would hear what its groups were told
+-- before
+abbrev pub TellsNothingOlder : Audience → ContestState → Team → Type 0
+TellsNothingOlder a x t = (owns a (length x.fixed.settings.teams) ≡ false) ⊎ (t.groups ≡ [])
+
 -- two entries that show an audience the same: of the settings, the accounts and the marks, which the promise takes as
 -- equal, the same. Nothing else that is added is seen
 abbrev pub AreSame : Audience → ContestState → Entry → Entry → Type 0
@@ -54,7 +60,7 @@ AreSame a x (NewType t) f = f ≡ NewType t
 AreSame a x (NewLanguage l) f = f ≡ NewLanguage l
 AreSame a x (NewProblem p) f = f ≡ NewProblem p
 AreSame a x (NewGroup g) f = f ≡ NewGroup g
-AreSame a x (NewTeam t) f = f ≡ NewTeam t
+AreSame a x (NewTeam t) f = (f ≡ NewTeam t) × TellsNothingOlder a x t
 AreSame a x (NewAccount account) f = f ≡ NewAccount account
 AreSame a x (SetStart start) f = f ≡ SetStart start
 AreSame a x (SetThaw thaw) f = f ≡ SetThaw thaw

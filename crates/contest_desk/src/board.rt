@@ -1,4 +1,4 @@
-//! The board that an audience sees.
+//! The boards that an audience sees: the whole one, and those of groups.
 ghost use Rattle.std.specs.Prelude.{◌≡◌, Err, IfOk, Option, Result, Some, None};
 ghost use Rattle.contest_score.specs.Ranking.{Scoreboard};
 ghost use Rattle.contest_store.specs.declared.store_error.StoreError.{StoreError as TheStoreError};
@@ -13,15 +13,16 @@ use contest_types::{Audience, Moment, Refusal};
 use contest_view::{Seen, board_found};
 use std::alloc::Global;
 
-// The board, if there is such an audience.
+// The board, if there is such an audience and such a group.
 fn found<S: ContestStore>(
     alloc: Global,
     store: &mut S,
     now: Moment,
     audience: Audience,
+    group: Option<usize>,
 ) -> Result<Option<Board>, StoreError>
     requires { IsSettled (S.kept store.old) }
-    ensures value { (S.kept store.new).is_clean → IfOk result (λ o. o ≡ board_found audience now (S.kept store.old).contest) }
+    ensures value { (S.kept store.new).is_clean → IfOk result (λ o. o ≡ board_found audience now group (S.kept store.old).contest) }
     ensures leaves { OnlyReads result (S.kept store.old) (S.kept store.new) }
 {
     store.load(alloc)?;
@@ -31,7 +32,7 @@ fn found<S: ContestStore>(
         audience,
         now,
     };
-    let found = board_found(alloc, &seen)?;
+    let found = board_found(alloc, &seen, group)?;
     Ok(found)
 }
 
@@ -48,11 +49,47 @@ impl<S: ContestStore> Desk<S> {
         now: Moment,
         audience: Audience,
     ) -> Result<Board, Refusal>
-        ensures board { (S.kept self.new).is_clean → IfOk result (λ b. board_found audience now (S.kept self.old).contest ≡ Some b) }
-        ensures missing { (S.kept self.new).is_clean → result ≡ Err Refusal.NotFound → board_found audience now (S.kept self.old).contest ≡ None }
+        ensures board { (S.kept self.new).is_clean → IfOk result (λ b. board_found audience now None (S.kept self.old).contest ≡ Some b) }
+        ensures missing { (S.kept self.new).is_clean → result ≡ Err Refusal.NotFound → board_found audience now None (S.kept self.old).contest ≡ None }
         ensures leaves { (r : Result (Option Scoreboard) TheStoreError) × (result ≡ board_told r) × OnlyReads r (S.kept self.old) (S.kept self.new) }
     {
-        told(found(alloc, &mut self.store, now, audience))
+        self.board_of(alloc, now, audience, None)
+    }
+
+    /// The board of the group at a place in the settings, from 0, as an audience sees it at a moment: its
+    /// teams alone, ranked among each other (own). The contest stays as it is.
+    ///
+    /// # Errors
+    ///
+    /// `NotFound` for a team or a group that isn't there, `StoreFault` where the store failed, which counts
+    /// it, and `Memory` where a growth was refused.
+    pub fn group_board(
+        &mut self,
+        alloc: Global,
+        now: Moment,
+        audience: Audience,
+        group: usize,
+    ) -> Result<Board, Refusal>
+        ensures board { (S.kept self.new).is_clean → IfOk result (λ b. board_found audience now (Some group) (S.kept self.old).contest ≡ Some b) }
+        ensures missing { (S.kept self.new).is_clean → result ≡ Err Refusal.NotFound → board_found audience now (Some group) (S.kept self.old).contest ≡ None }
+        ensures leaves { (r : Result (Option Scoreboard) TheStoreError) × (result ≡ board_told r) × OnlyReads r (S.kept self.old) (S.kept self.new) }
+    {
+        self.board_of(alloc, now, audience, Some(group))
+    }
+
+    // The whole board, or that of a group.
+    fn board_of(
+        &mut self,
+        alloc: Global,
+        now: Moment,
+        audience: Audience,
+        group: Option<usize>,
+    ) -> Result<Board, Refusal>
+        ensures board { (S.kept self.new).is_clean → IfOk result (λ b. board_found audience now group (S.kept self.old).contest ≡ Some b) }
+        ensures missing { (S.kept self.new).is_clean → result ≡ Err Refusal.NotFound → board_found audience now group (S.kept self.old).contest ≡ None }
+        ensures leaves { (r : Result (Option Scoreboard) TheStoreError) × (result ≡ board_told r) × OnlyReads r (S.kept self.old) (S.kept self.new) }
+    {
+        told(found(alloc, &mut self.store, now, audience, group))
     }
 }
 

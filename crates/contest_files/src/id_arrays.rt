@@ -1,16 +1,18 @@
 //! Reading the ids in a JSON array.
-ghost use Rattle.std.specs.Prelude.{◌≡◌, IfOk, IfErr, map};
+ghost use Rattle.std.specs.Prelude.{◌≡◌, ℕ, List, false, IfOk, IfErr, map};
+ghost use Rattle.std.specs.Borrow.{Bor};
 ghost use Rattle.std.specs.Option.{option_map};
 ghost use Rattle.serde_json.specs.Find.{as_array};
 ghost use Rattle.serde_json.specs.View.{view};
-ghost use Rattle.contest_types.specs.Places.{are_different, is_among};
+ghost use Rattle.contest_types.specs.Places.{are_different};
 ghost use Rattle.contest_types.specs.Options.{all_some};
-ghost use Rattle.contest_files.specs.IdArrays.{id_item, ids_in};
+ghost use Rattle.contest_files.specs.IdArrays.{id_item, ids_in, is_seen};
 ghost use Rattle.contest_files.specs.JsonMembers.{list_of};
 
 use contest_types::{Id, Refusal, Rows};
 use serde_json::Value;
-use std::alloc::Global;
+use std::alloc::{AllocError, Global};
+use std::collections::HashSet;
 
 /// The ids in an array, in its order, if all its items are ids.
 ///
@@ -63,21 +65,26 @@ fn id_item(alloc: Global, item: &Value) -> Result<Option<Id>, Refusal>
 }
 
 /// Whether no two of these ids are equal.
-pub fn are_different(ids: &[Id]) -> bool
-    ensures { result ≡ are_different ids.now }
+///
+/// # Errors
+///
+/// Want of memory alone.
+pub fn are_different(alloc: Global, ids: &[Id]) -> Result<bool, AllocError>
+    ensures { IfOk result (λ answer. answer ≡ are_different ids.now) }
 {
-    let mut rest = ids;
-    while let Some((id, others)) = rest.split_first() {
-        if is_among(others, id) {
-            return false;
-        }
-        rest = others;
-    }
-    true
+    let mut seen = HashSet::new(alloc);
+    is_each_new(&mut seen, ids)
 }
 
-fn is_among(ids: &[Id], id: &Id) -> bool
-    ensures { result ≡ is_among ids.now id.now }
+// Whether no id was seen before, where none is yet.
+fn is_each_new<'a>(seen: &mut HashSet<&'a str>, ids: &'a [Id]) -> Result<bool, AllocError>
+    requires { (id : Bor (List ℕ)) → is_seen seen.old id ≡ false }
+    ensures { IfOk result (λ answer. answer ≡ are_different ids.now) }
 {
-    ids.iter().any(|other| *other == *id)
+    for id in ids {
+        if !seen.insert(id.as_str())? {
+            return Ok(false);
+        }
+    }
+    Ok(true)
 }

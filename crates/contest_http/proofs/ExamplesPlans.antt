@@ -39,10 +39,10 @@ listed = refl
 hexadecimal : body_length (codes "0x12" ∷ []) ≡ Err Malformed
 hexadecimal = refl
 
-largest : body_length (codes "524288" ∷ []) ≡ Ok 524_288
+largest : body_length (codes "2097152" ∷ []) ≡ Ok 2_097_152
 largest = refl
 
-one_more : body_length (codes "524289" ∷ []) ≡ Err BodyTooLarge
+one_more : body_length (codes "2097153" ∷ []) ≡ Err BodyTooLarge
 one_more = refl
 
 -- past every number of the machine, and by its zeros alone
@@ -114,13 +114,13 @@ delete = refl
 abbrev asked : (target : List ℕ) → List FieldText → Plan
 asked target fields = plan_of method.Post target 1 fields
 
-encoding_first : asked (codes "*") (chunked ∷ sized (codes "999999") ∷ []) ≡ Refuse Encoding false
+encoding_first : asked (codes "*") (chunked ∷ sized (codes "9999999") ∷ []) ≡ Refuse Encoding false
 encoding_first = refl
 
-then_host : asked (codes "*") (sized (codes "999999") ∷ []) ≡ Refuse Malformed false
+then_host : asked (codes "*") (sized (codes "9999999") ∷ []) ≡ Refuse Malformed false
 then_host = refl
 
-then_length : asked (codes "*") (host ∷ sized (codes "999999") ∷ []) ≡ Refuse BodyTooLarge false
+then_length : asked (codes "*") (host ∷ sized (codes "9999999") ∷ []) ≡ Refuse BodyTooLarge false
 then_length = refl
 
 then_target : asked (codes "*") (host ∷ sized (codes "9") ∷ []) ≡ Refuse Malformed false

@@ -25,7 +25,7 @@ pub(crate) fn team_or_malformed(
 {
     match told {
         Some(team) => {
-            if are_different(team.groups.as_slice()) {
+            if are_different(alloc, team.groups.as_slice())? {
                 team_of(alloc, settings, team)
             } else {
                 Err(MALFORMED)

@@ -1,12 +1,13 @@
 //! Clarifications as they are served.
 ghost use Rattle.std.specs.Prelude.{◌≡◌, false, IfOk, option_map};
 ghost use Rattle.std.specs.Option.{option_and_then};
-ghost use Rattle.serde_json.specs.Data.{object};
+ghost use Rattle.serde_json.specs.Data.{object, string};
 ghost use Rattle.serde_json.specs.View.{view};
 ghost use Rattle.serde_json.specs.Written.{has_float};
 ghost use Rattle.contest_types.specs.ProblemPlaces.{problem_id_at};
 ghost use Rattle.contest_types.specs.Sight.{heard_reference, seen_clarification};
-ghost use Rattle.contest_objects.specs.ClarificationObjects.{clarification_data, clarification_members, receiver, reference_id, team_of, writer};
+ghost use Rattle.contest_objects.specs.Members.{shown};
+ghost use Rattle.contest_objects.specs.ClarificationObjects.{clarification_data, clarification_members, group_of, receiver, reference_id, team_of, writer};
 
 use crate::members::{Member, object_of};
 use crate::visible_ids::clarification_id;
@@ -24,6 +25,7 @@ struct Members<'a> {
     id: &'a str,
     problem: Option<&'a str>,
     reply: Option<&'a str>,
+    group: Option<&'a str>,
     start: &'a Option<Moment>,
     text: &'a str,
     time: &'a Moment,
@@ -31,7 +33,8 @@ struct Members<'a> {
 }
 
 /// The JSON value of a clarification that an audience hears (Contest API 2023-06, clarification object):
-/// `contest_time`, `from_team_id`, `id`, `problem_id`, `reply_to_id`, `text`, `time` and `to_team_id`.
+/// `contest_time`, `from_team_id`, `id`, `problem_id`, `reply_to_id`, `text`, `time` and `to_team_id`; where it goes
+/// to a group also `to_group_id` (own).
 ///
 /// # Errors
 ///
@@ -55,6 +58,7 @@ pub fn clarification_value(
         id: id.as_str(),
         problem: problem_of(settings, clarification.problem),
         reply: text_of(&reply),
+        group: group_of(settings, addressee),
         start: &fixed.marks.start,
         text: clarification.text.as_str(),
         time: &clarification.time,
@@ -64,9 +68,10 @@ pub fn clarification_value(
 }
 
 // The object with these members.
+#[tactic(auto, using(crate::proofs::ClarificationObjectLemmas::members_in_order))]
 fn clarification_object(alloc: Global, members: Members<'_>) -> Result<Value, AllocError>
     ensures { IfOk result (λ v. view v ≡ object (clarification_members members.entry.start.now (option_map (λ t. t.now) members.entry.from) members.entry.id.now
-        (option_map (λ t. t.now) members.entry.problem) (option_map (λ t. t.now) members.entry.reply) members.entry.text.now members.entry.time.now (option_map (λ t. t.now) members.entry.to))) }
+        (option_map (λ t. t.now) members.entry.problem) (option_map (λ t. t.now) members.entry.reply) members.entry.text.now members.entry.time.now (option_map (λ t. t.now) members.entry.group) (option_map (λ t. t.now) members.entry.to))) }
 {
     object_of(
         alloc,
@@ -81,6 +86,7 @@ fn clarification_object(alloc: Global, members: Members<'_>) -> Result<Value, Al
             ("reply_to_id", Member::TextOrNull(members.reply)),
             ("text", Member::Text(members.text)),
             ("time", Member::Time(members.time)),
+            ("to_group_id", text_where(members.group)),
             ("to_team_id", Member::TextOrNull(members.to)),
         ],
     )
@@ -110,8 +116,27 @@ fn team_of(settings: &Settings, addressee: Addressee) -> Option<&str>
     ensures { option_map (λ t. t.now) result ≡ team_of settings.now addressee }
 {
     match addressee {
-        Addressee::All => None,
+        Addressee::All | Addressee::Group(_) => None,
         Addressee::Team(team) => Some(settings.team_id(team)),
+    }
+}
+
+fn group_of(settings: &Settings, addressee: Addressee) -> Option<&str>
+    ensures { option_map (λ t. t.now) result ≡ group_of settings.now addressee }
+{
+    match addressee {
+        Addressee::Group(group) => Some(settings.group_id(group)),
+        Addressee::All | Addressee::Team(_) => None,
+    }
+}
+
+// A text, where there is one.
+fn text_where(text: Option<&str>) -> Member<'_>
+    ensures { shown result ≡ option_map string (option_map (λ t. t.now) text.entry) }
+{
+    match text {
+        Some(text) => Member::Text(text),
+        None => Member::Absent,
     }
 }
 

@@ -1,5 +1,6 @@
 //! The ids of submissions, judgements and clarifications, made without memory.
-ghost use Rattle.std.specs.Prelude.{◌≡◌, ◌≤◌, ◌+◌, ◌++◌};
+ghost use Rattle.std.specs.Prelude.{◌≡◌, ◌≤◌, ◌+◌, ◌++◌, codes, length};
+ghost use Rattle.std.specs.Fmt.{decimal};
 ghost use Rattle.std.specs.Str.{bytes_eq};
 ghost use Rattle.arrayvec.specs.ArrayString.{array_string_len};
 ghost use Rattle.contest_types.specs.VisibleIds.{clarification_id, judgement_id, submission_id};
@@ -51,7 +52,8 @@ pub fn clarification_id(addressee: Addressee, number: usize) -> ArrayString<ID>
 {
     match addressee {
         Addressee::All => id_to_all(number),
-        Addressee::Team(team) => id_of_team(team, number),
+        Addressee::Group(group) => id_of_one("g", group, number),
+        Addressee::Team(team) => id_of_one("c", team, number),
     }
 }
 
@@ -64,12 +66,14 @@ fn id_to_all(number: usize) -> ArrayString<ID>
     id
 }
 
-fn id_of_team(team: usize, number: usize) -> ArrayString<ID>
-    ensures { result.bytes ≡ clarification_id (Addressee.Team team) number }
+// The id of one that is a group's or a team's, whose place counts from 0.
+fn id_of_one(letter: &str, place: usize, number: usize) -> ArrayString<ID>
+    requires { length letter.now ≡ 1 }
+    ensures { result.bytes ≡ letter.now ++ decimal (place + 1) ++ codes "-" ++ decimal number }
 {
     let mut id = ArrayString::new();
-    id.push_str("c");
-    push_number(&mut id, team as u128 + 1);
+    id.push_str(letter);
+    push_number(&mut id, place as u128 + 1);
     id.push_str("-");
     push_number(&mut id, number);
     id

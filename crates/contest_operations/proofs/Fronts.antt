@@ -83,16 +83,17 @@ same_place_from a b n (x ∷ xs) i j h k =
     ] in
     by (bytes_eq a x) (bytes_eq b x) refl refl
 
--- the fixed part as far as a submission and its value go by it
+-- the fixed part as far as what is posted and its value go by it
 pub record Extends (f g : FixedPart) : Type 0 where
   pub head : g.settings.head ≡ f.settings.head
   pub languages : IsFront f.settings.languages g.settings.languages
   pub problems : IsFront f.settings.problems g.settings.problems
+  pub groups : IsFront f.settings.groups g.settings.groups
   pub teams : IsFront f.settings.teams g.settings.teams
   pub start : g.marks.start ≡ f.marks.start
 
 pub extends : (x y : ContestState) → Grows x y → HasRows x → Extends x.fixed y.fixed
-extends x y h some = record { head = h.head; languages = h.languages; problems = h.problems; teams = h.teams; start = h.start some }
+extends x y h some = record { head = h.head; languages = h.languages; problems = h.problems; groups = h.groups; teams = h.teams; start = h.start some }
 
 -- texts that may be none
 

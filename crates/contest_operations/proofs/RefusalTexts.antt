@@ -41,6 +41,7 @@ body_is_text (refusal.ImportRow n cause) = refl
 body_is_text refusal.SettingsClosed = refl
 body_is_text refusal.StoreFault = refl
 body_is_text refusal.Memory = refl
+body_is_text refusal.OldSchema = refl
 
 -- what a refusal's row tells, with the refusal's field, is its reply
 pub told_is_refused : (row : RefusalRow) (r : Refusal) (extra : ExtraField) (text : List ℕ)

@@ -1,6 +1,7 @@
 -- A clarification that is repeated in a contest that has grown.
-use Rattle.std.proofs.Common.{◌≡◌, ◌∙◌, ◌+◌, ◌<◌, ℕ, Bool, true, false, List, [], ◌∷◌, ◌++◌, length, map, Option, Some, None, Ok, Err, refl, sym, ap, subst, inr}
+use Rattle.std.proofs.Common.{◌≡◌, ◌∙◌, ◌+◌, ◌-◌, ◌<◌, ℕ, Bool, true, false, List, [], ◌∷◌, ◌++◌, length, map, Option, Some, None, Ok, Err, refl, sym, ap, subst, inr, arith}
 use Rattle.std.specs.Prelude.{◌==◌, ◌&&◌, find, is_some, nat_lt, if◌then◌else◌}
+use Rattle.std.specs.List.{list_any}
 use Rattle.std.specs.Option.{option_map, option_map_or, option_and_then, option_or}
 use Rattle.std.specs.Str.{bytes_eq}
 use Rattle.std.proofs.lemmas.Bool.{eq-eqb, eqb-true, false≢true}
@@ -14,13 +15,13 @@ use Rattle.contest_types.specs.Sight.{hears, heard_reference, sees_clarification
 use Rattle.contest_types.specs.State.{ContestState, FixedPart, add, add_all, same_addressee}
 use Rattle.contest_types.specs.ValidClarifications.{Scope, OfTeam, OfAccount, is_an_addressee, same_scope, scope_of}
 use Rattle.contest_types.specs.VisibleIds.{clarification_id}
-use Rattle.contest_types.specs.declared.audience.Audience.{Audience}
 use Rattle.contest_types.specs.declared.audience.Audience.TheVariants as audience
 use Rattle.contest_types.specs.declared.clarification.Addressee.{Addressee}
 use Rattle.contest_types.specs.declared.clarification.Addressee.TheVariants as addressee
 use Rattle.contest_types.specs.declared.clarification.Clarification.{Clarification}
 use Rattle.contest_types.specs.declared.clarification.Reference.{Reference}
 use Rattle.contest_types.specs.declared.entry.Entry.TheVariants.{NewClarification}
+use Rattle.contest_types.specs.declared.objects.Group.{Group}
 use Rattle.contest_types.specs.declared.objects.Problem.{Problem}
 use Rattle.contest_types.specs.declared.objects.Team.{Team}
 use Rattle.contest_types.specs.declared.refusal.Refusal.TheVariants.{KeyReused as TheKeyReused}
@@ -30,13 +31,15 @@ use Rattle.contest_types.proofs.Rising.{find_passes}
 use Rattle.contest_types.proofs.SeenWhole.{below}
 use Rattle.contest_types.proofs.SightLemmas.{same_is_one}
 use Rattle.contest_types.proofs.ValidParts.{four}
-use Rattle.contest_objects.specs.ClarificationObjects.{clarification_members, reference_id, team_of}
+use Rattle.contest_objects.specs.ClarificationObjects.{clarification_members, group_of, reference_id, team_of}
 use Rattle.contest_rules.specs.Clarifying.{addressee_for, audience_of, clarify, clarify_on, go_to_the_same, has_this_key, heard_clarification, if_asked, named_clarification, next_clarification, problem_for, reference_of, said_again, said_anew, same_place, same_reply, says_the_same, scope_for, want_the_same, written_under}
 use Rattle.contest_rules.specs.Laws.{IsWriter}
 use Rattle.contest_rules.specs.Submitting.{same_text}
 use Rattle.contest_rules.specs.declared.clarifying.NamedClarification.{NamedClarification}
 use Rattle.contest_rules.specs.declared.clarifying.Sender.{Sender}
 use Rattle.contest_rules.specs.declared.clarifying.Sender.TheVariants as sender
+use Rattle.contest_rules.specs.declared.clarifying.WantedAddressee.{WantedAddressee}
+use Rattle.contest_rules.specs.declared.clarifying.WantedAddressee.TheVariants.{All as WantsAll, Group as WantsGroup, Team as WantsTeam}
 use Rattle.contest_rules.specs.declared.clarifying.WantedClarification.{WantedClarification}
 use Rattle.contest_rules.specs.declared.decision.Decision.TheVariants.{Add, Stands}
 use Rattle.contest_rules.specs.declared.rule_refusal.RuleRefusal.TheVariants.{KeyReused}
@@ -54,15 +57,26 @@ use Rattle.contest_operations.proofs.RuledLemmas.{ruled_refuses}
 
 -- what a clarification names is still there
 
-hears_still : (a : Audience) (s t : Setup) (to : Addressee) → hears a s to ≡ hears a t to
-hears_still a s t addressee.All = refl
-hears_still a s t (addressee.Team team) = refl
+-- who writes hears the same of what is there, and the jury whatever there is
+hears_still : (f g : FixedPart) (s : Sender) (account : List ℕ) → Extends f g → IsWriter f s account → (to : Addressee) → hears (audience_of s) f.settings to ≡ hears (audience_of s) g.settings to
+hears_still f g s account h writer addressee.All = refl
+hears_still f g (sender.Team team) account h writer (addressee.Group group) =
+    let there : team + 1 - 1 < length f.settings.teams = omega (arith, writer.0) in
+    ap (λ (o : Option Team). nat_lt 0 (team + 1) && option_map_or (λ (t : Team). list_any (λ g. g == group) t.groups) o false) (sym (at_front f.settings.teams g.settings.teams (team + 1 - 1) h.teams there))
+hears_still f g sender.Jury account h writer (addressee.Group group) = refl
+hears_still f g s account h writer (addressee.Team team) = refl
 
-heard_front : (f g : FixedPart) (s : Sender) (cs ds : List Clarification) (id : List ℕ) (r : Reference) → IsFront cs ds → heard_clarification f s cs id ≡ Some r → heard_clarification g s ds id ≡ Some r
-heard_front f g s cs ds id r front h =
+jury_hears_still : (s t : Setup) (to : Addressee) → hears audience.Jury s to ≡ hears audience.Jury t to
+jury_hears_still s t addressee.All = refl
+jury_hears_still s t (addressee.Group group) = refl
+jury_hears_still s t (addressee.Team team) = refl
+
+heard_front : (f g : FixedPart) (s : Sender) (account : List ℕ) (cs ds : List Clarification) (id : List ℕ) (r : Reference) → Extends f g → IsWriter f s account → IsFront cs ds
+    → heard_clarification f s cs id ≡ Some r → heard_clarification g s ds id ≡ Some r
+heard_front f g s account cs ds id r extends writer front h =
     let test : Clarification → Bool = λ c. sees_clarification (audience_of s) f.settings c && bytes_eq (clarification_id c.addressee c.number) id in
     let same : heard_clarification f s ds id ≡ heard_clarification g s ds id =
-    λ i. option_map reference_of (find (λ (c : Clarification). hears_still (audience_of s) f.settings g.settings c.addressee i && bytes_eq (clarification_id c.addressee c.number) id) ds) in
+    λ i. option_map reference_of (find (λ (c : Clarification). hears_still f g s account extends writer c.addressee i && bytes_eq (clarification_id c.addressee c.number) id) ds) in
     let go : (o : Option Clarification) → find test cs ≡ o → option_map reference_of o ≡ Some r → heard_clarification f s ds id ≡ Some r = elim [
       | None ↦ λ e k. absurd (cc k)
       | (Some c) ↦ λ e k. ap (option_map reference_of) (find_front test cs ds c front e) ∙ k
@@ -80,25 +94,51 @@ asked_still {B} (Some id) p q found still h =
     ] in
     go (p id) refl h
 
-addressee_still : (f g : FixedPart) (s : Sender) (to : Option (List ℕ)) (a : Addressee) → Extends f g → addressee_for f s to ≡ Some a → addressee_for g s to ≡ Some a
-addressee_still f g (sender.Team team) to a h e = e
-addressee_still f g sender.Jury None a h e = e
-addressee_still f g sender.Jury (Some id) a h e =
-    let go : (o : Option ℕ) → place_of id (map (λ (t : Team). t.id) f.settings.teams) ≡ o → option_map (λ team. addressee.Team team) o ≡ Some a → addressee_for g sender.Jury (Some id) ≡ Some a = elim [
-      | None ↦ λ p k. absurd (cc k)
-      | (Some team) ↦ λ p k. ap (option_map (λ at. addressee.Team at)) (place_front (λ (t : Team). t.id) id f.settings.teams g.settings.teams team h.teams p) ∙ k
-    ] in
-    go (place_of id (map (λ (t : Team). t.id) f.settings.teams)) refl e
+-- the place that an id gives is that of an addressee
+record PlacedBy (make : ℕ → Addressee) (ids : List (List ℕ)) (id : List ℕ) (to : Addressee) : Type 0 where
+  pub place : ℕ
+  pub at : place_of id ids ≡ Some place
+  pub is : make place ≡ to
 
-named_still : (f g : FixedPart) (s : Sender) (cs ds : List Clarification) (w : WantedClarification) (n : NamedClarification) → Extends f g → IsFront cs ds
+placed_by : (make : ℕ → Addressee) (ids : List (List ℕ)) (id : List ℕ) (to : Addressee) → option_map make (place_of id ids) ≡ Some to → PlacedBy make ids id to
+placed_by make ids id to h =
+    let go : (o : Option ℕ) → place_of id ids ≡ o → option_map make o ≡ Some to → PlacedBy make ids id to = elim [
+      | None ↦ λ p k. absurd (cc k)
+      | (Some place) ↦ λ p k. record { place = place; at = p; is = cc k }
+    ] in
+    go (place_of id ids) refl h
+
+abbrev group_ids : FixedPart → List (List ℕ)
+group_ids f = map (λ (g : Group). g.id) f.settings.groups
+
+abbrev team_ids : FixedPart → List (List ℕ)
+team_ids f = map (λ (t : Team). t.id) f.settings.teams
+
+abbrev to_group : ℕ → Addressee
+to_group place = addressee.Group place
+
+abbrev to_team : ℕ → Addressee
+to_team place = addressee.Team place
+
+addressee_still : (f g : FixedPart) (s : Sender) (to : WantedAddressee) (a : Addressee) → Extends f g → addressee_for f s to ≡ Some a → addressee_for g s to ≡ Some a
+addressee_still f g (sender.Team team) to a h e = e
+addressee_still f g sender.Jury WantsAll a h e = e
+addressee_still f g sender.Jury (WantsGroup id) a h e =
+    let p = placed_by to_group (group_ids f) id a e in
+    ap (option_map to_group) (place_front (λ (r : Group). r.id) id f.settings.groups g.settings.groups p.place h.groups p.at) ∙ ap Some p.is
+addressee_still f g sender.Jury (WantsTeam id) a h e =
+    let p = placed_by to_team (team_ids f) id a e in
+    ap (option_map to_team) (place_front (λ (t : Team). t.id) id f.settings.teams g.settings.teams p.place h.teams p.at) ∙ ap Some p.is
+
+named_still : (f g : FixedPart) (s : Sender) (account : List ℕ) (cs ds : List Clarification) (w : WantedClarification) (n : NamedClarification) → Extends f g → IsWriter f s account → IsFront cs ds
     → named_clarification f s cs w ≡ Some n → named_clarification g s ds w ≡ Some n
-named_still f g s cs ds w n h front named =
+named_still f g s account cs ds w n h writer front named =
     let n_on = named_on f s (option_and_then (heard_clarification f s cs) w.reply) w n named in
-    let to = addressee_still f g s w.to_team n.addressee h n_on.to in
+    let to = addressee_still f g s w.to n.addressee h n_on.to in
     let problem : problem_for g w.problem ≡ Some n.problem = asked_still w.problem (λ id. place_of id (map (λ (p : Problem). p.id) f.settings.problems)) (λ id. place_of id (map (λ (p : Problem). p.id) g.settings.problems)) n.problem
     (λ id at. place_front (λ (p : Problem). p.id) id f.settings.problems g.settings.problems at h.problems) n_on.problem in
     let reply : if_asked w.reply (option_and_then (heard_clarification g s ds) w.reply) ≡ Some n.reply = asked_still w.reply (heard_clarification f s cs) (heard_clarification g s ds) n.reply
-    (λ id r. heard_front f g s cs ds id r front) n_on.reply in
+    (λ id r. heard_front f g s account cs ds id r h writer front) n_on.reply in
     λ i. option_and_then (λ (t : Addressee). option_and_then (λ (p : Option ℕ). option_map (λ (r : Option Reference). made t p r) (reply i)) (problem i)) (to i)
   where
     made : Addressee → Option ℕ → Option Reference → NamedClarification
@@ -133,36 +173,44 @@ same_places ids (Some a) (Some b) i j h k =
     ] in
     go (place_of a ids) (place_of b ids) refl refl h k
 
-same_addressees : (f : FixedPart) (s : Sender) (a b : Option (List ℕ)) (to other : Addressee) → addressee_for f s a ≡ Some to → addressee_for f s b ≡ Some other → same_addressee to other ≡ go_to_the_same s a b
+same_addressees : (f : FixedPart) (s : Sender) (a b : WantedAddressee) (to other : Addressee) → addressee_for f s a ≡ Some to → addressee_for f s b ≡ Some other → same_addressee to other ≡ go_to_the_same s a b
 same_addressees f (sender.Team team) a b to other h k =
     let is : addressee.Team team ≡ to = cc h in
     let goes : addressee.Team team ≡ other = cc k in
     (λ z. same_addressee (sym is z) (sym goes z)) ∙ eq-eqb team team refl
-same_addressees f sender.Jury None None to other h k = let is : addressee.All ≡ to = cc h in let goes : addressee.All ≡ other = cc k in λ z. same_addressee (sym is z) (sym goes z)
-same_addressees f sender.Jury None (Some b) to other h k =
+same_addressees f sender.Jury WantsAll WantsAll to other h k = let is : addressee.All ≡ to = cc h in let goes : addressee.All ≡ other = cc k in λ z. same_addressee (sym is z) (sym goes z)
+same_addressees f sender.Jury WantsAll (WantsGroup b) to other h k =
     let is : addressee.All ≡ to = cc h in
-    let go : (o : Option ℕ) → option_map (λ at. addressee.Team at) o ≡ Some other → same_addressee addressee.All other ≡ false = elim [
-      | None ↦ λ e. absurd (cc e)
-      | (Some m) ↦ λ e. (let goes : addressee.Team m ≡ other = cc e in ap (same_addressee addressee.All) (sym goes))
-    ] in
-    ap (λ t. same_addressee t other) (sym is) ∙ go (place_of b (map (λ (t : Team). t.id) f.settings.teams)) k
-same_addressees f sender.Jury (Some a) None to other h k =
+    let q = placed_by to_group (group_ids f) b other k in
+    λ z. same_addressee (sym is z) (sym q.is z)
+same_addressees f sender.Jury WantsAll (WantsTeam b) to other h k =
+    let is : addressee.All ≡ to = cc h in
+    let q = placed_by to_team (team_ids f) b other k in
+    λ z. same_addressee (sym is z) (sym q.is z)
+same_addressees f sender.Jury (WantsGroup a) WantsAll to other h k =
+    let p = placed_by to_group (group_ids f) a to h in
     let goes : addressee.All ≡ other = cc k in
-    let go : (o : Option ℕ) → option_map (λ at. addressee.Team at) o ≡ Some to → same_addressee to addressee.All ≡ false = elim [
-      | None ↦ λ e. absurd (cc e)
-      | (Some m) ↦ λ e. (let is : addressee.Team m ≡ to = cc e in ap (λ t. same_addressee t addressee.All) (sym is))
-    ] in
-    ap (same_addressee to) (sym goes) ∙ go (place_of a (map (λ (t : Team). t.id) f.settings.teams)) h
-same_addressees f sender.Jury (Some a) (Some b) to other h k =
-    let ids = map (λ (t : Team). t.id) f.settings.teams in
-    let go : (o q : Option ℕ) → place_of a ids ≡ o → place_of b ids ≡ q → option_map (λ at. addressee.Team at) o ≡ Some to → option_map (λ at. addressee.Team at) q ≡ Some other → same_addressee to other ≡ bytes_eq a b = elim [
-      | None ↦ λ q p r e g. absurd (cc e)
-      | (Some m) ↦ elim [
-        | None ↦ λ p r e g. absurd (cc g)
-        | (Some n) ↦ λ p r e g. (let is : addressee.Team m ≡ to = cc e in let goes : addressee.Team n ≡ other = cc g in (λ z. same_addressee (sym is z) (sym goes z)) ∙ same_place_from a b 0 ids m n p r)
-      ]
-    ] in
-    go (place_of a ids) (place_of b ids) refl refl h k
+    λ z. same_addressee (sym p.is z) (sym goes z)
+same_addressees f sender.Jury (WantsGroup a) (WantsGroup b) to other h k =
+    let p = placed_by to_group (group_ids f) a to h in
+    let q = placed_by to_group (group_ids f) b other k in
+    (λ z. same_addressee (sym p.is z) (sym q.is z)) ∙ same_place_from a b 0 (group_ids f) p.place q.place p.at q.at
+same_addressees f sender.Jury (WantsGroup a) (WantsTeam b) to other h k =
+    let p = placed_by to_group (group_ids f) a to h in
+    let q = placed_by to_team (team_ids f) b other k in
+    λ z. same_addressee (sym p.is z) (sym q.is z)
+same_addressees f sender.Jury (WantsTeam a) WantsAll to other h k =
+    let p = placed_by to_team (team_ids f) a to h in
+    let goes : addressee.All ≡ other = cc k in
+    λ z. same_addressee (sym p.is z) (sym goes z)
+same_addressees f sender.Jury (WantsTeam a) (WantsGroup b) to other h k =
+    let p = placed_by to_team (team_ids f) a to h in
+    let q = placed_by to_group (group_ids f) b other k in
+    λ z. same_addressee (sym p.is z) (sym q.is z)
+same_addressees f sender.Jury (WantsTeam a) (WantsTeam b) to other h k =
+    let p = placed_by to_team (team_ids f) a to h in
+    let q = placed_by to_team (team_ids f) b other k in
+    (λ z. same_addressee (sym p.is z) (sym q.is z)) ∙ same_place_from a b 0 (team_ids f) p.place q.place p.at q.at
 
 -- the reference that an id gives has that id
 heard_id : (f : FixedPart) (s : Sender) (cs : List Clarification) (id : List ℕ) (r : Reference) → heard_clarification f s cs id ≡ Some r → clarification_id r.addressee r.number ≡ id
@@ -264,21 +312,28 @@ says_as g s ds c v w n m says named other =
     let reply = equal_replies c.reply n.reply all.third in
     let text = same_bytes c.text v.text all.fourth in
     let one = same_places (map (λ (p : Problem). p.id) g.settings.problems) v.problem w.problem n.problem m.problem t.problem u.problem in
-    let two = same_addressees g s v.to_team w.to_team n.addressee m.addressee t.to u.to in
+    let two = same_addressees g s v.to w.to n.addressee m.addressee t.to u.to in
     let three = same_replies g s ds v.reply w.reply n.reply m.reply t.reply u.reply in
     (λ i. same_place (problem i) m.problem && same_addressee (to i) m.addressee && same_reply (reply i) m.reply && bytes_eq (text i) w.text)
     ∙ (λ i. one i && two i && three i && bytes_eq v.text w.text)
 
 -- the value of one that stands stays
 
-abbrev data_by : Clarification → (start : Option ℕ) → (whose problem reply : Option (List ℕ)) → Data
-data_by c start whose problem reply =
-    object (clarification_members start (if c.from_jury then None else whose) (clarification_id c.addressee c.number) problem reply c.text c.time (if c.from_jury then whose else None))
+abbrev data_by : Clarification → (start : Option ℕ) → (whose group problem reply : Option (List ℕ)) → Data
+data_by c start whose group problem reply =
+    object (clarification_members start (if c.from_jury then None else whose) (clarification_id c.addressee c.number) problem reply c.text c.time group (if c.from_jury then whose else None))
 
 whose_stays : (f g : FixedPart) (to : Addressee) → Extends f g → is_an_addressee f to ≡ true → team_of g.settings to ≡ team_of f.settings to
 whose_stays f g addressee.All h there = refl
+whose_stays f g (addressee.Group group) h there = refl
 whose_stays f g (addressee.Team team) h there =
     ap (λ o. Some (option_map_or (λ (u : Team). u.id) o [])) (at_front f.settings.teams g.settings.teams team h.teams (below team (length f.settings.teams) there))
+
+group_stays : (f g : FixedPart) (to : Addressee) → Extends f g → is_an_addressee f to ≡ true → group_of g.settings to ≡ group_of f.settings to
+group_stays f g addressee.All h there = refl
+group_stays f g (addressee.Group group) h there =
+    ap (λ o. Some (option_map_or (λ (r : Group). r.id) o [])) (at_front f.settings.groups g.settings.groups group h.groups (below group (length f.settings.groups) there))
+group_stays f g (addressee.Team team) h there = refl
 
 problem_stays : (f g : FixedPart) (problem : Option ℕ) → Extends f g → option_map_or (λ place. nat_lt place (length f.settings.problems)) problem true ≡ true
     → option_map (problem_id_at g.settings.problems) problem ≡ option_map (problem_id_at f.settings.problems) problem
@@ -288,15 +343,16 @@ problem_stays f g (Some at) h there =
 
 reply_stays : (s t : Setup) (reply : Option Reference) → option_and_then (heard_reference audience.Jury t) reply ≡ option_and_then (heard_reference audience.Jury s) reply
 reply_stays s t None = refl
-reply_stays s t (Some r) = ap (λ b. if b then Some r else None) (hears_still audience.Jury t s r.addressee)
+reply_stays s t (Some r) = ap (λ b. if b then Some r else None) (jury_hears_still t s r.addressee)
 
 said_stays : (f g : FixedPart) (c : Clarification) → Extends f g → is_an_addressee f c.addressee ≡ true → option_map_or (λ place. nat_lt place (length f.settings.problems)) c.problem true ≡ true
     → own_clarification g c ≡ own_clarification f c
 said_stays f g c h to problem =
     let whose = whose_stays f g c.addressee h to in
+    let group = group_stays f g c.addressee h to in
     let about = problem_stays f g c.problem h problem in
     let reply = reply_stays f.settings g.settings c.reply in
-    λ i. data_by c (h.start i) (whose i) (about i) (option_map reference_id (reply i))
+    λ i. data_by c (h.start i) (whose i) (group i) (about i) (option_map reference_id (reply i))
 
 -- one scope is one sender's
 
@@ -337,11 +393,13 @@ record IsSaid (f : FixedPart) (cs : List Clarification) (v : Clarifying) (c : Cl
   pub says : says_the_same c n v.wanted.text ≡ true
 
 same_wish : (s : Sender) (v : WantedClarification) → want_the_same s v v ≡ true
-same_wish s v = rw (same_as_itself v.problem, to_itself s v.to_team, same_as_itself v.reply, bytes_same v.text) refl
+same_wish s v = rw (same_as_itself v.problem, to_itself s v.to, same_as_itself v.reply, bytes_same v.text) refl
   where
-    to_itself : (r : Sender) (to : Option (List ℕ)) → go_to_the_same r to to ≡ true
+    to_itself : (r : Sender) (to : WantedAddressee) → go_to_the_same r to to ≡ true
     to_itself (sender.Team team) to = refl
-    to_itself sender.Jury to = same_as_itself to
+    to_itself sender.Jury WantsAll = refl
+    to_itself sender.Jury (WantsGroup id) = bytes_same id
+    to_itself sender.Jury (WantsTeam id) = bytes_same id
 
 stood_repeats : (f : FixedPart) (cs : List Clarification) (y : ContestState) (later : ℕ) (v : Clarifying) (c : Clarification) → Extends f y.fixed → IsFront cs y.clarifications → IsWriter f v.sender v.account
     → IsSaid f cs v c → written_under (scope_for v.sender v.account) v.wanted.key y.clarifications ≡ Some c → Repeats later v y (answer (own_clarification f c))
@@ -351,11 +409,11 @@ stood_repeats f cs y later v c h front writer t stands =
     let s = v.sender in
     let all = four (same_place c.problem t.n.problem) (same_addressee c.addressee t.n.addressee) (same_reply c.reply t.n.reply) (bytes_eq c.text v.wanted.text) t.says in
     let on = named_on f s (option_and_then (heard_clarification f s cs) v.wanted.reply) v.wanted t.n t.named in
-    let to : is_an_addressee f c.addressee ≡ true = subst (λ a. is_an_addressee f a ≡ true) (sym (same_is_one c.addressee t.n.addressee all.second)) (to_there f s v.account v.wanted.to_team t.n.addressee writer on.to) in
+    let to : is_an_addressee f c.addressee ≡ true = subst (λ a. is_an_addressee f a ≡ true) (sym (same_is_one c.addressee t.n.addressee all.second)) (to_there f s v.account v.wanted.to t.n.addressee writer on.to) in
     let problem : option_map_or (λ place. nat_lt place (length f.settings.problems)) c.problem true ≡ true =
     subst (λ o. option_map_or (λ place. nat_lt place (length f.settings.problems)) o true ≡ true) (sym (equal_places c.problem t.n.problem all.first)) (problem_there f v.wanted.problem t.n.problem on.problem) in
     let stays : own_clarification g c ≡ own_clarification f c = said_stays f g c h to problem in
-    let named : named_clarification g s ds v.wanted ≡ Some t.n = named_still f g s cs ds v.wanted t.n h front t.named in
+    let named : named_clarification g s ds v.wanted ≡ Some t.n = named_still f g s v.account cs ds v.wanted t.n h writer front t.named in
     let by : Bool → Decided = λ b. if b then Ok (Stands c) else Err KeyReused in
     let said : Decided → Outcome = done_or_ruled (said_object g) said_entries in
     let repeats : said (Ok (Stands c)) ≡ replying (answer (own_clarification f c)) = ap (λ d. replying (answer d)) stays in

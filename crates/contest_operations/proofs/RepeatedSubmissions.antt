@@ -1,5 +1,5 @@
 -- A submission that is repeated in a contest that has grown.
-use Rattle.std.proofs.Common.{◌≡◌, ◌∙◌, ◌+◌, ◌<◌, ℕ, Bool, true, false, cond, List, [], ◌∷◌, ◌++◌, length, map, Option, Some, None, Ok, Err, refl, sym, ap, subst, arith, inl}
+use Rattle.std.proofs.Common.{◌≡◌, ◌∙◌, ◌<◌, ℕ, Bool, true, false, cond, List, [], ◌∷◌, ◌++◌, length, map, Option, Some, None, Ok, Err, refl, sym, ap, subst, arith, inl}
 use Rattle.std.specs.Prelude.{◌==◌, ◌&&◌, find, is_none, is_some, not, bytes_eq, if◌then◌else◌}
 use Rattle.std.specs.Option.{option_map, option_map_or, option_and_then, option_or}
 use Rattle.std.proofs.lemmas.Bool.{eq-eqb, eqb-true}

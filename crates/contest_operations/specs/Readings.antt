@@ -4,7 +4,7 @@ use Rattle.serde_json.specs.Data.{Data}
 use Rattle.contest_types.specs.State.{ContestState}
 use Rattle.contest_types.specs.declared.audience.Audience.{Audience}
 use Rattle.contest_types.specs.declared.refusal.Refusal.TheVariants.{NotFound}
-use Rattle.contest_view.specs.Scoreboards.{scoreboard_data}
+use Rattle.contest_view.specs.Scoreboards.{group_scoreboard_found, scoreboard_data}
 use Rattle.contest_view.specs.Awards.{awards_data, award_found}
 use Rattle.contest_view.specs.Clarifications.{clarifications_data, clarification_found}
 use Rattle.contest_view.specs.Judgements.{judgements_data, judgement_found}
@@ -21,7 +21,7 @@ use Rattle.contest_operations.specs.declared.operation.Endpoint.TheVariants.{Set
 use Rattle.contest_operations.specs.declared.operation.JuryReading.{JuryReading}
 use Rattle.contest_operations.specs.declared.operation.JuryReading.TheVariants.{Proposals, Rejudgings, Rejudging}
 use Rattle.contest_operations.specs.declared.operation.Reading.{Reading}
-use Rattle.contest_operations.specs.declared.operation.Reading.TheVariants.{Whole, List as AllOf, Object, File, Scoreboard, Jury as ForJury}
+use Rattle.contest_operations.specs.declared.operation.Reading.TheVariants.{Whole, List as AllOf, Object, File, Scoreboard, GroupScoreboard, Jury as ForJury}
 use Rattle.contest_operations.specs.declared.reply.Reply.{Reply}
 
 -- the array of an endpoint's objects that an audience sees
@@ -62,7 +62,8 @@ read a now x (Whole endpoint) path = told (Some (whole_data endpoint x.fixed now
 read a now x (AllOf endpoint) path = told (Some (all_data a now x endpoint))
 read a now x (Object endpoint) path = told (object_found a now x endpoint (object_piece path))
 read a now x File path = file_told (file_found a now x (object_piece path))
-read a now x Scoreboard path = told (Some (scoreboard_data a now x))
+read a now x Scoreboard path = told (Some (scoreboard_data a now None x))
+read a now x GroupScoreboard path = told (group_scoreboard_found a now x (object_piece path))
 read a now x (ForJury reading) path = told (jury_found a now x reading (jury_piece path))
 
 -- whose file is looked at, by its team and its number: one that the audience may read, or none
@@ -72,4 +73,5 @@ read_file a (AllOf endpoint) path x = None
 read_file a (Object endpoint) path x = None
 read_file a File path x = file_place a x.fixed x.submissions (object_piece path)
 read_file a Scoreboard path x = None
+read_file a GroupScoreboard path x = None
 read_file a (ForJury reading) path x = None

@@ -1,5 +1,5 @@
--- The one table of routes (paths are the Contest API 2023-06's; those under `/jury/` are own), and the same
--- as matchit keeps it.
+-- The one table of routes (paths are the Contest API 2023-06's; a group's scoreboard and those under `/jury/`
+-- are own), and the same as matchit keeps it.
 use Rattle.std.specs.Prelude.{ℕ, Bool, true, false, List, [], ◌∷◌, Result, Ok, Err, Option, Some, None, is_none, codes, if◌then◌else◌}
 use Rattle.std.specs.Option.{option_map}
 use Rattle.std.specs.Str.{is_utf8}
@@ -16,7 +16,7 @@ use Rattle.contest_operations.specs.declared.offer.Offer.{Offer}
 use Rattle.contest_operations.specs.declared.command.Command.TheVariants.{Submit, Clarify, Propose, Verify, OpenRejudging, JudgeRejudging, ApplyRejudging, CancelRejudging, SetClock, Finalize}
 use Rattle.contest_operations.specs.declared.operation.Endpoint.TheVariants.{Settings, Submissions, Judgements, Clarifications, Awards}
 use Rattle.contest_operations.specs.declared.operation.JuryReading.TheVariants.{Proposals, Rejudgings, Rejudging}
-use Rattle.contest_operations.specs.declared.operation.Reading.TheVariants.{Whole, List as AllOf, Object, File, Scoreboard, Jury as ForJury}
+use Rattle.contest_operations.specs.declared.operation.Reading.TheVariants.{Whole, List as AllOf, Object, File, Scoreboard, GroupScoreboard, Jury as ForJury}
 
 -- each route's text, and what is offered there
 abbrev pub route_rows : List (List ℕ × Offer)
@@ -33,6 +33,7 @@ route_rows =
     ∷ (codes "/contests/{contest}/problems/{id}", reads (Object (Settings Problems)))
     ∷ (codes "/contests/{contest}/groups", reads (AllOf (Settings Groups)))
     ∷ (codes "/contests/{contest}/groups/{id}", reads (Object (Settings Groups)))
+    ∷ (codes "/contests/{contest}/groups/{id}/scoreboard", reads GroupScoreboard)
     ∷ (codes "/contests/{contest}/teams", reads (AllOf (Settings Teams)))
     ∷ (codes "/contests/{contest}/teams/{id}", reads (Object (Settings Teams)))
     ∷ (codes "/contests/{contest}/judgements", reads (AllOf Judgements))

@@ -87,6 +87,7 @@ fn may_read(caller: &Caller<'_>, reading: Reading) -> bool
         | Reading::List(_)
         | Reading::Object(_)
         | Reading::File
-        | Reading::Scoreboard => true,
+        | Reading::Scoreboard
+        | Reading::GroupScoreboard => true,
     }
 }

@@ -30,6 +30,8 @@ pub enum Reading {
     File,
     /// The scoreboard that the caller sees.
     Scoreboard,
+    /// The scoreboard of a group, by the group's id (own).
+    GroupScoreboard,
     /// What only the jury reads.
     Jury(JuryReading),
 }

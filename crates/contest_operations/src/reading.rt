@@ -1,8 +1,9 @@
 //! What an audience that reads is answered. An endpoint of it is a variant in `operation`, and an arm of
 //! `array` and `object` here.
-ghost use Rattle.std.specs.Prelude.{◌≡◌, ℕ, false, true, IfOk, IfSome, option_map};
+ghost use Rattle.std.specs.Prelude.{◌≡◌, ℕ, false, true, IfOk, IfSome, Option, option_map};
+ghost use Rattle.serde_json.specs.Data.{Data};
 ghost use Rattle.serde_json.specs.View.{view};
-ghost use Rattle.serde_json.specs.Written.{has_float};
+ghost use Rattle.serde_json.specs.Written.{compact_text, has_float};
 ghost use Rattle.contest_lists.specs.Lists.{loaded};
 ghost use Rattle.contest_types.specs.State.{ContestState};
 ghost use Rattle.contest_types.specs.Valid.{is_valid};
@@ -19,8 +20,8 @@ use contest_objects::{setting_by_id, settings_value, whole_value};
 use contest_types::{Audience, Refusal, Rows};
 use contest_view::{
     Seen, award_by_id, awards_value, clarification_by_id, clarifications_value, file_place,
-    judgement_by_id, judgements_value, named_submission, proposals_value, rejudging_by_id,
-    rejudgings_value, scoreboard_text, submission_by_id, submissions_value,
+    group_scoreboard_text, judgement_by_id, judgements_value, named_submission, proposals_value,
+    rejudging_by_id, rejudgings_value, scoreboard_text, submission_by_id, submissions_value,
 };
 use serde_json::Value;
 use std::alloc::{AllocError, Global};
@@ -44,6 +45,7 @@ pub fn read_file(
         | Reading::List(_)
         | Reading::Object(_)
         | Reading::Scoreboard
+        | Reading::GroupScoreboard
         | Reading::Jury(_) => None,
     }
 }
@@ -78,8 +80,12 @@ pub fn read(
         }
         Reading::File => Ok(tell_file(file)),
         Reading::Scoreboard => {
-            let text = scoreboard_text(alloc, seen)?;
+            let text = scoreboard_text(alloc, seen, None)?;
             Ok(Reply::answer(text))
+        }
+        Reading::GroupScoreboard => {
+            let found = group_scoreboard_text(alloc, seen, object_piece(path))?;
+            Ok(tell_text(found))
         }
         Reading::Jury(reading) => {
             let found = jury_value(alloc, seen, reading, jury_piece(path))?;
@@ -151,6 +157,17 @@ fn tell(alloc: Global, found: Option<Value>) -> Result<Reply, AllocError>
     match found {
         Some(value) => Ok(Reply::answer(value.to_vec(alloc)?)),
         None => Ok(Reply::refused(Refusal::NotFound)),
+    }
+}
+
+// The text of what is found, where it is that of a value.
+fn tell_text(found: Option<Vec<u8>>) -> Reply
+    ensures told { (value : Option Data) → option_map (λ text. text.items) found ≡ option_map compact_text value → result ≡ told value }
+    ensures ordinary { IsOrdinary result }
+{
+    match found {
+        Some(text) => Reply::answer(text),
+        None => Reply::refused(Refusal::NotFound),
     }
 }
 

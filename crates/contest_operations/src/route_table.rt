@@ -17,8 +17,8 @@ const NOTHING: Offer = Offer {
 };
 
 /// The text of each route, as matchit reads it, and what is offered there (paths are the Contest API
-/// 2023-06's; those under `/jury/` are own).
-static ROUTES: [(&str, Offer); 31] = [
+/// 2023-06's; a group's scoreboard and those under `/jury/` are own).
+static ROUTES: [(&str, Offer); 32] = [
     (
         "/contests",
         Offer {
@@ -101,6 +101,13 @@ static ROUTES: [(&str, Offer); 31] = [
         "/contests/{contest}/groups/{id}",
         Offer {
             get: Some(Reading::Object(Endpoint::Settings(SettingsEndpoint::Groups))),
+            ..NOTHING
+        },
+    ),
+    (
+        "/contests/{contest}/groups/{id}/scoreboard",
+        Offer {
+            get: Some(Reading::GroupScoreboard),
             ..NOTHING
         },
     ),
@@ -243,7 +250,7 @@ static ROUTES: [(&str, Offer); 31] = [
     ),
 ];
 
-fn rows() -> &'static [(&'static str, Offer); 31]
+fn rows() -> &'static [(&'static str, Offer); 32]
     ensures { map (λ row. (row.0.now, row.1)) result.now ≡ route_rows }
 {
     &ROUTES

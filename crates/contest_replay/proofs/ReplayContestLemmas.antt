@@ -125,5 +125,5 @@ replayed_judged s marks us =
 
 -- so its board is the one of the cells of those
 pub replayed_board : (who : Audience) (s : Setup) (marks : Marks) (now : ℕ) (us : List JudgedSubmission)
-    → seen_board who now (replay_contest s marks us) ≡ board_of s (is_public s) (cell_for who s marks now us)
+    → seen_board who now None (replay_contest s marks us) ≡ board_of s (is_public s) (cell_for who s marks now us)
 replayed_board who s marks now us = ap (λ vs. board_of s (is_public s) (cell_for who s marks now vs)) (replayed_judged s marks us)

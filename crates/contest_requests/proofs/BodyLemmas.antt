@@ -7,6 +7,7 @@ use Rattle.base64.specs.declared.decode.DecodeAllocError.TheVariants.{DecodeErro
 use Rattle.base64.specs.declared.decode.DecodeError.{DecodeError}
 use Rattle.base64.specs.declared.engine.general_purpose.GeneralPurpose.{GeneralPurpose}
 use Rattle.contest_files.specs.JsonMembers.{id_in, optional_id_in}
+use Rattle.contest_requests.specs.ClarificationBodies.{clarification_of, message_in, receivers_in}
 use Rattle.contest_requests.specs.SubmissionBodies.{entry_point_in, file_in, refusal_of_decoding, submission_of}
 use Rattle.contest_files.specs.Refused.{IsRefused}
 use Rattle.contest_types.specs.declared.refusal.Refusal.{Refusal}
@@ -59,3 +60,9 @@ pub submission_whole : (d : Data) (p l : List ℕ) (e t : Option (List ℕ)) (f 
     → submission_of d ≡ Some (record { problem = p; language = l; entry_point = e; team = t; file = f })
 unfolding submission_of
 submission_whole d p l e t f has_p has_l has_e has_t has_f = rw (has_p, has_l, has_e, has_t, has_f) refl
+
+-- what is read last of a clarification
+pub clarification_to : (r : Refusal) (d : Data) (t : List ℕ) (p q f : Option (List ℕ)) → message_in d ≡ Some t → optional_id_in (codes "problem_id") d ≡ Some p → optional_id_in (codes "reply_to_id") d ≡ Some q
+    → optional_id_in (codes "from_team_id") d ≡ Some f → IsRefused r (receivers_in d) → IsRefused r (clarification_of d)
+unfolding clarification_of
+clarification_to r d t p q f has_t has_p has_q has_f refused = rw (has_t, has_p, has_q, has_f) (refused_map r _ (receivers_in d) refused)

@@ -2,4 +2,5 @@ pub mod BodyLemmas
 pub mod RejudgingLemmas
 pub mod MomentTexts
 mod ExamplesRejudgingBodies
+mod ExamplesClarificationBodies
 mod ExamplesClockBodies

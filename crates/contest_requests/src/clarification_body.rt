@@ -3,15 +3,24 @@ ghost use Rattle.std.specs.Prelude.{◌≡◌, Some, None, true, IfOk, IfErr, is
 ghost use Rattle.std.specs.Option.{option_map};
 ghost use Rattle.serde_json.specs.View.{view};
 ghost use Rattle.contest_files.specs.Refused.{IsRefused};
-ghost use Rattle.contest_requests.specs.ClarificationBodies.{asked_in, asked_of, clarification_in, clarification_of, is_from, message_in};
+ghost use Rattle.contest_requests.specs.ClarificationBodies.{addressee_of, are_all, are_one, asked_in, asked_of, clarification_in, clarification_of, is_from, message_in, receivers_in};
 
 use crate::KeyField;
 use crate::submission_body::{is_own, key_in};
 use contest_files::{optional_id_in, text_in, value_of};
-use contest_rules::WantedClarification;
+use contest_rules::{WantedAddressee, WantedClarification};
 use contest_types::{Id, Refusal, Text};
 use serde_json::Value;
 use std::alloc::Global;
+
+/// To whom a posted object goes.
+#[derive(Drop)]
+pub struct Receivers {
+    /// `to_team_id`, if there is one.
+    pub team: Option<Id>,
+    /// `to_group_id`, if there is one (own).
+    pub group: Option<Id>,
+}
 
 /// What a posted object says.
 #[derive(Drop)]
@@ -24,16 +33,16 @@ pub struct ClarificationBody {
     pub reply: Option<Id>,
     /// `from_team_id`, if there is one.
     pub from_team: Option<Id>,
-    /// `to_team_id`, if there is one.
-    pub to_team: Option<Id>,
+    /// To whom it goes.
+    pub to: Receivers,
 }
 
 /// What the team with this id asks for by a key and a body, or the jury where there is none.
 ///
 /// # Errors
 ///
-/// `Malformed` where the key or the body is off its form; where a team names another, or writes to one;
-/// or where the jury writes for one. Else want of memory.
+/// `Malformed` where the key or the body is off its form; where a team names another, or writes to one or to a
+/// group; or where the jury writes for a team, or to a team and a group at once. Else want of memory.
 pub fn read_clarification(
     alloc: Global,
     team: Option<&[u8]>,
@@ -62,20 +71,45 @@ fn asked_of(
     Ok(WantedClarification {
         text: clarification.text,
         problem: clarification.problem,
-        to_team: clarification.to_team,
+        to: addressee_of(clarification.to),
         reply: clarification.reply,
         key,
     })
 }
 
-// Whether a team asks for itself and the jury alone; the jury writes for no team.
+// To whom the jury writes: to the team, else to the group, else to all.
+fn addressee_of(to: Receivers) -> WantedAddressee
+    ensures { result ≡ addressee_of to }
+{
+    match (to.team, to.group) {
+        (Some(team), _) => WantedAddressee::Team(team),
+        (None, Some(group)) => WantedAddressee::Group(group),
+        (None, None) => WantedAddressee::All,
+    }
+}
+
+// Whether a team asks for itself and the jury alone; the jury writes for no team, and to a team or a group.
 fn is_from(team: Option<&[u8]>, clarification: &ClarificationBody) -> bool
     ensures { result ≡ is_from (option_map (λ id. id.now) team.entry) clarification.now }
 {
     match team {
-        Some(team) => is_own(team, &clarification.from_team) && clarification.to_team.is_none(),
-        None => clarification.from_team.is_none(),
+        Some(team) => is_own(team, &clarification.from_team) && are_all(&clarification.to),
+        None => clarification.from_team.is_none() && are_one(&clarification.to),
     }
+}
+
+// Whether neither a team nor a group is named.
+fn are_all(to: &Receivers) -> bool
+    ensures { result ≡ are_all to.now }
+{
+    to.team.is_none() && to.group.is_none()
+}
+
+// Whether not both are.
+fn are_one(to: &Receivers) -> bool
+    ensures { result ≡ are_one to.now }
+{
+    to.team.is_none() || to.group.is_none()
 }
 
 fn clarification_in(alloc: Global, body: &[u8]) -> Result<ClarificationBody, Refusal>
@@ -95,14 +129,24 @@ fn clarification_of(alloc: Global, value: &Value) -> Result<ClarificationBody, R
     let problem = optional_id_in(alloc, value, "problem_id")?;
     let reply = optional_id_in(alloc, value, "reply_to_id")?;
     let from_team = optional_id_in(alloc, value, "from_team_id")?;
-    let to_team = optional_id_in(alloc, value, "to_team_id")?;
+    let to = receivers_in(alloc, value)?;
     Ok(ClarificationBody {
         text,
         problem,
         reply,
         from_team,
-        to_team,
+        to,
     })
+}
+
+#[tactic(auto, unfolding(crate::specs::ClarificationBodies::receivers_in))]
+fn receivers_in(alloc: Global, value: &Value) -> Result<Receivers, Refusal>
+    ensures ok { IfOk result (λ to. receivers_in (view value.now) ≡ Some to) }
+    ensures err { IfErr result (λ e. IsRefused e (receivers_in (view value.now))) }
+{
+    let team = optional_id_in(alloc, value, "to_team_id")?;
+    let group = optional_id_in(alloc, value, "to_group_id")?;
+    Ok(Receivers { team, group })
 }
 
 // What it says, if a clarification can say that.

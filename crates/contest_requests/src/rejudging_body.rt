@@ -11,7 +11,7 @@ use contest_rules::WantedRejudging;
 use contest_types::limits::REJUDGING_MEMBERS;
 use contest_types::{Id, Name, Refusal, Rows};
 use serde_json::Value;
-use std::alloc::Global;
+use std::alloc::{AllocError, Global};
 
 /// The rejudging that a caller posts in a body, if it holds the account of a judge or an administrator.
 ///
@@ -81,15 +81,18 @@ fn submissions_in(alloc: Global, value: &Value) -> Result<Rows<Id>, Refusal>
     let Some(ids) = ids_in(alloc, member)? else {
         return Err(Refusal::Malformed);
     };
-    if !may_be_members(ids.as_slice()) {
+    if !may_be_members(alloc, ids.as_slice())? {
         return Err(Refusal::Malformed);
     }
     Ok(ids)
 }
 
 // Whether there is one at least, no more than a rejudging may have members, and none twice.
-fn may_be_members(ids: &[Id]) -> bool
-    ensures { result ≡ may_be_members ids.now }
+fn may_be_members(alloc: Global, ids: &[Id]) -> Result<bool, AllocError>
+    ensures { IfOk result (λ answer. answer ≡ may_be_members ids.now) }
 {
-    !ids.is_empty() && ids.len() <= REJUDGING_MEMBERS && are_different(ids)
+    if ids.is_empty() || ids.len() > REJUDGING_MEMBERS {
+        return Ok(false);
+    }
+    are_different(alloc, ids)
 }

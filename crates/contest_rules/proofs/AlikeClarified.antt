@@ -1,5 +1,5 @@
 -- Contests that are alike for a team decide its clarifications alike.
-use Rattle.std.proofs.Common.{◌≡◌, ◌∙◌, ◌<◌, ◌≤◌, ◌+◌, ℕ, suc, Bool, true, false, List, [], ◌∷◌, length, map, Option, Some, None, Result, Ok, Err, refl, sym, ap, subst, arith}
+use Rattle.std.proofs.Common.{◌≡◌, ◌∙◌, ◌<◌, ◌+◌, ℕ, suc, Bool, true, false, List, [], ◌∷◌, length, map, Option, Some, None, Result, Ok, Err, refl, sym, ap, subst, arith}
 use Rattle.std.specs.Prelude.{◌&&◌, ◌||◌, ◌==◌, ◌^◌, not, nat_le, filter, find, if◌then◌else◌}
 use Rattle.std.specs.Option.{option_map, option_map_or, option_and_then}
 use Rattle.std.specs.Str.{bytes_eq}
@@ -26,17 +26,13 @@ use Rattle.contest_types.specs.declared.clarification.Addressee.{Addressee}
 use Rattle.contest_types.specs.declared.clarification.Addressee.TheVariants as addressee
 use Rattle.contest_types.specs.declared.clarification.Clarification.{Clarification}
 use Rattle.contest_types.specs.declared.clarification.Reference.{Reference}
-use Rattle.contest_types.specs.declared.limits.TheConstants.{TEAMS}
 use Rattle.contest_types.proofs.AddClarification.{addressed_itself}
-use Rattle.contest_types.proofs.AddSettings.{tests_of}
-use Rattle.contest_types.proofs.HeardWhole.{goes_to, one_id, own_number, tests}
+use Rattle.contest_types.proofs.HeardWhole.{HasFew, goes_to, has_few, one_id, own_number, tests}
 use Rattle.contest_types.proofs.InOrderLemmas.{find_has, filter_has, has_filter, has_map, map_has, none_passes}
 use Rattle.contest_types.proofs.PlaceLemmas.{and_left, and_right, both_true}
 use Rattle.contest_types.proofs.Rising.{find_passes}
-use Rattle.contest_types.proofs.SettingsTest.{at_most}
 use Rattle.contest_types.proofs.SeenWhole.{all_has}
 use Rattle.contest_types.proofs.SightLemmas.{same_is_one}
-use Rattle.contest_types.proofs.ValidParts.{parts}
 use Rattle.contest_rules.specs.declared.clarifying.NamedClarification.{NamedClarification}
 use Rattle.contest_rules.specs.declared.clarifying.Sender.TheVariants as sender
 use Rattle.contest_rules.specs.declared.clarifying.WantedClarification.{WantedClarification}
@@ -50,14 +46,14 @@ use Rattle.contest_rules.proofs.ClarifiedLemmas.{counted, named_on, of_team}
 
 -- what is known of the clarifications of a valid contest
 record Kept (f : FixedPart) (cs : List Clarification) : Type 0 where
-  pub few : length f.settings.teams ≤ TEAMS
+  pub few : HasFew f
   pub there : (c : Clarification) → Has cs c → is_an_addressee f c.addressee ≡ true
   pub small : (c : Clarification) → Has cs c → c.number < 2 ^ 64
   pub sent : (c : Clarification) → Has cs c → is_well_sent f c ≡ true
 
 kept : (x : ContestState) → is_valid x ≡ true → Kept x.fixed x.clarifications
 kept x valid = record {
-  few = at_most _ TEAMS (tests_of x (parts x valid).settings).few_teams;
+  few = has_few x valid;
   there = λ c h. goes_to x c valid h;
   small = λ c h. (let n = own_number x c valid h in omega (arith, n));
   sent = λ c h. and_right _ (is_well_sent x.fixed c) (all_has (is_valid_clarification x) x.clarifications c (tests x valid).alone h);
@@ -247,7 +243,7 @@ heard_own f team c sent mine to =
 jury_hears : (s : Setup) (r : Option Reference) → option_and_then (heard_reference audience.Jury s) r ≡ r
 jury_hears s None = refl
 jury_hears s (Some r) =
-    let go : (to : Addressee) → hears audience.Jury s to ≡ true = elim [ addressee.All ↦ refl | (addressee.Team team) ↦ refl ] in
+    let go : (to : Addressee) → hears audience.Jury s to ≡ true = elim [ addressee.All ↦ refl | (addressee.Group group) ↦ refl | (addressee.Team team) ↦ refl ] in
     rw (go r.addressee) refl
 
 -- what is answered to one that stands is told by what the team is told
@@ -361,7 +357,7 @@ module _ (f : FixedPart) (team : ℕ) (cs ds : List Clarification) (kc : Kept f 
       → told_decision f.settings (clarify_on f o now (sender.Team team) account cs w) ≡ told_decision f.settings (clarify_on f o now (sender.Team team) account ds w) = elim [
         | None ↦ λ e. refl
         | (Some n) ↦ λ e. (let on = named_on f (sender.Team team) (option_and_then (heard_clarification f (sender.Team team) cs) w.reply) w n e in
-            decided_same now account n w (of_team f team w.to_team n.addressee on.to))
+            decided_same now account n w (of_team f team w.to n.addressee on.to))
       ] in
       go (named_clarification f (sender.Team team) cs w) refl ∙ ap (λ o. told_decision f.settings (clarify_on f o now (sender.Team team) account ds w)) named
 

@@ -23,6 +23,7 @@ use Rattle.contest_types.specs.declared.clarification.Clarification.{Clarificati
 use Rattle.contest_types.specs.declared.clarification.Reference.{Reference}
 use Rattle.contest_types.specs.declared.entry.Entry.TheVariants.{NewClarification}
 use Rattle.contest_types.specs.declared.limits.TheConstants.{JURY_CLARIFICATIONS, TEAM_REQUESTS}
+use Rattle.contest_types.specs.declared.objects.Group.{Group}
 use Rattle.contest_types.specs.declared.objects.Problem.{Problem}
 use Rattle.contest_types.specs.declared.objects.Team.{Team}
 use Rattle.contest_types.proofs.AddClarification.{addressed_itself}
@@ -30,6 +31,8 @@ use Rattle.contest_types.proofs.PlaceLemmas.{and_left, both_true, place_within}
 use Rattle.contest_rules.specs.declared.clarifying.NamedClarification.{NamedClarification}
 use Rattle.contest_rules.specs.declared.clarifying.Sender.{Sender}
 use Rattle.contest_rules.specs.declared.clarifying.Sender.TheVariants as sender
+use Rattle.contest_rules.specs.declared.clarifying.WantedAddressee.{WantedAddressee}
+use Rattle.contest_rules.specs.declared.clarifying.WantedAddressee.TheVariants.{All as WantsAll, Group as WantsGroup, Team as WantsTeam}
 use Rattle.contest_rules.specs.declared.clarifying.WantedClarification.{WantedClarification}
 use Rattle.contest_rules.specs.declared.decision.Decision.{Decision}
 use Rattle.contest_rules.specs.declared.decision.Decision.TheVariants.{Add, Stands}
@@ -107,7 +110,7 @@ module _ (f : FixedPart) (now : ℕ) (s : Sender) (account : List ℕ) (cs : Lis
 -- what is named is there
 
 pub record Named (f : FixedPart) (s : Sender) (heard : Option Reference) (w : WantedClarification) (n : NamedClarification) : Type 0 where
-  pub to : addressee_for f s w.to_team ≡ Some n.addressee
+  pub to : addressee_for f s w.to ≡ Some n.addressee
   pub problem : problem_for f w.problem ≡ Some n.problem
   pub reply : if_asked w.reply heard ≡ Some n.reply
 
@@ -116,29 +119,36 @@ made to problem reply = record { addressee = to; problem = problem; reply = repl
 
 pub named_on : (f : FixedPart) (s : Sender) (heard : Option Reference) (w : WantedClarification) (n : NamedClarification) → clarification_on f s heard w ≡ Some n → Named f s heard w n
 named_on f s heard w n h =
-    let third : (to : Addressee) (problem : Option ℕ) (o : Option (Option Reference)) → addressee_for f s w.to_team ≡ Some to → problem_for f w.problem ≡ Some problem → if_asked w.reply heard ≡ o
+    let third : (to : Addressee) (problem : Option ℕ) (o : Option (Option Reference)) → addressee_for f s w.to ≡ Some to → problem_for f w.problem ≡ Some problem → if_asked w.reply heard ≡ o
     → option_map (λ (reply : Option Reference). made to problem reply) o ≡ Some n → Named f s heard w n = λ to problem. elim [
       | None ↦ λ a b c e. absurd (cc e)
       | (Some reply) ↦ λ a b c e. (let same : made to problem reply ≡ n = cc e in subst (Named f s heard w) same (record { to = a; problem = b; reply = c }))
     ] in
-    let second : (to : Addressee) (o : Option (Option ℕ)) → addressee_for f s w.to_team ≡ Some to → problem_for f w.problem ≡ o
+    let second : (to : Addressee) (o : Option (Option ℕ)) → addressee_for f s w.to ≡ Some to → problem_for f w.problem ≡ o
     → option_and_then (λ problem. option_map (λ reply. made to problem reply) (if_asked w.reply heard)) o ≡ Some n → Named f s heard w n = λ to. elim [
       | None ↦ λ a b e. absurd (cc e)
       | (Some problem) ↦ λ a b e. third to problem (if_asked w.reply heard) a b refl e
     ] in
-    let go : (o : Option Addressee) → addressee_for f s w.to_team ≡ o
+    let go : (o : Option Addressee) → addressee_for f s w.to ≡ o
     → option_and_then (λ to. option_and_then (λ problem. option_map (λ reply. made to problem reply) (if_asked w.reply heard)) (problem_for f w.problem)) o ≡ Some n → Named f s heard w n = elim [
       | None ↦ λ a e. absurd (cc e)
       | (Some to) ↦ λ a e. second to (problem_for f w.problem) a refl e
     ] in
-    go (addressee_for f s w.to_team) refl h
+    go (addressee_for f s w.to) refl h
 
-pub to_there : (f : FixedPart) (s : Sender) (account : List ℕ) (to : Option (List ℕ)) (a : Addressee) → IsWriter f s account → addressee_for f s to ≡ Some a → is_an_addressee f a ≡ true
+pub to_there : (f : FixedPart) (s : Sender) (account : List ℕ) (to : WantedAddressee) (a : Addressee) → IsWriter f s account → addressee_for f s to ≡ Some a → is_an_addressee f a ≡ true
 to_there f (sender.Team team) account to a writer e =
     let there : nat_lt team (length f.settings.teams) ≡ true = below team (length f.settings.teams) writer.0 in
     subst (λ o. option_map_or (is_an_addressee f) o false ≡ true) e there
-to_there f sender.Jury account None a writer e = subst (λ o. option_map_or (is_an_addressee f) o false ≡ true) e refl
-to_there f sender.Jury account (Some id) a writer e =
+to_there f sender.Jury account WantsAll a writer e = subst (λ o. option_map_or (is_an_addressee f) o false ≡ true) e refl
+to_there f sender.Jury account (WantsGroup id) a writer e =
+    let go : (o : Option ℕ) → place_of id (map (λ (g : Group). g.id) f.settings.groups) ≡ o → option_map (λ group. addressee.Group group) o ≡ Some a → is_an_addressee f a ≡ true = elim [
+      | None ↦ λ p k. absurd (cc k)
+      | (Some group) ↦ λ p k. (let there = below group (length f.settings.groups) (place_within (λ (g : Group). g.id) id f.settings.groups group p) in
+          subst (λ o. option_map_or (is_an_addressee f) o false ≡ true) k there)
+    ] in
+    go (place_of id (map (λ (g : Group). g.id) f.settings.groups)) refl e
+to_there f sender.Jury account (WantsTeam id) a writer e =
     let go : (o : Option ℕ) → place_of id (map (λ (t : Team). t.id) f.settings.teams) ≡ o → option_map (λ team. addressee.Team team) o ≡ Some a → is_an_addressee f a ≡ true = elim [
       | None ↦ λ p k. absurd (cc k)
       | (Some team) ↦ λ p k. (let there = below team (length f.settings.teams) (place_within (λ (t : Team). t.id) id f.settings.teams team p) in
@@ -266,21 +276,21 @@ writer_there f (sender.Team team) account writer = rw (writer.1.1) refl
 writer_there f sender.Jury account writer = writer
 
 -- whose a team's are
-pub of_team : (f : FixedPart) (team : ℕ) (to : Option (List ℕ)) (a : Addressee) → addressee_for f (sender.Team team) to ≡ Some a → addressee.Team team ≡ a
+pub of_team : (f : FixedPart) (team : ℕ) (to : WantedAddressee) (a : Addressee) → addressee_for f (sender.Team team) to ≡ Some a → addressee.Team team ≡ a
 of_team f team to a e = cc e
 
 module _ (x : ContestState) (now : ℕ) (account : List ℕ) (w : WantedClarification) (n : NamedClarification) where
-  well_sent : (s : Sender) → IsWriter x.fixed s account → addressee_for x.fixed s w.to_team ≡ Some n.addressee
+  well_sent : (s : Sender) → IsWriter x.fixed s account → addressee_for x.fixed s w.to ≡ Some n.addressee
       → option_map_or (λ (r : Reference). hears (audience_of s) x.fixed.settings r.addressee) n.reply true ≡ true
       → is_well_sent x.fixed (next_clarification now s account x.clarifications n w) ≡ true
   well_sent sender.Jury writer to heard = refl
   well_sent (sender.Team team) writer to heard =
-      let mine : same_addressee (addressee.Team team) n.addressee ≡ true = subst (λ a. same_addressee (addressee.Team team) a ≡ true) (of_team x.fixed team w.to_team n.addressee to) (addressed_itself (addressee.Team team)) in
+      let mine : same_addressee (addressee.Team team) n.addressee ≡ true = subst (λ a. same_addressee (addressee.Team team) a ≡ true) (of_team x.fixed team w.to n.addressee to) (addressed_itself (addressee.Team team)) in
       rw (writer.1.1, writer.1.2) (both_true (same_addressee (addressee.Team team) n.addressee) _ mine heard)
 
-  pub in_scope : (s : Sender) → addressee_for x.fixed s w.to_team ≡ Some n.addressee → scope_of (next_clarification now s account x.clarifications n w) ≡ scope_for s account
+  pub in_scope : (s : Sender) → addressee_for x.fixed s w.to ≡ Some n.addressee → scope_of (next_clarification now s account x.clarifications n w) ≡ scope_for s account
   in_scope sender.Jury to = refl
-  in_scope (sender.Team team) to = ap OfTeam (sym (of_team x.fixed team w.to_team n.addressee to))
+  in_scope (sender.Team team) to = ap OfTeam (sym (of_team x.fixed team w.to n.addressee to))
 
   is_next : (s : Sender) → nat_le (most_by s) (written_by s n.addressee x.clarifications) ≡ false
       → is_next_clarification (clarifications_to n.addressee x.clarifications) (next_clarification now s account x.clarifications n w) ≡ true
@@ -293,7 +303,7 @@ module _ (x : ContestState) (now : ℕ) (account : List ℕ) (w : WantedClarific
       let same = counted (λ (c : Clarification). same_addressee c.addressee n.addressee) is_request x.clarifications in
       both_true (count == count) _ (eq-eqb count count refl) (subst (λ k. nat_lt k TEAM_REQUESTS ≡ true) same (not_full TEAM_REQUESTS _ room))
 
-  own_key : (s : Sender) → addressee_for x.fixed s w.to_team ≡ Some n.addressee → written_under (scope_for s account) w.key x.clarifications ≡ None
+  own_key : (s : Sender) → addressee_for x.fixed s w.to ≡ Some n.addressee → written_under (scope_for s account) w.key x.clarifications ≡ None
       → is_new_key (map (λ (d : Clarification). d.key) (filter (in_one_scope (next_clarification now s account x.clarifications n w)) x.clarifications)) w.key ≡ true
   own_key s to new =
       subst (λ scope. is_new_key (map (λ (d : Clarification). d.key) (filter (λ d. same_scope scope (scope_of d)) x.clarifications)) w.key ≡ true) (sym (in_scope s to)) (new_key (scope_for s account) w.key x.clarifications new)
@@ -307,7 +317,7 @@ clarified_is_addable x now s account w c writer e =
     let reply = reply_there x s w t.n.reply named.reply in
     let next = next_clarification now s account x.clarifications t.n w in
     let valid : is_valid_clarification x next ≡ true = five (is_an_addressee f t.n.addressee) (is_some (account_named f.accounts account)) _ _ (is_well_sent f next)
-    (to_there f s account w.to_team t.n.addressee writer named.to) (writer_there f s account writer) (problem_there f w.problem t.n.problem named.problem) reply.0 (well_sent x now account w t.n s writer named.to reply.1) in
+    (to_there f s account w.to t.n.addressee writer named.to) (writer_there f s account writer) (problem_there f w.problem t.n.problem named.problem) reply.0 (well_sent x now account w t.n s writer named.to reply.1) in
     let addable : is_addable x (NewClarification next) ≡ true = four_true (is_some f.marks.start) (is_valid_clarification x next) _ _ (started f s now t.may) valid
     (is_next x now account w t.n s t.room) (own_key x now account w t.n s named.to t.new_key) in
     subst (λ r. is_addable x (NewClarification r) ≡ true) (sym t.is) addable

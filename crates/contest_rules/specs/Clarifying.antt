@@ -20,11 +20,14 @@ use Rattle.contest_types.specs.declared.clarification.Addressee.TheVariants as a
 use Rattle.contest_types.specs.declared.clarification.Clarification.{Clarification}
 use Rattle.contest_types.specs.declared.clarification.Reference.{Reference}
 use Rattle.contest_types.specs.declared.limits.TheConstants.{JURY_CLARIFICATIONS, TEAM_REQUESTS}
+use Rattle.contest_types.specs.declared.objects.Group.{Group}
 use Rattle.contest_types.specs.declared.objects.Problem.{Problem}
 use Rattle.contest_types.specs.declared.objects.Team.{Team}
 use Rattle.contest_rules.specs.declared.clarifying.NamedClarification.{NamedClarification}
 use Rattle.contest_rules.specs.declared.clarifying.Sender.{Sender}
 use Rattle.contest_rules.specs.declared.clarifying.Sender.TheVariants as sender
+use Rattle.contest_rules.specs.declared.clarifying.WantedAddressee.{WantedAddressee}
+use Rattle.contest_rules.specs.declared.clarifying.WantedAddressee.TheVariants.{All as WantsAll, Group as WantsGroup, Team as WantsTeam}
 use Rattle.contest_rules.specs.declared.clarifying.WantedClarification.{WantedClarification}
 use Rattle.contest_rules.specs.declared.decision.Decision.{Decision}
 use Rattle.contest_rules.specs.declared.decision.Decision.TheVariants.{Add, Stands}
@@ -59,11 +62,12 @@ abbrev pub heard_clarification : FixedPart → Sender → List Clarification →
 heard_clarification f s cs id =
     option_map reference_of (find (λ (c : Clarification). sees_clarification (audience_of s) f.settings c && bytes_eq (clarification_id c.addressee c.number) id) cs)
 
--- whose it will be: a team's requests are its own, and the jury writes to a team or to all
-abbrev pub addressee_for : FixedPart → Sender → Option (List ℕ) → Option Addressee
+-- whose it will be: a team's requests are its own, and the jury writes to a team, to a group or to all
+abbrev pub addressee_for : FixedPart → Sender → WantedAddressee → Option Addressee
 addressee_for f (sender.Team team) to = Some (addressee.Team team)
-addressee_for f sender.Jury None = Some addressee.All
-addressee_for f sender.Jury (Some id) = option_map (λ team. addressee.Team team) (place_of id (map (λ (t : Team). t.id) f.settings.teams))
+addressee_for f sender.Jury WantsAll = Some addressee.All
+addressee_for f sender.Jury (WantsGroup id) = option_map (λ group. addressee.Group group) (place_of id (map (λ (g : Group). g.id) f.settings.groups))
+addressee_for f sender.Jury (WantsTeam id) = option_map (λ team. addressee.Team team) (place_of id (map (λ (t : Team). t.id) f.settings.teams))
 
 abbrev pub problem_for : FixedPart → Option (List ℕ) → Option (Option ℕ)
 problem_for f problem = if_asked problem (option_and_then (λ id. place_of id (map (λ (p : Problem). p.id) f.settings.problems)) problem)
@@ -72,7 +76,7 @@ problem_for f problem = if_asked problem (option_and_then (λ id. place_of id (m
 abbrev pub clarification_on : FixedPart → Sender → Option Reference → WantedClarification → Option NamedClarification
 clarification_on f s heard w =
     option_and_then (λ to. option_and_then (λ problem. option_map (λ reply. record { addressee = to; problem = problem; reply = reply }) (if_asked w.reply heard)) (problem_for f w.problem))
-    (addressee_for f s w.to_team)
+    (addressee_for f s w.to)
 
 -- the addressee, the problem and the clarification that are named, where each is there and the last is heard
 abbrev pub named_clarification : FixedPart → Sender → List Clarification → WantedClarification → Option NamedClarification
@@ -105,14 +109,20 @@ same_reply _ _ = false
 abbrev pub says_the_same : Clarification → NamedClarification → (text : List ℕ) → Bool
 says_the_same c n text = same_place c.problem n.problem && same_addressee c.addressee n.addressee && same_reply c.reply n.reply && bytes_eq c.text text
 
--- a team's go to the jury, the jury's to the team that it names or to all
-abbrev pub go_to_the_same : Sender → Option (List ℕ) → Option (List ℕ) → Bool
+abbrev pub same_wanted : WantedAddressee → WantedAddressee → Bool
+same_wanted WantsAll WantsAll = true
+same_wanted (WantsGroup id) (WantsGroup other) = bytes_eq id other
+same_wanted (WantsTeam id) (WantsTeam other) = bytes_eq id other
+same_wanted _ _ = false
+
+-- a team's go to the jury, the jury's to the team or the group that it names or to all
+abbrev pub go_to_the_same : Sender → WantedAddressee → WantedAddressee → Bool
 go_to_the_same (sender.Team team) to other = true
-go_to_the_same sender.Jury to other = same_text to other
+go_to_the_same sender.Jury to other = same_wanted to other
 
 -- two of one sender ask for the same
 abbrev pub want_the_same : Sender → WantedClarification → WantedClarification → Bool
-want_the_same s v w = same_text v.problem w.problem && go_to_the_same s v.to_team w.to_team && same_text v.reply w.reply && bytes_eq v.text w.text
+want_the_same s v w = same_text v.problem w.problem && go_to_the_same s v.to w.to && same_text v.reply w.reply && bytes_eq v.text w.text
 
 abbrev pub has_begun : Phase → Bool
 has_begun phase.Before = false

@@ -34,6 +34,17 @@ impl Sender {
     }
 }
 
+/// To whom the jury writes, as it is asked for. What a team asks goes to the jury, whatever this says.
+#[derive(Drop)]
+pub enum WantedAddressee {
+    /// All.
+    All,
+    /// The teams of the group with this id.
+    Group(Id),
+    /// The team with this id.
+    Team(Id),
+}
+
 /// What is asked for when a clarification is posted (Contest API 2023-06, clarifications).
 #[derive(Drop)]
 pub struct WantedClarification {
@@ -41,8 +52,8 @@ pub struct WantedClarification {
     pub text: Text,
     /// The id of the problem that it is about, if it is about one.
     pub problem: Option<Id>,
-    /// The id of the team that the jury writes to, if it isn't all.
-    pub to_team: Option<Id>,
+    /// To whom the jury writes.
+    pub to: WantedAddressee,
     /// The id of the clarification that it answers, if it answers one.
     pub reply: Option<Id>,
     /// The idempotency key, if there is one.
@@ -76,7 +87,7 @@ impl<'a> Model for SaidBefore<'a> {
 }
 
 /// What a clarification names, given the clarification that its reply names and that the sender hears;
-/// none where the problem, the team or that clarification isn't there.
+/// none where the problem, the group, the team or that clarification isn't there.
 pub fn clarification_on(
     fixed: &Fixed,
     sender: Sender,
@@ -85,7 +96,7 @@ pub fn clarification_on(
 ) -> Option<NamedClarification>
     ensures { result ≡ clarification_on fixed.now sender heard wanted.now }
 {
-    let addressee = addressee_for(fixed, sender, &wanted.to_team)?;
+    let addressee = addressee_for(fixed, sender, &wanted.to)?;
     let problem = problem_for(fixed, &wanted.problem)?;
     match &wanted.reply {
         None => Some(NamedClarification {
@@ -104,14 +115,18 @@ pub fn clarification_on(
     }
 }
 
-// Whose it will be: a team's requests are its own, and the jury writes to a team or to all.
-fn addressee_for(fixed: &Fixed, sender: Sender, to_team: &Option<Id>) -> Option<Addressee>
-    ensures { result ≡ addressee_for fixed.now sender to_team.now }
+// Whose it will be: a team's requests are its own, and the jury writes to a team, to a group or to all.
+fn addressee_for(fixed: &Fixed, sender: Sender, to: &WantedAddressee) -> Option<Addressee>
+    ensures { result ≡ addressee_for fixed.now sender to.now }
 {
-    match (sender, to_team) {
+    match (sender, to) {
         (Sender::Team(team), _) => Some(Addressee::Team(team)),
-        (Sender::Jury, None) => Some(Addressee::All),
-        (Sender::Jury, Some(id)) => {
+        (Sender::Jury, WantedAddressee::All) => Some(Addressee::All),
+        (Sender::Jury, WantedAddressee::Group(id)) => {
+            let group = fixed.settings.group_place(id.as_bytes())?;
+            Some(Addressee::Group(group))
+        }
+        (Sender::Jury, WantedAddressee::Team(id)) => {
             let team = fixed.settings.team_place(id.as_bytes())?;
             Some(Addressee::Team(team))
         }
@@ -136,7 +151,7 @@ fn problem_for(fixed: &Fixed, problem: &Option<Id>) -> Option<Option<usize>>
 ///
 /// # Errors
 ///
-/// `UnknownReference` where a problem, a team or a clarification that it names isn't there, or isn't
+/// `UnknownReference` where a problem, a group, a team or a clarification that it names isn't there, or isn't
 /// heard by the sender. A key that stands answers for itself, whatever now is: with equal content its
 /// clarification stands, with other content it is refused (`KeyReused`). Keys are told apart by team,
 /// whoever of its accounts writes, and by the account of the jury. Then come the clock (`NotOpen`: a

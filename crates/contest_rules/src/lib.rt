@@ -17,7 +17,7 @@ mod verdicts;
 mod verifying;
 
 pub use clarifying::{
-    NamedClarification, SaidBefore, Sender, WantedClarification, clarification_on,
+    NamedClarification, SaidBefore, Sender, WantedAddressee, WantedClarification, clarification_on,
     decide_clarification,
 };
 pub use clock_changes::{ClockChange, WantedClock, decide_clock, decide_final};

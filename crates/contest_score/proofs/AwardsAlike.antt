@@ -72,7 +72,7 @@ solves_alike a now x y m h none =
     flat_map_kept (is_public s) (λ u. filter_map (solve_of x u) (problem_order s)) (λ u. filter_map (solve_of y u) (problem_order s)) (λ u e. ap (λ f. filter_map f (problem_order s)) (one u e)) (team_places s)
     ∙ ap (λ (f : FixedPart). list f.settings) h.fixed
 
-jury_alike : (a : Audience) (now : ℕ) (x y : ContestState) → MayBeHeld a now x → Alike a x y → freeze_of x.fixed.settings x.fixed.marks ≡ None → board_for Jury now x ≡ board_for Jury now y
+jury_alike : (a : Audience) (now : ℕ) (x y : ContestState) → MayBeHeld a now x → Alike a x y → freeze_of x.fixed.settings x.fixed.marks ≡ None → board_for Jury now None x ≡ board_for Jury now None y
 jury_alike a now x y m h none =
     let s = x.fixed.settings in
     let cell : (u p : ℕ) → is_public s u ≡ true → contest_cell Full x u p ≡ contest_cell Full y u p =
@@ -93,13 +93,13 @@ pub awards_alike : (a : Audience) (now : ℕ) (x y : ContestState) → MayBeHeld
 awards_alike a now x y m h =
     let held : (o : Option ℕ) → freeze_of x.fixed.settings x.fixed.marks ≡ o → shown_awards a now x ≡ shown_awards a now y = elim [
       | None ↦ λ none.
-          (let board : board_for Jury now x ≡ board_for Jury now y = jury_alike a now x y m h none in
+          (let board : board_for Jury now None x ≡ board_for Jury now None y = jury_alike a now x y m h none in
           let solves : solves_of x ≡ solves_of y = solves_alike a now x y m h none in
-          let same : awards_of x.fixed.settings (board_for Jury now x) (solves_of x) ≡ awards_of y.fixed.settings (board_for Jury now y) (solves_of y) =
-          ap (λ rows. awards_of x.fixed.settings rows (solves_of x)) board ∙ (ap (awards_of x.fixed.settings (board_for Jury now y)) solves ∙ ap (λ (f : FixedPart). awards_of f.settings (board_for Jury now y) (solves_of y)) h.fixed) in
+          let same : awards_of x.fixed.settings (board_for Jury now None x) (solves_of x) ≡ awards_of y.fixed.settings (board_for Jury now None y) (solves_of y) =
+          ap (λ rows. awards_of x.fixed.settings rows (solves_of x)) board ∙ (ap (awards_of x.fixed.settings (board_for Jury now None y)) solves ∙ ap (λ (f : FixedPart). awards_of f.settings (board_for Jury now None y) (solves_of y)) h.fixed) in
           let pick : Bool → List Award → List Award = λ b w. if b then w else [] in
-          let both : pick (shows_awards a now x) (awards_of x.fixed.settings (board_for Jury now x) (solves_of x)) ≡ pick (shows_awards a now y) (awards_of y.fixed.settings (board_for Jury now y) (solves_of y)) =
-          ap (pick (shows_awards a now x)) same ∙ ap (λ b. pick b (awards_of y.fixed.settings (board_for Jury now y) (solves_of y))) (shows_same a now x y h) in
+          let both : pick (shows_awards a now x) (awards_of x.fixed.settings (board_for Jury now None x) (solves_of x)) ≡ pick (shows_awards a now y) (awards_of y.fixed.settings (board_for Jury now None y) (solves_of y)) =
+          ap (pick (shows_awards a now x)) same ∙ ap (λ b. pick b (awards_of y.fixed.settings (board_for Jury now None y) (solves_of y))) (shows_same a now x y h) in
           both)
       | (Some freeze) ↦ λ e.
           (let no : shows_awards a now x ≡ false = shows_none a now x freeze m e in
@@ -113,4 +113,4 @@ awards_alike a now x y m h =
 pub none_held : (a : Audience) (now : ℕ) (x : ContestState) (freeze : ℕ) → MayBeHeld a now x → freeze_of x.fixed.settings x.fixed.marks ≡ Some freeze → shown_awards a now x ≡ []
 none_held a now x freeze m e =
     let none : (b : Bool) (w : List Award) → b ≡ false → (if b then w else []) ≡ [] = λ b w i. rw i refl in
-    none (shows_awards a now x) (awards_of x.fixed.settings (board_for Jury now x) (solves_of x)) (shows_none a now x freeze m e)
+    none (shows_awards a now x) (awards_of x.fixed.settings (board_for Jury now None x) (solves_of x)) (shows_none a now x freeze m e)

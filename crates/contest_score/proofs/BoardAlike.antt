@@ -1,6 +1,6 @@
 -- A board is made of the cells of the teams that it shows, and of nothing else.
 use Rattle.std.proofs.Common.{◌≡◌, ℕ, ◌+◌, Bool, true, false, List, [], ◌∷◌, map, filter, Option, Some, None, refl, sym, ap, subst, ◌∙◌}
-use Rattle.std.specs.Prelude.{◌==◌, ◌||◌, find, count_by, cond, length, if◌then◌else◌}
+use Rattle.std.specs.Prelude.{◌==◌, ◌&&◌, ◌||◌, find, count_by, cond, length, if◌then◌else◌}
 use Rattle.std.specs.List.{cons_option, filter_map, range_with_len}
 use Rattle.std.specs.Ordering.{is_lt, nat_cmp, ordering_then}
 use Rattle.std.specs.Cmp.Lexicographic.{slice_cmp}
@@ -8,17 +8,18 @@ use Rattle.std.specs.declared.cmp.Ordering.{Ordering}
 use Rattle.std.proofs.Math.Path.{fun_ext}
 use Rattle.std.proofs.lemmas.List.Sums.{sum_by-cons}
 use Rattle.contest_types.specs.Setup.{Setup}
-use Rattle.contest_types.specs.TeamPlaces.{team_places, name_at, team_id_at, is_public}
+use Rattle.contest_types.specs.TeamPlaces.{team_places, name_at, team_id_at, is_of_group, is_public}
 use Rattle.contest_types.specs.Order.{place_in, in_order}
 use Rattle.contest_types.specs.Masks.{knows_all_of}
 use Rattle.contest_types.specs.State.{FixedPart, ContestState}
 use Rattle.contest_types.specs.Sight.{sees_team}
 use Rattle.contest_types.specs.Alike.{Alike, MayBeHeld}
 use Rattle.contest_types.specs.declared.audience.Audience.{Audience}
+use Rattle.contest_types.proofs.PlaceLemmas.{and_left}
 use Rattle.contest_score.specs.declared.cell.Cell.{Cell}
 use Rattle.contest_score.specs.declared.score.Score.{Score}
 use Rattle.contest_score.specs.declared.row.Row.{Row}
-use Rattle.contest_score.specs.Ranking.{cells_of_team, score_of_team, beats, shown_teams, rank_of, row_cmp, row_of, board_rows}
+use Rattle.contest_score.specs.Ranking.{cells_of_team, score_of_team, beats, shown_teams, rank_of, row_cmp, row_of, board_rows, is_on_board}
 use Rattle.contest_score.specs.Contest.{seen_cell, board_for}
 use Rattle.contest_score.proofs.MaskLemmas.{cells_alike}
 
@@ -93,8 +94,13 @@ seen_of_public a s team e =
     let go : (b : Bool) → (b || true) ≡ true = elim [ true ↦ refl | false ↦ refl ] in
     rw e (go (knows_all_of a team))
 
-pub board_alike : (a : Audience) (now : ℕ) (x y : ContestState) → MayBeHeld a now x → Alike a x y → board_for a now x ≡ board_for a now y
-board_alike a now x y m h =
+-- no board shows a hidden team
+pub on_board_public : (s : Setup) (group : Option ℕ) (team : ℕ) → is_on_board s group team ≡ true → is_public s team ≡ true
+on_board_public s None team e = e
+on_board_public s (Some group) team e = and_left (is_public s team) (is_of_group s group team) e
+
+pub board_alike : (a : Audience) (now : ℕ) (group : Option ℕ) (x y : ContestState) → MayBeHeld a now x → Alike a x y → board_for a now group x ≡ board_for a now group y
+board_alike a now group x y m h =
     let s = x.fixed.settings in
-    board_same s (is_public s) (seen_cell a now x) (seen_cell a now y) (λ u p e. cells_alike a now x y u p m h (seen_of_public a s u e))
-    ∙ ap (λ (f : FixedPart). board_rows f.settings (is_public f.settings) (seen_cell a now y)) h.fixed
+    board_same s (is_on_board s group) (seen_cell a now x) (seen_cell a now y) (λ u p e. cells_alike a now x y u p m h (seen_of_public a s u (on_board_public s group u e)))
+    ∙ ap (λ (f : FixedPart). board_rows f.settings (is_on_board f.settings group) (seen_cell a now y)) h.fixed

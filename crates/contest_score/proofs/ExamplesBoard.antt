@@ -1,11 +1,12 @@
 -- Worked examples: boards and cells for each caller.
 use Rattle.std.proofs.Common.{◌≡◌, ℕ, ◌+◌, ◌-◌, List, [], ◌∷◌, refl, Option, Some, None, map}
-use Rattle.std.specs.Prelude.{take}
+use Rattle.std.specs.Prelude.{◌++◌, drop, take}
 use Rattle.contest_types.specs.State.{ContestState}
 use Rattle.contest_types.specs.declared.audience.Audience.{Audience}
 use Rattle.contest_types.specs.declared.audience.Audience.TheVariants as audience
 use Rattle.contest_types.specs.declared.sight.Mask.TheVariants.{Full, Held}
 use Rattle.contest_types.specs.declared.minute.Minute.{Minute}
+use Rattle.contest_types.specs.declared.objects.Team.{Team}
 use Rattle.contest_types.proofs.ExampleContest.{minutes, hours, empty, thawed_at, accepted, wrong, compile_error, submitted, released, proposed}
 use Rattle.contest_score.specs.declared.cell.Cell.{Cell}
 use Rattle.contest_score.specs.declared.row.Row.{Row}
@@ -43,27 +44,27 @@ abbrev alpha : Row
 alpha = row_for 0 1 1 30 (Some (record { 0 = 10 })) (solved_cell 3 10 1 ∷ [])
 
 -- both have a total of 30, and the smaller last minute stands first
-first_board : board_for audience.Public (hours 5) (two_teams (minutes 30)) ≡ alpha ∷ row_for 1 2 1 30 (Some (record { 0 = 30 })) (solved_cell 1 30 0 ∷ []) ∷ []
+first_board : board_for audience.Public (hours 5) None (two_teams (minutes 30)) ≡ alpha ∷ row_for 1 2 1 30 (Some (record { 0 = 30 })) (solved_cell 1 30 0 ∷ []) ∷ []
 first_board = refl
 
 -- Beta's submission at the freeze is pending for the public, and for the first team
-frozen_board : board_for audience.Public (hours 5) (two_teams (hours 4)) ≡ alpha ∷ row_for 1 2 0 0 None (open_cell 0 1 0 ∷ []) ∷ []
+frozen_board : board_for audience.Public (hours 5) None (two_teams (hours 4)) ≡ alpha ∷ row_for 1 2 0 0 None (open_cell 0 1 0 ∷ []) ∷ []
 frozen_board = refl
 
-frozen_for_other : board_for (audience.Team 1) (hours 5) (two_teams (hours 4)) ≡ alpha ∷ row_for 1 2 0 0 None (open_cell 0 1 0 ∷ []) ∷ []
+frozen_for_other : board_for (audience.Team 1) (hours 5) None (two_teams (hours 4)) ≡ alpha ∷ row_for 1 2 0 0 None (open_cell 0 1 0 ∷ []) ∷ []
 frozen_for_other = refl
 
 -- and accepted for the jury, for Beta itself, and for all once it is thawed
 abbrev open_board : List Row
 open_board = alpha ∷ row_for 1 2 1 240 (Some (record { 0 = 240 })) (solved_cell 1 240 0 ∷ []) ∷ []
 
-jury_board : board_for audience.Jury (hours 5) (two_teams (hours 4)) ≡ open_board
+jury_board : board_for audience.Jury (hours 5) None (two_teams (hours 4)) ≡ open_board
 jury_board = refl
 
-own_board : board_for (audience.Team 2) (hours 5) (two_teams (hours 4)) ≡ open_board
+own_board : board_for (audience.Team 2) (hours 5) None (two_teams (hours 4)) ≡ open_board
 own_board = refl
 
-thawed_board : board_for audience.Public (hours 6) (thawed_at (two_teams (hours 4)) (hours 6)) ≡ open_board
+thawed_board : board_for audience.Public (hours 6) None (thawed_at (two_teams (hours 4)) (hours 6)) ≡ open_board
 thawed_board = refl
 
 -- two that tie, and a third: ranks 1, 1 and 3, the tie in the order of the names
@@ -73,7 +74,7 @@ three_teams = only_first 3 1 (record empty {
   releases = released 1 1 1 accepted (hours 1) ∷ released 2 1 1 accepted (hours 1) ∷ released 0 1 1 accepted (hours 1) ∷ [];
 })
 
-shared_rank : ranks_of (board_for audience.Public (hours 2) three_teams) ≡ (0, 1) ∷ (1, 1) ∷ (2, 3) ∷ []
+shared_rank : ranks_of (board_for audience.Public (hours 2) None three_teams) ≡ (0, 1) ∷ (1, 1) ∷ (2, 3) ∷ []
 shared_rank = refl
 
 -- Beta submits a a millisecond before the freeze and b exactly at it; both are accepted at 4:10
@@ -99,10 +100,10 @@ jury_cells : cells_of audience.Jury around_freeze 1 ≡ solved_cell 1 239 0 ∷ 
 jury_cells = refl
 
 -- to itself Beta has 479 minutes, to the public 239
-own_totals : totals_of (board_for (audience.Team 2) (hours 5) around_freeze) ≡ (1 ∷ 2 ∷ 479 ∷ []) ∷ (0 ∷ 0 ∷ 0 ∷ []) ∷ (2 ∷ 0 ∷ 0 ∷ []) ∷ []
+own_totals : totals_of (board_for (audience.Team 2) (hours 5) None around_freeze) ≡ (1 ∷ 2 ∷ 479 ∷ []) ∷ (0 ∷ 0 ∷ 0 ∷ []) ∷ (2 ∷ 0 ∷ 0 ∷ []) ∷ []
 own_totals = refl
 
-public_totals : totals_of (board_for audience.Public (hours 5) around_freeze) ≡ (1 ∷ 1 ∷ 239 ∷ []) ∷ (0 ∷ 0 ∷ 0 ∷ []) ∷ (2 ∷ 0 ∷ 0 ∷ []) ∷ []
+public_totals : totals_of (board_for audience.Public (hours 5) None around_freeze) ≡ (1 ∷ 1 ∷ 239 ∷ []) ∷ (0 ∷ 0 ∷ 0 ∷ []) ∷ (2 ∷ 0 ∷ 0 ∷ []) ∷ []
 public_totals = refl
 
 -- submitted before the freeze and judged in it: shown
@@ -173,7 +174,7 @@ hidden_solves = record empty {
 }
 
 abbrev ranks_for : Audience → ContestState → List (ℕ × ℕ)
-ranks_for a x = ranks_of (board_for a (hours 1) x)
+ranks_for a x = ranks_of (board_for a (hours 1) None x)
 
 hidden_from_public : ranks_for audience.Public hidden_solves ≡ (0, 1) ∷ (1, 2) ∷ (2, 2) ∷ []
 hidden_from_public = refl
@@ -185,8 +186,33 @@ hidden_from_itself : ranks_for (audience.Team 4) hidden_solves ≡ (0, 1) ∷ (1
 hidden_from_itself = refl
 
 -- an empty contest: all share the first rank, in the order of the names; with no team there is no row
-empty_board : board_for audience.Public 0 (only_first 1 2 empty) ≡ row_for 0 1 0 0 None (no_attempts ∷ no_attempts ∷ []) ∷ []
+empty_board : board_for audience.Public 0 None (only_first 1 2 empty) ≡ row_for 0 1 0 0 None (no_attempts ∷ no_attempts ∷ []) ∷ []
 empty_board = refl
 
-no_teams : board_for audience.Public 0 (only_first 0 2 empty) ≡ []
+no_teams : board_for audience.Public 0 None (only_first 0 2 empty) ≡ []
 no_teams = refl
+
+-- a group of all teams but Alpha, the hidden one too: Alpha and Beta solve after half an hour, Gamma a minute later
+abbrev all_but_first : List Team → List Team
+all_but_first teams = take 1 teams ++ map (λ (t : Team). record t { groups = 0 ∷ [] }) (drop 1 teams)
+
+abbrev grouped : ContestState → ContestState
+grouped x = record x { fixed = record x.fixed { settings = record x.fixed.settings { teams = all_but_first x.fixed.settings.teams } } }
+
+abbrev three_solve : ContestState
+three_solve = grouped (record empty {
+  submissions = submitted 0 1 (minutes 30) 0 ∷ submitted 1 1 (minutes 30) 0 ∷ submitted 2 1 (minutes 31) 0 ∷ [];
+  releases = released 0 1 1 accepted (minutes 31) ∷ released 1 1 1 accepted (minutes 31) ∷ released 2 1 1 accepted (minutes 32) ∷ [];
+})
+
+-- on the whole board two share the first rank, and Gamma has the third
+whole_ranks : ranks_of (board_for audience.Public (hours 1) None three_solve) ≡ (0, 1) ∷ (1, 1) ∷ (2, 3) ∷ []
+whole_ranks = refl
+
+-- on the group's board Gamma has the second
+group_ranks : ranks_of (board_for audience.Public (hours 1) (Some 0) three_solve) ≡ (1, 1) ∷ (2, 2) ∷ []
+group_ranks = refl
+
+-- a group without teams has a board without rows
+no_group_teams : board_for audience.Jury (hours 1) (Some 1) three_solve ≡ []
+no_group_teams = refl

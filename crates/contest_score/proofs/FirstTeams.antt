@@ -137,7 +137,7 @@ abbrev leads : ContestState → ℕ → Row → Bool
 leads x problem r = list_any (λ (v : Solve). v.team == r.team) (first_solves problem (solves_of x))
 
 abbrev the_award : ℕ → ContestState → ℕ → Award
-the_award now x problem = first_to_solve x.fixed.settings (board_for Jury now x) (solves_of x) problem
+the_award now x problem = first_to_solve x.fixed.settings (board_for Jury now None x) (solves_of x) problem
 
 -- the attempt that a solve is
 some_solving : (team problem : ℕ) (attempts : List Attempt) (o : Option Attempt) (v : Solve) → find is_solving attempts ≡ o → option_map (λ (t : Attempt). record { team = team; problem = problem; time = t.time }) o ≡ Some v → list_any is_solving attempts ≡ true
@@ -164,7 +164,7 @@ given now x problem team valid l i =
     let s = x.fixed.settings in
     let cells = seen_cell Jury now x in
     let r : Row = row_of s (is_public s) cells team in
-    let there : Has (board_for Jury now x) r = has_map (row_of s (is_public s) cells) (ranked_teams s (is_public s) cells) team (ranked s valid (is_public s) cells team (shown_has s team i.shown)) in
+    let there : Has (board_for Jury now None x) r = has_map (row_of s (is_public s) cells) (ranked_teams s (is_public s) cells) team (ranked s valid (is_public s) cells team (shown_has s team i.shown)) in
     let own = solve_is x team problem i.solve i.solved in
     let one : IsFirstSolve problem (solves_of x) i.solve = record {
       there = solves_have x team problem i.solve valid l i.shown i.solved;
@@ -172,12 +172,12 @@ given now x problem team valid l i =
       first = λ w h e. (let b = solved_by x w h in i.first w.team w b.shown (ap (solve_of x w.team) (sym e) ∙ b.is));
     } in
     let passes : leads x problem r ≡ true = some_passes (λ (v : Solve). v.team == team) (first_solves problem (solves_of x)) i.solve (first_solve_has problem (solves_of x) i.solve one) (eq-eqb i.solve.team team own.0) in
-    award_has (codes "first-to-solve-" ++ problem_id_at s.problems problem) (codes "First to solve problem " ++ label_at s problem) (leads x problem) (board_for Jury now x) r there (row_solved now x team problem i.solve valid l i.solved) passes
+    award_has (codes "first-to-solve-" ++ problem_id_at s.problems problem) (codes "First to solve problem " ++ label_at s problem) (leads x problem) (board_for Jury now None x) r there (row_solved now x team problem i.solve valid l i.solved) passes
 
 is_first : (now : ℕ) (x : ContestState) (problem team : ℕ) → IsValid x.fixed.settings → problem < length x.fixed.settings.problems → Has (the_award now x problem).teams team → IsFirst x problem team
 is_first now x problem team valid l h =
     let s = x.fixed.settings in
-    let w = has_the_award (codes "first-to-solve-" ++ problem_id_at s.problems problem) (codes "First to solve problem " ++ label_at s problem) (leads x problem) (board_for Jury now x) team h in
+    let w = has_the_award (codes "first-to-solve-" ++ problem_id_at s.problems problem) (codes "First to solve problem " ++ label_at s problem) (leads x problem) (board_for Jury now None x) team h in
     let p = passing (λ (v : Solve). v.team == w.row.team) (first_solves problem (solves_of x)) w.passes in
     let v = p.item in
     let i = is_first_solve problem (solves_of x) v p.there in
@@ -191,15 +191,15 @@ is_first now x problem team valid l h =
     }
 
 pub first_award_is_of_the_first : (now : ℕ) (x : ContestState) (problem team : ℕ) → IsValid x.fixed.settings → problem < length x.fixed.settings.problems
-    → Has (first_to_solve x.fixed.settings (board_for Jury now x) (solves_of x) problem).teams team ↔ IsFirst x problem team
+    → Has (first_to_solve x.fixed.settings (board_for Jury now None x) (solves_of x) problem).teams team ↔ IsFirst x problem team
 first_award_is_of_the_first now x problem team valid l = (is_first now x problem team valid l, given now x problem team valid l)
 
 pub solved_has_a_first : (now : ℕ) (x : ContestState) (problem team : ℕ) (v : Solve) → IsValid x.fixed.settings → problem < length x.fixed.settings.problems
     → is_public x.fixed.settings team ≡ true → solve_of x team problem ≡ Some v
-    → Has (awards_of x.fixed.settings (board_for Jury now x) (solves_of x)) (first_to_solve x.fixed.settings (board_for Jury now x) (solves_of x) problem)
+    → Has (awards_of x.fixed.settings (board_for Jury now None x) (solves_of x)) (first_to_solve x.fixed.settings (board_for Jury now None x) (solves_of x) problem)
 solved_has_a_first now x problem team v valid l shown e =
     let s = x.fixed.settings in
-    let rows = board_for Jury now x in
+    let rows = board_for Jury now None x in
     let own : Solve → Bool = λ w. w.problem == problem in
     let at_problem : Has (of_problem problem (solves_of x)) v = has_filter own (solves_of x) v (solves_have x team problem v valid l shown e) (eq-eqb v.problem problem (solve_is x team problem v e).1) in
     let r = least_of (λ (w : Solve). w.time) (of_problem problem (solves_of x)) v at_problem in

@@ -22,7 +22,7 @@ use Rattle.contest_types.specs.declared.objects.Group.{Group}
 use Rattle.contest_types.specs.declared.objects.Language.{Language}
 use Rattle.contest_types.specs.Setup.{Setup}
 use Rattle.contest_score.specs.declared.cell.Cell.{Cell}
-use Rattle.contest_score.specs.Ranking.{board_rows, is_public}
+use Rattle.contest_score.specs.Ranking.{board_rows, is_on_board}
 use Rattle.contest_types.specs.declared.submission.Submission.{Submission}
 use Rattle.contest_types.specs.declared.submission.Release.{Release}
 use Rattle.contest_types.proofs.PlaceLemmas.{and_left, and_right}
@@ -140,33 +140,42 @@ groups_score_nothing Full s marks groups us = refl
 groups_score_nothing Held s marks groups us = refl
 
 -- the same cells make the same board
-with_board : (a : Audience) (now : ℕ) (x y : ContestState) → ((cells : ℕ → ℕ → Cell) → board_rows y.fixed.settings (is_public y.fixed.settings) cells ≡ board_rows x.fixed.settings (is_public x.fixed.settings) cells)
-    → seen_cell a now y ≡ seen_cell a now x → (seen_cell a now y ≡ seen_cell a now x) × (board_for a now y ≡ board_for a now x)
-with_board a now x y h cells = (cells, h (seen_cell a now y) ∙ ap (board_rows x.fixed.settings (is_public x.fixed.settings)) cells)
+with_board : (a : Audience) (now : ℕ) (group : Option ℕ) (x y : ContestState) → ((cells : ℕ → ℕ → Cell) → board_rows y.fixed.settings (is_on_board y.fixed.settings group) cells ≡ board_rows x.fixed.settings (is_on_board x.fixed.settings group) cells)
+    → seen_cell a now y ≡ seen_cell a now x → (seen_cell a now y ≡ seen_cell a now x) × (board_for a now group y ≡ board_for a now group x)
+with_board a now group x y h cells = (cells, h (seen_cell a now y) ∙ ap (board_rows x.fixed.settings (is_on_board x.fixed.settings group)) cells)
 
-pub nothing_else_scores : (a : Audience) (now : ℕ) (x : ContestState) (e : Entry) → can_score e ≡ false → (seen_cell a now (add x e) ≡ seen_cell a now x) × (board_for a now (add x e) ≡ board_for a now x)
-nothing_else_scores a now x (NewSubmission s) h = absurd (false≢true (sym h))
-nothing_else_scores a now x (NewProposal p) h = (refl, refl)
-nothing_else_scores a now x (NewRelease v) h = absurd (false≢true (sym h))
-nothing_else_scores a now x (NewClarification c) h = (refl, refl)
-nothing_else_scores a now x (NewRejudging r) h = (refl, refl)
-nothing_else_scores a now x (SetMember n place state) h = (refl, refl)
-nothing_else_scores a now x (SetRejudging n state) h = (refl, refl)
-nothing_else_scores a now x (SetStart start) h = absurd (false≢true (sym h))
-nothing_else_scores a now x (SetThaw thaw) h = absurd (false≢true (sym h))
-nothing_else_scores a now x (SetFinalized finalized) h =
-    with_board a now x (add x (SetFinalized finalized)) (λ cells. refl)
+-- new languages and new groups change no board of the same cells
+with_languages : (s : Setup) (group : Option ℕ) (languages : List Language) (cells : ℕ → ℕ → Cell) → board_rows (record s { languages = languages }) (is_on_board (record s { languages = languages }) group) cells ≡ board_rows s (is_on_board s group) cells
+with_languages s None languages cells = refl
+with_languages s (Some group) languages cells = refl
+
+with_groups : (s : Setup) (group : Option ℕ) (groups : List Group) (cells : ℕ → ℕ → Cell) → board_rows (record s { groups = groups }) (is_on_board (record s { groups = groups }) group) cells ≡ board_rows s (is_on_board s group) cells
+with_groups s None groups cells = refl
+with_groups s (Some group) groups cells = refl
+
+pub nothing_else_scores : (a : Audience) (now : ℕ) (group : Option ℕ) (x : ContestState) (e : Entry) → can_score e ≡ false → (seen_cell a now (add x e) ≡ seen_cell a now x) × (board_for a now group (add x e) ≡ board_for a now group x)
+nothing_else_scores a now group x (NewSubmission s) h = absurd (false≢true (sym h))
+nothing_else_scores a now group x (NewProposal p) h = (refl, refl)
+nothing_else_scores a now group x (NewRelease v) h = absurd (false≢true (sym h))
+nothing_else_scores a now group x (NewClarification c) h = (refl, refl)
+nothing_else_scores a now group x (NewRejudging r) h = (refl, refl)
+nothing_else_scores a now group x (SetMember n place state) h = (refl, refl)
+nothing_else_scores a now group x (SetRejudging n state) h = (refl, refl)
+nothing_else_scores a now group x (SetStart start) h = absurd (false≢true (sym h))
+nothing_else_scores a now group x (SetThaw thaw) h = absurd (false≢true (sym h))
+nothing_else_scores a now group x (SetFinalized finalized) h =
+    with_board a now group x (add x (SetFinalized finalized)) (λ cells. refl)
     (fun_ext (λ team. ap (λ c. c team) (finalizing_scores_nothing (mask_for a x.fixed.marks now team) x.fixed.settings x.fixed.marks (Some finalized) (judged_submissions x))))
-nothing_else_scores a now x (NewType t) h = absurd (false≢true (sym h))
-nothing_else_scores a now x (NewLanguage l) h =
-    with_board a now x (add x (NewLanguage l)) (λ cells. refl)
+nothing_else_scores a now group x (NewType t) h = absurd (false≢true (sym h))
+nothing_else_scores a now group x (NewLanguage l) h =
+    with_board a now group x (add x (NewLanguage l)) (with_languages x.fixed.settings group (x.fixed.settings.languages ++ l ∷ []))
     (fun_ext (λ team. ap (λ c. c team) (languages_score_nothing (mask_for a x.fixed.marks now team) x.fixed.settings x.fixed.marks (x.fixed.settings.languages ++ l ∷ []) (judged_submissions x))))
-nothing_else_scores a now x (NewProblem p) h = absurd (false≢true (sym h))
-nothing_else_scores a now x (NewGroup g) h =
-    with_board a now x (add x (NewGroup g)) (λ cells. refl)
+nothing_else_scores a now group x (NewProblem p) h = absurd (false≢true (sym h))
+nothing_else_scores a now group x (NewGroup g) h =
+    with_board a now group x (add x (NewGroup g)) (with_groups x.fixed.settings group (x.fixed.settings.groups ++ g ∷ []))
     (fun_ext (λ team. ap (λ c. c team) (groups_score_nothing (mask_for a x.fixed.marks now team) x.fixed.settings x.fixed.marks (x.fixed.settings.groups ++ g ∷ []) (judged_submissions x))))
-nothing_else_scores a now x (NewTeam t) h = absurd (false≢true (sym h))
-nothing_else_scores a now x (NewAccount account) h = (refl, refl)
+nothing_else_scores a now group x (NewTeam t) h = absurd (false≢true (sym h))
+nothing_else_scores a now group x (NewAccount account) h = (refl, refl)
 
 pub nothing_else_awards : (a : Audience) (now : ℕ) (x : ContestState) (e : Entry) → can_award e ≡ false → shown_awards a now (add x e) ≡ shown_awards a now x
 nothing_else_awards a now x (NewSubmission s) h = absurd (false≢true (sym h))

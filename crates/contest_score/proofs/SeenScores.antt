@@ -1,5 +1,5 @@
 -- A board is the scoring of what its reader may see.
-use Rattle.std.proofs.Common.{◌≡◌, ℕ, Bool, true, false, List, [], ◌∷◌, ◌++◌, Option, refl, sym, ap, ◌∙◌, inl, inr, append_assoc}
+use Rattle.std.proofs.Common.{◌≡◌, ℕ, Bool, true, false, List, [], ◌∷◌, ◌++◌, Option, None, Some, refl, sym, ap, ◌∙◌, inl, inr, append_assoc}
 use Rattle.std.specs.Prelude.{◌&&◌, ◌||◌, is_none, if◌then◌else◌}
 use Rattle.std.specs.List.{list_any}
 use Rattle.std.proofs.lemmas.List.Folds.{list_any-append}
@@ -7,7 +7,6 @@ use Rattle.contest_types.specs.Clock.{freeze_of, is_thawed, is_finalized}
 use Rattle.contest_types.specs.Masks.{is_jury, knows_all_of, mask_for}
 use Rattle.contest_types.specs.State.{ContestState}
 use Rattle.contest_types.specs.Sight.{sees_team}
-use Rattle.contest_types.specs.TeamPlaces.{is_public}
 use Rattle.contest_types.specs.declared.audience.Audience.{Audience}
 use Rattle.contest_types.specs.declared.audience.Audience.TheVariants.{Jury}
 use Rattle.contest_types.specs.declared.marks.Marks.{Marks}
@@ -15,23 +14,23 @@ use Rattle.contest_types.specs.declared.sight.Mask.TheVariants.{Full}
 use Rattle.contest_score.specs.declared.attempt.Attempt.{Attempt}
 use Rattle.contest_score.specs.Scoring.{is_solving, cell_of_attempts}
 use Rattle.contest_score.specs.MaskedCells.{start_of}
-use Rattle.contest_score.specs.Ranking.{board_rows}
+use Rattle.contest_score.specs.Ranking.{board_rows, is_on_board}
 use Rattle.contest_score.specs.Contest.{contest_cell, seen_cell, board_for, solves_of}
 use Rattle.contest_score.specs.Awards.{awards_of, shows_awards, shown_awards}
 use Rattle.contest_score.specs.Laws.{with_freeze}
 use Rattle.contest_score.specs.ScoringLaws.{scored_by_sight, HoldsNothing, with_thaw}
 use Rattle.contest_score.proofs.CellSteps.{cell_past}
 use Rattle.contest_score.proofs.MaskLemmas.{attempts_seen}
-use Rattle.contest_score.proofs.BoardAlike.{board_same, seen_of_public}
+use Rattle.contest_score.proofs.BoardAlike.{board_same, on_board_public, seen_of_public}
 use Rattle.contest_score.proofs.AwardsAlike.{same_attempts}
 
 pub cells_score_the_seen : (a : Audience) (now : ℕ) (x : ContestState) (team problem : ℕ) → sees_team a x.fixed.settings team ≡ true → seen_cell a now x team problem ≡ scored_by_sight a now x team problem
 cells_score_the_seen a now x team problem h = ap (cell_of_attempts (start_of x.fixed.marks)) (attempts_seen a now x team problem h)
 
-pub boards_score_the_seen : (a : Audience) (now : ℕ) (x : ContestState) → board_for a now x ≡ board_rows x.fixed.settings (is_public x.fixed.settings) (scored_by_sight a now x)
-boards_score_the_seen a now x =
+pub boards_score_the_seen : (a : Audience) (now : ℕ) (group : Option ℕ) (x : ContestState) → board_for a now group x ≡ board_rows x.fixed.settings (is_on_board x.fixed.settings group) (scored_by_sight a now x)
+boards_score_the_seen a now group x =
     let s = x.fixed.settings in
-    board_same s (is_public s) (seen_cell a now x) (scored_by_sight a now x) (λ u p e. cells_score_the_seen a now x u p (seen_of_public a s u e))
+    board_same s (is_on_board s group) (seen_cell a now x) (scored_by_sight a now x) (λ u p e. cells_score_the_seen a now x u p (seen_of_public a s u (on_board_public s group u e)))
 
 thawed_full : (a : Audience) (marks : Marks) (now team : ℕ) → is_thawed marks now ≡ true → mask_for a marks now team ≡ Full
 thawed_full a marks now team h =
@@ -44,10 +43,10 @@ all_read_the_jurys_cells a now x team problem h = elim h [
   | inr none ↦ ap (cell_of_attempts (start_of x.fixed.marks)) (same_attempts (mask_for a x.fixed.marks now team) x team problem none)
 ]
 
-pub all_read_the_jurys_board : (a : Audience) (now : ℕ) (x : ContestState) → HoldsNothing now x → board_for a now x ≡ board_for Jury now x
-all_read_the_jurys_board a now x h =
+pub all_read_the_jurys_board : (a : Audience) (now : ℕ) (group : Option ℕ) (x : ContestState) → HoldsNothing now x → board_for a now group x ≡ board_for Jury now group x
+all_read_the_jurys_board a now group x h =
     let s = x.fixed.settings in
-    board_same s (is_public s) (seen_cell a now x) (seen_cell Jury now x) (λ u p e. all_read_the_jurys_cells a now x u p h)
+    board_same s (is_on_board s group) (seen_cell a now x) (seen_cell Jury now x) (λ u p e. all_read_the_jurys_cells a now x u p h)
 
 last_true : (b c : Bool) → (b || (c || true)) ≡ true
 last_true true c = refl
@@ -71,14 +70,15 @@ shown_to_all a now x h =
 
 pub all_read_the_jurys_awards : (a : Audience) (now : ℕ) (x : ContestState) → HoldsNothing now x → shown_awards a now x ≡ shown_awards Jury now x
 all_read_the_jurys_awards a now x h =
-    let list = awards_of x.fixed.settings (board_for Jury now x) (solves_of x) in
+    let list = awards_of x.fixed.settings (board_for Jury now None x) (solves_of x) in
     ap (λ b. if b then list else []) (shown_to_all a now x h)
 
-pub jurys_board_ignores_the_freeze : (now : ℕ) (x : ContestState) (freeze thaw : Option ℕ) → board_for Jury now (with_thaw (with_freeze x freeze) thaw) ≡ board_for Jury now x
-jurys_board_ignores_the_freeze now x freeze thaw = refl
+pub jurys_board_ignores_the_freeze : (now : ℕ) (group : Option ℕ) (x : ContestState) (freeze thaw : Option ℕ) → board_for Jury now group (with_thaw (with_freeze x freeze) thaw) ≡ board_for Jury now group x
+jurys_board_ignores_the_freeze now None x freeze thaw = refl
+jurys_board_ignores_the_freeze now (Some group) x freeze thaw = refl
 
-pub jurys_board_stays : (now later : ℕ) (x : ContestState) → board_for Jury now x ≡ board_for Jury later x
-jurys_board_stays now later x = refl
+pub jurys_board_stays : (now later : ℕ) (group : Option ℕ) (x : ContestState) → board_for Jury now group x ≡ board_for Jury later group x
+jurys_board_stays now later group x = refl
 
 or_true : (b : Bool) → (b || (true || false)) ≡ true
 or_true true = refl

@@ -1,6 +1,6 @@
 -- What a contest director may ask of the awards. Each is the contract of a function of
 -- src/scoring_laws.rt.
-use Rattle.std.specs.Prelude.{◌≡◌, ◌↔◌, ◌==◌, ◌&&◌, ◌+◌, ◌<◌, ◌≤◌, ℕ, Bool, true, nat_lt, nat_le, List, length, count_by, Some, if◌then◌else◌}
+use Rattle.std.specs.Prelude.{◌≡◌, ◌↔◌, ◌==◌, ◌&&◌, ◌+◌, ◌<◌, ◌≤◌, ℕ, Bool, true, nat_lt, nat_le, List, length, count_by, Some, None, if◌then◌else◌}
 use Rattle.std.specs.List.{list_any}
 use Rattle.std.specs.Ordering.{is_lt}
 use Rattle.contest_types.specs.Setup.{Setup, IsValid}
@@ -50,14 +50,14 @@ pub record IsFirst (x : ContestState) (problem team : ℕ) : Type 0 where
 abbrev pub FirstAwardIsOfTheFirst : Type 0
 FirstAwardIsOfTheFirst =
     (now : ℕ) (x : ContestState) (problem team : ℕ) → IsValid x.fixed.settings → problem < length x.fixed.settings.problems
-    → Has (first_to_solve x.fixed.settings (board_for Jury now x) (solves_of x) problem).teams team ↔ IsFirst x problem team
+    → Has (first_to_solve x.fixed.settings (board_for Jury now None x) (solves_of x) problem).teams team ↔ IsFirst x problem team
 
 -- and it is among the awards where a shown team solved the problem
 abbrev pub SolvedHasAFirst : Type 0
 SolvedHasAFirst =
     (now : ℕ) (x : ContestState) (problem team : ℕ) (v : Solve) → IsValid x.fixed.settings → problem < length x.fixed.settings.problems
     → is_public x.fixed.settings team ≡ true → solve_of x team problem ≡ Some v
-    → Has (awards_of x.fixed.settings (board_for Jury now x) (solves_of x)) (first_to_solve x.fixed.settings (board_for Jury now x) (solves_of x) problem)
+    → Has (awards_of x.fixed.settings (board_for Jury now None x) (solves_of x)) (first_to_solve x.fixed.settings (board_for Jury now None x) (solves_of x) problem)
 
 -- with valid settings each group stands once in their order, by id, and no other place does
 abbrev pub GroupsStandOnce : Type 0

@@ -1,5 +1,5 @@
 -- Awards (Contest API 2023-06, awards): who won what, and when it is shown.
-use Rattle.std.specs.Prelude.{ℕ, ◌+◌, Bool, ◌&&◌, ◌||◌, ◌==◌, nat_lt, nat_le, List, [], ◌∷◌, ◌++◌, length, map, filter, if◌then◌else◌, codes}
+use Rattle.std.specs.Prelude.{ℕ, ◌+◌, Bool, ◌&&◌, ◌||◌, ◌==◌, nat_lt, nat_le, List, [], ◌∷◌, ◌++◌, length, map, filter, None, if◌then◌else◌, codes}
 use Rattle.std.specs.List.{list_any, list_all, range_with_len}
 use Rattle.contest_types.specs.Setup.{Setup}
 use Rattle.contest_types.specs.Clock.{is_finalized}
@@ -84,4 +84,4 @@ shows_awards a now x = is_finalized x.fixed.marks now && (is_jury a || holds_not
 
 -- the awards that an audience is shown: those of the jury's board
 abbrev pub shown_awards : Audience → ℕ → ContestState → List Award
-shown_awards a now x = if shows_awards a now x then awards_of x.fixed.settings (board_for Jury now x) (solves_of x) else []
+shown_awards a now x = if shows_awards a now x then awards_of x.fixed.settings (board_for Jury now None x) (solves_of x) else []

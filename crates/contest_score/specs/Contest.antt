@@ -15,7 +15,7 @@ use Rattle.contest_score.specs.declared.row.Row.{Row}
 use Rattle.contest_score.specs.declared.solve.Solve.{Solve}
 use Rattle.contest_score.specs.declared.submission.JudgedSubmission.{JudgedSubmission}
 use Rattle.contest_score.specs.Scoring.{is_solving}
-use Rattle.contest_score.specs.Ranking.{Scoreboard, board_of, board_rows, is_public, problem_order, shown_teams}
+use Rattle.contest_score.specs.Ranking.{Scoreboard, board_of, board_rows, is_on_board, is_public, problem_order, shown_teams}
 use Rattle.contest_score.specs.MaskedCells.{attempts_under, cell_under, cell_for}
 
 -- a submission as scoring reads it: with the verdict that was released last
@@ -33,13 +33,14 @@ contest_cell mask x = cell_under mask x.fixed.settings x.fixed.marks (judged_sub
 abbrev pub seen_cell : Audience → ℕ → ContestState → ℕ → ℕ → Cell
 seen_cell a now x = cell_for a x.fixed.settings x.fixed.marks now (judged_submissions x)
 
--- the rows of the board for a caller: the teams that aren't hidden, ranked by the cells that the caller sees
-abbrev pub board_for : Audience → ℕ → ContestState → List Row
-board_for a now x = board_rows x.fixed.settings (is_public x.fixed.settings) (seen_cell a now x)
+-- the rows of the board for a caller: the teams that aren't hidden, or those of a group, ranked among each other by the
+-- cells that the caller sees
+abbrev pub board_for : Audience → (now : ℕ) → (group : Option ℕ) → ContestState → List Row
+board_for a now group x = board_rows x.fixed.settings (is_on_board x.fixed.settings group) (seen_cell a now x)
 
--- the whole board, with its columns
-abbrev pub seen_board : Audience → ℕ → ContestState → Scoreboard
-seen_board a now x = board_of x.fixed.settings (is_public x.fixed.settings) (seen_cell a now x)
+-- the same with its columns
+abbrev pub seen_board : Audience → (now : ℕ) → (group : Option ℕ) → ContestState → Scoreboard
+seen_board a now group x = board_of x.fixed.settings (is_on_board x.fixed.settings group) (seen_cell a now x)
 
 -- the first submission of a team that solves a problem, by all verdicts
 abbrev pub solve_of : ContestState → ℕ → ℕ → Option Solve

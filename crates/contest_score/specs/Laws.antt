@@ -17,7 +17,7 @@ use Rattle.contest_score.specs.declared.cell.Cell.{Cell}
 use Rattle.contest_score.specs.declared.submission.JudgedSubmission.{JudgedSubmission}
 use Rattle.contest_score.specs.Scoring.{is_solving, counted}
 use Rattle.contest_score.specs.MaskedCells.{cell_under}
-use Rattle.contest_score.specs.Ranking.{board_rows, is_public}
+use Rattle.contest_score.specs.Ranking.{board_rows, is_on_board}
 use Rattle.contest_types.specs.Loads.{without_file}
 use Rattle.contest_score.specs.Lists.{CanBeScored}
 use Rattle.contest_score.specs.Contest.{contest_cell, seen_cell, board_for}
@@ -60,9 +60,11 @@ AlikeScoreTheSame =
     (a : Audience) (now : ℕ) (x y : ContestState) (team problem : ℕ) → MayBeHeld a now x → Alike a x y
     → sees_team a x.fixed.settings team ≡ true → seen_cell a now x team problem ≡ seen_cell a now y team problem
 
--- and the same board
+-- and the same board, the whole one and each group's
 abbrev pub AlikeRankTheSame : Type 0
-AlikeRankTheSame = (a : Audience) (now : ℕ) (x y : ContestState) → MayBeHeld a now x → Alike a x y → board_for a now x ≡ board_for a now y
+AlikeRankTheSame =
+    (a : Audience) (now : ℕ) (group : Option ℕ) (x y : ContestState) → MayBeHeld a now x → Alike a x y
+    → board_for a now group x ≡ board_for a now group y
 
 -- and the same awards
 abbrev pub AlikeAwardTheSame : Type 0
@@ -77,5 +79,5 @@ ValidCanBeScored =
 -- the cells that a caller sees make the caller's board
 abbrev pub SeenCellsMakeTheBoard : Type 0
 SeenCellsMakeTheBoard =
-    (a : Audience) (now : ℕ) (x : ContestState) (cells : ℕ → ℕ → Cell) → cells ≡ seen_cell a now x
-    → board_rows x.fixed.settings (is_public x.fixed.settings) cells ≡ board_for a now x
+    (a : Audience) (now : ℕ) (group : Option ℕ) (x : ContestState) (cells : ℕ → ℕ → Cell) → cells ≡ seen_cell a now x
+    → board_rows x.fixed.settings (is_on_board x.fixed.settings group) cells ≡ board_for a now group x

@@ -1,14 +1,14 @@
 -- Ranks and the board (Contest Control System Requirements, "Scoring": most solved, least time,
 -- earliest last accepted, shared ranks). Teams and problems go by their places in the settings'
 -- lists, from 0. The shown teams are any set of them: those that aren't hidden, or some of these.
-use Rattle.std.specs.Prelude.{ℕ, ◌+◌, Bool, List, [], ◌∷◌, map, filter, count_by}
+use Rattle.std.specs.Prelude.{ℕ, ◌+◌, Bool, ◌&&◌, List, [], ◌∷◌, map, filter, count_by, Option, Some, None}
 use Rattle.std.specs.Option.{option_map_or}
 use Rattle.std.specs.Ordering.{is_lt}
 use Rattle.std.specs.declared.cmp.Ordering.{Ordering}
 use Rattle.contest_types.specs.Setup.{Setup}
 pub use Rattle.contest_types.specs.Order.{by_number, by_most, by_text, by_each, place_in, in_order}
 pub use Rattle.contest_types.specs.ProblemPlaces.{ordinal_at, problem_cmp, problem_id_at, problem_order}
-pub use Rattle.contest_types.specs.TeamPlaces.{team_places, name_at, team_id_at, is_public}
+pub use Rattle.contest_types.specs.TeamPlaces.{team_places, name_at, team_id_at, is_of_group, is_public}
 use Rattle.contest_score.specs.declared.cell.Cell.{Cell}
 use Rattle.contest_score.specs.declared.score.Score.{Score}
 use Rattle.contest_score.specs.declared.row.Row.{Row}
@@ -32,6 +32,11 @@ score_cmp = by_each (by_most (λ a. a.solved) ∷ by_number (λ a. a.total) ∷ 
 -- the first is better
 abbrev pub beats : Score → Score → Bool
 beats a b = is_lt (score_cmp a b)
+
+-- a board shows the teams that aren't hidden, and the board of the group at a place those of them that are in it
+abbrev pub is_on_board : Setup → (group : Option ℕ) → ℕ → Bool
+is_on_board s None = is_public s
+is_on_board s (Some group) = λ u. is_public s u && is_of_group s group u
 
 -- the shown teams, in the settings' order
 abbrev pub shown_teams : Setup → (ℕ → Bool) → List ℕ

@@ -19,7 +19,7 @@ use Rattle.contest_score.specs.declared.attempt.Attempt.{Attempt}
 use Rattle.contest_score.specs.declared.cell.Cell.{Cell}
 use Rattle.contest_score.specs.Scoring.{is_solving, cell_of_attempts, solved_minutes, last_of}
 use Rattle.contest_score.specs.MaskedCells.{verdict_of, start_of}
-use Rattle.contest_score.specs.Ranking.{board_rows, is_public}
+use Rattle.contest_score.specs.Ranking.{board_rows, is_on_board, is_public}
 use Rattle.contest_score.specs.Contest.{seen_cell, board_for}
 use Rattle.contest_score.specs.Awards.{shown_awards}
 use Rattle.contest_score.specs.Laws.{with_freeze}
@@ -42,10 +42,11 @@ CellsScoreTheSeen =
     (a : Audience) (now : ℕ) (x : ContestState) (team problem : ℕ) → sees_team a x.fixed.settings team ≡ true
     → seen_cell a now x team problem ≡ scored_by_sight a now x team problem
 
--- and each board ranks by these cells
+-- and each board ranks by these cells, a group's too
 abbrev pub BoardsScoreTheSeen : Type 0
 BoardsScoreTheSeen =
-    (a : Audience) (now : ℕ) (x : ContestState) → board_for a now x ≡ board_rows x.fixed.settings (is_public x.fixed.settings) (scored_by_sight a now x)
+    (a : Audience) (now : ℕ) (group : Option ℕ) (x : ContestState)
+    → board_for a now group x ≡ board_rows x.fixed.settings (is_on_board x.fixed.settings group) (scored_by_sight a now x)
 
 -- no verdict is held back now: it is thawed, or there is no freeze
 abbrev pub HoldsNothing : ℕ → ContestState → Type 0
@@ -58,7 +59,7 @@ AllReadTheJurysCells =
 
 -- and the jury's board
 abbrev pub AllReadTheJurysBoard : Type 0
-AllReadTheJurysBoard = (a : Audience) (now : ℕ) (x : ContestState) → HoldsNothing now x → board_for a now x ≡ board_for Jury now x
+AllReadTheJurysBoard = (a : Audience) (now : ℕ) (group : Option ℕ) (x : ContestState) → HoldsNothing now x → board_for a now group x ≡ board_for Jury now group x
 
 -- and the jury's awards
 abbrev pub AllReadTheJurysAwards : Type 0
@@ -66,7 +67,7 @@ AllReadTheJurysAwards = (a : Audience) (now : ℕ) (x : ContestState) → HoldsN
 
 -- the jury's board is the same at every moment
 abbrev pub JurysBoardStays : Type 0
-JurysBoardStays = (now later : ℕ) (x : ContestState) → board_for Jury now x ≡ board_for Jury later x
+JurysBoardStays = (now later : ℕ) (group : Option ℕ) (x : ContestState) → board_for Jury now group x ≡ board_for Jury later group x
 
 -- the contest with another thaw, or none
 abbrev pub with_thaw : ContestState → Option ℕ → ContestState
@@ -75,7 +76,8 @@ with_thaw x thaw = with_marks x (record x.fixed.marks { thaw = thaw })
 -- and it is the same whatever the freeze and the thaw
 abbrev pub JurysBoardIgnoresTheFreeze : Type 0
 JurysBoardIgnoresTheFreeze =
-    (now : ℕ) (x : ContestState) (freeze thaw : Option ℕ) → board_for Jury now (with_thaw (with_freeze x freeze) thaw) ≡ board_for Jury now x
+    (now : ℕ) (group : Option ℕ) (x : ContestState) (freeze thaw : Option ℕ)
+    → board_for Jury now group (with_thaw (with_freeze x freeze) thaw) ≡ board_for Jury now group x
 
 -- a submission of the team, or a release on one
 abbrev pub is_of_team : ℕ → Entry → Bool
@@ -86,8 +88,8 @@ is_of_team team _ = false
 -- what a hidden team submits and gets moves nothing on any board
 abbrev pub HiddenMovesNoBoard : Type 0
 HiddenMovesNoBoard =
-    (a : Audience) (now : ℕ) (x : ContestState) (team : ℕ) (e : Entry) → is_public x.fixed.settings team ≡ false → is_of_team team e ≡ true
-    → board_for a now (add x e) ≡ board_for a now x
+    (a : Audience) (now : ℕ) (group : Option ℕ) (x : ContestState) (team : ℕ) (e : Entry) → is_public x.fixed.settings team ≡ false → is_of_team team e ≡ true
+    → board_for a now group (add x e) ≡ board_for a now group x
 
 -- nor any award
 abbrev pub HiddenMovesNoAward : Type 0
@@ -110,8 +112,8 @@ can_score _ = false
 -- nothing else does: no proposal, rejudging or clarification, and no finalizing
 abbrev pub NothingElseScores : Type 0
 NothingElseScores =
-    (a : Audience) (now : ℕ) (x : ContestState) (e : Entry) → can_score e ≡ false
-    → (seen_cell a now (add x e) ≡ seen_cell a now x) × (board_for a now (add x e) ≡ board_for a now x)
+    (a : Audience) (now : ℕ) (group : Option ℕ) (x : ContestState) (e : Entry) → can_score e ≡ false
+    → (seen_cell a now (add x e) ≡ seen_cell a now x) × (board_for a now group (add x e) ≡ board_for a now group x)
 
 -- what may change the awards: the same, finalizing and a new group
 abbrev pub can_award : Entry → Bool

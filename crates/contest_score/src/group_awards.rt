@@ -10,7 +10,7 @@ use crate::award::{Award, AwardText};
 use crate::award_list::{Awards, add};
 use crate::criterion::{Criterion, award_to};
 use crate::row::Row;
-use contest_types::{Group, Settings};
+use contest_types::{Group, Settings, is_of_group};
 use std::alloc::{AllocError, Global};
 
 /// What a group is ordered by: its id. The place comes last and decides nothing, since ids differ.
@@ -59,10 +59,7 @@ fn group_order(alloc: Global, settings: &Settings) -> Result<Vec<usize>, AllocEr
 fn is_in_group(settings: &Settings, group: usize, row: &Row) -> bool
     ensures { result ≡ is_in_group settings.now group row.now }
 {
-    match settings.teams().get(row.team) {
-        Some(team) => team.groups.as_slice().contains(&group),
-        None => false,
-    }
+    is_of_group(settings, group, row.team)
 }
 
 /// Whether a rank isn't greater than the least one, where there is one.

@@ -1,14 +1,14 @@
 //! The board over the cells that any source holds.
 ghost use Rattle.std.specs.Prelude.{◌≡◌, ◌<◌, ◌≤◌, [], length, IfOk, IfErr};
 ghost use Rattle.contest_types.specs.declared.limits.TheConstants.{TEAMS};
-ghost use Rattle.contest_score.specs.Ranking.{board_of, is_public};
+ghost use Rattle.contest_score.specs.Ranking.{board_of, is_on_board};
 ghost use Rattle.contest_score.specs.Keys.{next_rank, ranked};
 
 use crate::cells::Cells;
 use crate::row::Row;
 use crate::score::Score;
 use crate::scoreboard::Board;
-use crate::shown::{PublicTeams, Shown};
+use crate::shown::{BoardTeams, Shown};
 use crate::standing::{Standing, sort, standings, ties};
 use contest_types::{Refusal, Settings, problem_order};
 use std::alloc::{AllocError, Global};
@@ -63,13 +63,22 @@ fn board_of<C: Cells, S: Shown>(
 /// minute; equal teams share a rank, and the next one counts them all (Contest Control System
 /// Requirements, "Scoring"). The columns are the problems by ordinal, and then by id.
 ///
+/// The board of a group, whose place in the settings is given, from 0, has its teams alone, which are
+/// ranked among each other (own).
+///
 /// # Errors
 ///
 /// Want of memory alone.
-pub fn board<C: Cells>(alloc: Global, settings: &Settings, cells: &C) -> Result<Board, Refusal>
-    ensures board { IfOk result (λ b. b ≡ board_of settings.now (is_public settings.now) (C.cells cells.now)) }
+pub fn board<C: Cells>(
+    alloc: Global,
+    settings: &Settings,
+    group: Option<usize>,
+    cells: &C,
+) -> Result<Board, Refusal>
+    ensures board { IfOk result (λ b. b ≡ board_of settings.now (is_on_board settings.now group) (C.cells cells.now)) }
     ensures err { IfErr result (λ e. e ≡ Refusal.Memory) }
 {
-    let board = board_of(alloc, settings, &PublicTeams { settings }, cells)?;
+    let teams = BoardTeams { settings, group };
+    let board = board_of(alloc, settings, &teams, cells)?;
     Ok(board)
 }

@@ -1,8 +1,8 @@
 //! Which teams a board shows.
 ghost use Rattle.std.specs.Prelude.{◌≡◌, ℕ, ◌<◌, Bool};
-ghost use Rattle.contest_score.specs.Ranking.{is_public};
+ghost use Rattle.contest_score.specs.Ranking.{is_on_board};
 
-use contest_types::{Settings, is_public};
+use contest_types::{Settings, is_of_group, is_public};
 
 /// A set of teams that a board shows and ranks among each other.
 pub trait Shown {
@@ -14,17 +14,24 @@ pub trait Shown {
         ensures { result ≡ is_shown self.now team };
 }
 
-/// The teams that aren't hidden.
+/// The teams of a board: those that aren't hidden, or those of them that are in a group.
 #[derive(Drop)]
-pub struct PublicTeams<'a> {
+pub struct BoardTeams<'a> {
     /// The settings that list them.
     pub settings: &'a Settings,
+    /// The group's place in the settings, from 0, if it is a group's board.
+    pub group: Option<usize>,
 }
 
-impl Shown for PublicTeams<'_> {
-    ghost is_shown = { λ p. is_public p.settings.now };
+impl Shown for BoardTeams<'_> {
+    ghost is_shown = { λ p. is_on_board p.settings.now p.group };
 
     fn is_shown(&self, team: usize) -> bool {
-        is_public(self.settings, team)
+        match self.group {
+            Some(group) => {
+                is_public(self.settings, team) && is_of_group(self.settings, group, team)
+            }
+            None => is_public(self.settings, team),
+        }
     }
 }

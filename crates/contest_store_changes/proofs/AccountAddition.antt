@@ -82,5 +82,5 @@ account_is_added x a sound may =
         among = IsPermutation-map row (a ∷ accounts) (with_account accounts a) (with_one_more accounts a (has_new_id x a may));
         rises = rises (add x (NewAccount a)) (account_ascends accounts a sound.by_id) Accounts;
       };
-      others = same_tables _ _ refl refl refl refl refl refl refl refl refl refl refl;
+      others = same_tables _ _ refl refl refl refl refl refl refl refl refl refl refl refl;
     }

@@ -18,7 +18,7 @@ use Rattle.contest_types.specs.declared.submission.Release.{Release}
 use Rattle.contest_types.specs.declared.submission.Submission.{Submission}
 use Rattle.contest_store_rows.specs.FixedRows.{account_row, group_row, language_row, problem_row, team_row, type_row}
 use Rattle.contest_store_rows.specs.ListRows.{clarification_row, proposal_row, rejudging_row, release_row, submission_row}
-use Rattle.contest_store_tables.specs.declared.table_name.TableName.TheVariants.{Items, Accounts, Submissions, Proposals, Releases, Rejudgings, Clarifications}
+use Rattle.contest_store_tables.specs.declared.table_name.TableName.TheVariants.{Items, Accounts, Submissions, Proposals, Releases, Rejudgings, Notices}
 use Rattle.contest_store_changes.specs.Laws.{with_members}
 use Rattle.contest_store_changes.proofs.AccountAddition.{account_is_added}
 use Rattle.contest_store_changes.proofs.AppendLemmas.{AddsRow}
@@ -36,7 +36,7 @@ module _ (lists : ContestState) (s : Setup) (is : s ≡ lists.fixed.settings) wh
   pub adds_release : (rows : List Release) (row : Release) → rows ≡ lists.releases → AddsRow lists (NewRelease row) (NewRelease row) Releases (release_row s (length rows + 1) row)
   adds_release rows row same x sound held may = rw (is, same, ← held) (release_is_added x row sound)
 
-  pub adds_clarification : (rows : List Clarification) (row : Clarification) → rows ≡ lists.clarifications → AddsRow lists (NewClarification row) (NewClarification row) Clarifications (clarification_row s (length rows + 1) row)
+  pub adds_clarification : (rows : List Clarification) (row : Clarification) → rows ≡ lists.clarifications → AddsRow lists (NewClarification row) (NewClarification row) Notices (clarification_row s (length rows + 1) row)
   adds_clarification rows row same x sound held may = rw (is, same, ← held) (clarification_is_added x row sound)
 
   -- the settings

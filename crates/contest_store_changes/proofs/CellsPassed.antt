@@ -9,7 +9,7 @@ use Rattle.contest_store_tables.specs.Schema.{form_of}
 use Rattle.contest_store_tables.specs.Steps.{with_rows}
 use Rattle.contest_store_tables.specs.Tables.{TableRows}
 use Rattle.contest_store_tables.specs.declared.table_name.TableName.{TableName}
-use Rattle.contest_store_tables.specs.declared.table_name.TableName.TheVariants.{Desk, Contest, Items, Accounts, Submissions, Proposals, Releases, Rejudgings, Members, Clarifications, Cells}
+use Rattle.contest_store_tables.specs.declared.table_name.TableName.TheVariants.{Desk, Contest, Items, Accounts, Submissions, Proposals, Releases, Rejudgings, Members, Clarifications, Cells, Notices}
 use Rattle.contest_store_changes.specs.ContestTables.{list_rows, rows_with}
 use Rattle.contest_store_changes.specs.OneRow.{IsOfLists}
 
@@ -50,6 +50,7 @@ put_same cells all is = fun_ext at
     at Members = refl
     at Clarifications = refl
     at Cells = sym is
+    at Notices = refl
 
 -- a list's table is as it is without the cells
 pub of_its_list : (name : TableName) (cells : List Row) (x : ContestState) → IsOfLists name → rows_with cells x name ≡ list_rows x name

@@ -20,7 +20,7 @@ use Rattle.contest_store_tables.specs.Schema.{form_of}
 use Rattle.contest_store_tables.specs.Steps.{with_rows}
 use Rattle.contest_store_tables.specs.declared.row_change.RowChange.TheVariants as row_change
 use Rattle.contest_store_tables.specs.declared.table_name.TableName.{TableName}
-use Rattle.contest_store_tables.specs.declared.table_name.TableName.TheVariants.{Desk, Contest, Items, Accounts, Submissions, Proposals, Releases, Rejudgings, Members, Clarifications, Cells}
+use Rattle.contest_store_tables.specs.declared.table_name.TableName.TheVariants.{Desk, Contest, Items, Accounts, Submissions, Proposals, Releases, Rejudgings, Members, Clarifications, Cells, Notices}
 use Rattle.contest_store_changes.specs.ContestTables.{list_rows}
 use Rattle.contest_store_fixed_rows.specs.Heads.{marks_row}
 use Rattle.contest_store_changes.specs.Laws.{MarksAreChanged, MemberIsChanged, RejudgingIsChanged}
@@ -57,6 +57,7 @@ marks_alone x m Rejudgings = refl
 marks_alone x m Members = refl
 marks_alone x m Clarifications = refl
 marks_alone x m Cells = refl
+marks_alone x m Notices = refl
 
 -- the marks are one changed row
 pub marks_are_changed : MarksAreChanged
@@ -84,6 +85,7 @@ rejudging_alone x n st Rejudgings = refl
 rejudging_alone x n st Members = ap (λ t. t.members) (sym (state_is_one_cell x n st))
 rejudging_alone x n st Clarifications = refl
 rejudging_alone x n st Cells = refl
+rejudging_alone x n st Notices = refl
 
 -- the state of a rejudging is one changed row
 pub rejudging_is_changed : RejudgingIsChanged
@@ -111,6 +113,7 @@ member_alone x n place st Rejudgings = sym (rejudgings_stay x.fixed.settings n p
 member_alone x n place st Members = refl
 member_alone x n place st Clarifications = refl
 member_alone x n place st Cells = refl
+member_alone x n place st Notices = refl
 
 -- the state of a member is one changed row
 pub member_is_changed : MemberIsChanged

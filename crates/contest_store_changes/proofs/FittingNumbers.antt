@@ -28,7 +28,7 @@ use Rattle.contest_types.proofs.SettingsTest.{at_most}
 use Rattle.contest_types.proofs.ValidParts.{four, parts}
 use Rattle.contest_store_rows.specs.ListRows.{audience_number}
 use Rattle.contest_store_changes.specs.Sound.{IsSound}
-use Rattle.contest_store_changes.proofs.NamedReplies.{all_left, reach, small_number, small_numbers, small_team}
+use Rattle.contest_store_changes.proofs.NamedReplies.{all_left, reach, small_number, small_numbers, small_addressee, IsSmall}
 
 -- cells hold the numbers after both
 abbrev pub Fit : (n m : ℕ) → Type 0
@@ -36,6 +36,9 @@ Fit n m = (n + 1 < 2 ^ 63) × (m + 1 < 2 ^ 63)
 
 few_teams : (x : ContestState) → IsSound x → length x.fixed.settings.teams ≤ TEAMS
 few_teams x sound = sound.writable.valid.few_teams
+
+pub few_addressees : (x : ContestState) → IsSound x → IsSmall x.fixed.settings
+few_addressees x sound = record { teams = sound.writable.valid.few_teams; groups = sound.writable.valid.few_groups }
 
 team_fits : (n team : ℕ) → n ≤ TEAMS → nat_lt team n ≡ true → team + 1 < 2 ^ 63
 team_fits n team few low = let there : team < n = below team n low in omega (arith, few, there)
@@ -104,10 +107,10 @@ last_passes q (y ∷ ys) x all = last_passes q ys x (and_right (q y) _ all)
 
 pub clarification_fits : (x : ContestState) (c : Clarification) → IsSound x → is_addable x (NewClarification c) ≡ true → (audience_number c.addressee < 2 ^ 63) × (c.number + 1 < 2 ^ 63)
 clarification_fits x c sound may =
-    let few = few_teams x sound in
+    let few = few_addressees x sound in
     let valid : is_valid_clarification x c ≡ true = and_right (is_some x.fixed.marks.start) (is_valid_clarification x c) (and_left _ _ (and_left _ _ may)) in
     let addressed : is_an_addressee x.fixed c.addressee ≡ true = and_left _ _ (and_left _ _ (and_left _ _ (and_left _ _ valid))) in
-    let to = small_team x.fixed c.addressee few addressed in
+    let to = small_addressee x.fixed c.addressee few addressed in
     let after = add x (NewClarification c) in
     let low = small_number after few (parts after (adding x (NewClarification c) sound.valid may)).clarifications c (λ q all. last_passes q x.clarifications c all) in
     (omega (arith, to), omega (arith, low))
@@ -122,7 +125,7 @@ member_fits x m sound is =
     let fit = named_fits x d.x.team d.x.number sound (and_left _ _ valid) in
     (subst (λ n. n + 1 < 2 ^ 63) its_team fit.0, subst (λ n. n + 1 < 2 ^ 63) its_number fit.1)
 
-each_passes : {X : Type 0} (q : X → Bool) (xs : List X) (at : ℕ) (d : X) → at < length xs → list_all q xs ≡ true → q (slice_index_or xs at d) ≡ true
+pub each_passes : {X : Type 0} (q : X → Bool) (xs : List X) (at : ℕ) (d : X) → at < length xs → list_all q xs ≡ true → q (slice_index_or xs at d) ≡ true
 each_passes q xs at d within all = elim (cases_Bool (q (slice_index_or xs at d))) [ inl passes ↦ passes | inr fails ↦ absurd (false≢true (sym (list_all_at q xs at d within fails) ∙ all)) ]
 
 pub member_at_fits : (x : ContestState) (r : Rejudging) (slice : List Member) (at : ℕ) (m : Member) → slice ≡ r.members → at < length slice → m ≡ slice_index_or slice at m

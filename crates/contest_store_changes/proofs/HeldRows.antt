@@ -23,7 +23,7 @@ use Rattle.contest_store_tables.specs.Changes.{IsHeld}
 use Rattle.contest_store_tables.specs.Schema.{form_of}
 use Rattle.contest_store_tables.specs.Steps.{IsHeldAsGiven}
 use Rattle.contest_store_tables.specs.Tables.{show}
-use Rattle.contest_store_tables.specs.declared.table_name.TableName.TheVariants.{Desk, Contest, Items, Accounts, Submissions, Proposals, Releases, Rejudgings, Members, Clarifications}
+use Rattle.contest_store_tables.specs.declared.table_name.TableName.TheVariants.{Desk, Contest, Items, Accounts, Submissions, Proposals, Releases, Rejudgings, Members, Notices}
 use Rattle.contest_store_changes.proofs.CastLemmas.{cast_row_same, fits_number, fits_text, put_for, row_fits}
 
 -- the cells of the row have the types of their columns
@@ -39,7 +39,7 @@ proposal_fits s n p = refl
 release_fits : (s : Setup) (n : ℕ) (v : Release) → Fits (form_of Releases) (release_row s n v)
 release_fits s n v = refl
 
-clarification_fits : (s : Setup) (n : ℕ) (c : Clarification) → Fits (form_of Clarifications) (clarification_row s n c)
+clarification_fits : (s : Setup) (n : ℕ) (c : Clarification) → Fits (form_of Notices) (clarification_row s n c)
 clarification_fits s n c = rw (fits_text (option_map (problem_id_at s.problems) c.problem), fits_text (option_map reference_id c.reply), fits_text c.key) refl
 
 rejudging_fits : (n : ℕ) (r : Rejudging) → Fits (form_of Rejudgings) (rejudging_row n r)
@@ -54,7 +54,7 @@ account_fits s a = rw (fits_text (role_team s a.role)) refl
 item_fits : (kind n : ℕ) (id name label : List ℕ) (ordinal : ℕ) (flag_a flag_b : Bool) (group_ids : List ℕ) → Fits (form_of Items) (item_row kind n id name label ordinal flag_a flag_b group_ids)
 item_fits kind n id name label ordinal flag_a flag_b group_ids = refl
 
-desk_fits : Fits (form_of Desk) (desk_row VERSION)
+pub desk_fits : Fits (form_of Desk) (desk_row VERSION)
 desk_fits = refl
 
 contest_fits : (f : FixedPart) → Fits (form_of Contest) (contest_row f)
@@ -73,8 +73,8 @@ proposal_given s n p = given (form_of Proposals) (proposal_row s n p) (proposal_
 pub release_given : (s : Setup) (n : ℕ) (v : Release) → IsHeldAsGiven (form_of Releases) (release_row s n v)
 release_given s n v = given (form_of Releases) (release_row s n v) (release_fits s n v) (λ rows. refl)
 
-pub clarification_given : (s : Setup) (n : ℕ) (c : Clarification) → IsHeldAsGiven (form_of Clarifications) (clarification_row s n c)
-clarification_given s n c = given (form_of Clarifications) (clarification_row s n c) (clarification_fits s n c) (λ rows. refl)
+pub clarification_given : (s : Setup) (n : ℕ) (c : Clarification) → IsHeldAsGiven (form_of Notices) (clarification_row s n c)
+clarification_given s n c = given (form_of Notices) (clarification_row s n c) (clarification_fits s n c) (λ rows. refl)
 
 pub rejudging_given : (n : ℕ) (r : Rejudging) → IsHeldAsGiven (form_of Rejudgings) (rejudging_row n r)
 rejudging_given n r = given (form_of Rejudgings) (rejudging_row n r) (rejudging_fits n r) (λ rows. refl)

@@ -43,3 +43,5 @@ pub mod CellWriting
 pub mod CellRowsKept
 pub mod CellsScored
 pub mod ScoredEntries
+pub mod UpgradedTables
+pub mod UpgradeLemmas

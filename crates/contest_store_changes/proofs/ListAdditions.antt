@@ -9,7 +9,7 @@ use Rattle.contest_store_rows.specs.ListRows.{clarification_row, member_row, mem
 use Rattle.contest_store_rows.specs.Tables.{Tables}
 use Rattle.contest_store_rows.proofs.ListLaws.{one_more, rows_from}
 use Rattle.contest_store_rows.proofs.TableLaws.{rejudging_is_its_rows}
-use Rattle.contest_store_tables.specs.declared.table_name.TableName.TheVariants.{Submissions, Proposals, Releases, Rejudgings, Members, Clarifications}
+use Rattle.contest_store_tables.specs.declared.table_name.TableName.TheVariants.{Submissions, Proposals, Releases, Rejudgings, Members, Notices}
 use Rattle.contest_store_changes.specs.Laws.{ClarificationIsAdded, MemberIsAdded, ProposalIsAdded, RejudgingIsAdded, ReleaseIsAdded, SubmissionIsAdded, with_members}
 use Rattle.contest_store_changes.proofs.HeldRows.{clarification_given, member_given_row, proposal_given, rejudging_given, release_given, submission_given}
 use Rattle.contest_store_changes.proofs.OneMoreRow.{one_row_at_end, same_tables}
@@ -20,28 +20,28 @@ submission_is_added x s sound =
     let n = length x.submissions + 1 in
     let y = add x (NewSubmission s) in
     one_row_at_end Submissions (submission_row x.fixed.settings n s) x y refl (submission_given x.fixed.settings n s) (one_more (submission_row x.fixed.settings) 1 x.submissions s) (rises_but_accounts y Submissions (λ e. cc))
-    (same_tables _ _ refl refl refl refl refl refl refl refl refl refl refl)
+    (same_tables _ _ refl refl refl refl refl refl refl refl refl refl refl refl)
 
 pub proposal_is_added : ProposalIsAdded
 proposal_is_added x p sound =
     let n = length x.proposals + 1 in
     let y = add x (NewProposal p) in
     one_row_at_end Proposals (proposal_row x.fixed.settings n p) x y refl (proposal_given x.fixed.settings n p) (one_more (proposal_row x.fixed.settings) 1 x.proposals p) (rises_but_accounts y Proposals (λ e. cc))
-    (same_tables _ _ refl refl refl refl refl refl refl refl refl refl refl)
+    (same_tables _ _ refl refl refl refl refl refl refl refl refl refl refl refl)
 
 pub release_is_added : ReleaseIsAdded
 release_is_added x v sound =
     let n = length x.releases + 1 in
     let y = add x (NewRelease v) in
     one_row_at_end Releases (release_row x.fixed.settings n v) x y refl (release_given x.fixed.settings n v) (one_more (release_row x.fixed.settings) 1 x.releases v) (rises_but_accounts y Releases (λ e. cc))
-    (same_tables _ _ refl refl refl refl refl refl refl refl refl refl refl)
+    (same_tables _ _ refl refl refl refl refl refl refl refl refl refl refl refl)
 
 pub clarification_is_added : ClarificationIsAdded
 clarification_is_added x c sound =
     let n = length x.clarifications + 1 in
     let y = add x (NewClarification c) in
-    one_row_at_end Clarifications (clarification_row x.fixed.settings n c) x y refl (clarification_given x.fixed.settings n c) (one_more (clarification_row x.fixed.settings) 1 x.clarifications c)
-    (rises_but_accounts y Clarifications (λ e. cc)) (same_tables _ _ refl refl refl refl refl refl refl refl refl refl refl)
+    one_row_at_end Notices (clarification_row x.fixed.settings n c) x y refl (clarification_given x.fixed.settings n c) (one_more (clarification_row x.fixed.settings) 1 x.clarifications c)
+    (rises_but_accounts y Notices (λ e. cc)) (same_tables _ _ refl refl refl refl refl refl refl refl refl refl refl refl)
 
 -- the members of the rejudgings with one more
 abbrev members_after : ContestState → Rejudging → List Row
@@ -61,7 +61,7 @@ rejudging_is_added x r sound =
     let n = length x.rejudgings + 1 in
     let y = add x (NewRejudging (with_members r [])) in
     one_row_at_end Rejudgings (rejudging_row n r) x y refl (rejudging_given n r) (one_more rejudging_row 1 x.rejudgings (with_members r [])) (rises_but_accounts y Rejudgings (λ e. cc))
-    (same_tables _ _ refl refl refl refl refl refl refl refl (no_members_yet x r) refl refl)
+    (same_tables _ _ refl refl refl refl refl refl refl refl (no_members_yet x r) refl refl refl)
 
 -- the row of a rejudging does not name its members
 same_rejudgings : (x : ContestState) (r : Rejudging) (members more : List Member) → rows_from rejudging_row 1 (x.rejudgings ++ with_members r members ∷ []) ≡ rows_from rejudging_row 1 (x.rejudgings ++ with_members r more ∷ [])
@@ -83,4 +83,4 @@ member_is_added x r members m sound =
     let place = length members + 1 in
     let y = add x (NewRejudging (with_members r (members ++ m ∷ []))) in
     one_row_at_end Members (member_row x.fixed.settings n place m) (add x (NewRejudging (with_members r members))) y refl (member_given_row x.fixed.settings n place m) (last_member x r members m)
-    (rises_but_accounts y Members (λ e. cc)) (same_tables _ _ refl refl refl refl refl refl refl (same_rejudgings x r members (members ++ m ∷ [])) refl refl refl)
+    (rises_but_accounts y Members (λ e. cc)) (same_tables _ _ refl refl refl refl refl refl refl (same_rejudgings x r members (members ++ m ∷ [])) refl refl refl refl)

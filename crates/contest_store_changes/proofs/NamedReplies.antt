@@ -9,13 +9,14 @@ use Rattle.std.proofs.lemmas.List.{length-map}
 use Rattle.std.proofs.lemmas.List.Sums.{sum_by-cons}
 use Rattle.std.proofs.lemmas.Slice.Eq.{bytes_eq-Decides}
 use Rattle.contest_types.specs.Series.{count_up, in_each}
+use Rattle.contest_types.specs.Setup.{Setup}
 use Rattle.contest_types.specs.State.{ContestState, FixedPart, same_addressee}
 use Rattle.contest_types.specs.ValidClarifications.{are_valid_clarifications, has_clarification, has_valid_clarifications, in_one_scope, is_an_addressee, is_request, is_valid_clarification, keys_are_own, to_one_addressee}
 use Rattle.contest_types.specs.declared.clarification.Addressee.{Addressee}
-use Rattle.contest_types.specs.declared.clarification.Addressee.TheVariants.{All as ToAll, Team as ToTeam}
+use Rattle.contest_types.specs.declared.clarification.Addressee.TheVariants.{All as ToAll, Group as ToGroup, Team as ToTeam}
 use Rattle.contest_types.specs.declared.clarification.Clarification.{Clarification}
 use Rattle.contest_types.specs.declared.clarification.Reference.{Reference}
-use Rattle.contest_types.specs.declared.limits.TheConstants.{TEAMS, TEAM_REQUESTS}
+use Rattle.contest_types.specs.declared.limits.TheConstants.{GROUPS, TEAMS, TEAM_REQUESTS}
 use Rattle.contest_types.proofs.AddClarification.{addressed_itself}
 use Rattle.contest_types.proofs.PlaceLemmas.{and_left, and_right, both_true}
 use Rattle.contest_types.proofs.SettingsTest.{at_most}
@@ -89,14 +90,22 @@ few_clarifications cs h =
 first_of_five : (a b c d e : Bool) → (a && b && c && d && e) ≡ true → a ≡ true
 first_of_five a b c d e h = and_left a b (and_left (a && b) c (and_left (a && b && c) d (and_left (a && b && c && d) e h)))
 
-pub small_team : (f : FixedPart) (to : Addressee) → length f.settings.teams ≤ TEAMS → is_an_addressee f to ≡ true → audience_number to ≤ largest
-small_team f ToAll few h = omega arith
-small_team f (ToTeam team) few h =
+-- there are few teams and groups
+pub record IsSmall (s : Setup) : Type 0 where
+  pub teams : length s.teams ≤ TEAMS
+  pub groups : length s.groups ≤ GROUPS
+
+pub small_addressee : (f : FixedPart) (to : Addressee) → IsSmall f.settings → is_an_addressee f to ≡ true → audience_number to ≤ largest
+small_addressee f ToAll few h = omega arith
+small_addressee f (ToTeam team) few h =
     let there : team < length f.settings.teams = grind (arith, nat_tests, h) in
-    omega (arith, few, there)
+    omega (arith, few.teams, there)
+small_addressee f (ToGroup group) few h =
+    let there : group < length f.settings.groups = grind (arith, nat_tests, h) in
+    omega (arith, few.groups, there)
 
 -- so it is with each that stands
-module _ (x : ContestState) (few : length x.fixed.settings.teams ≤ TEAMS) (valid : has_valid_clarifications x ≡ true) where
+module _ (x : ContestState) (few : IsSmall x.fixed.settings) (valid : has_valid_clarifications x ≡ true) where
   abbrev alone : Bool
   alone = list_all (is_valid_clarification x) x.clarifications
 
@@ -128,7 +137,7 @@ module _ (x : ContestState) (few : length x.fixed.settings.teams ≤ TEAMS) (val
       let is = d.with_all (is_valid_clarification x) (and_left alone counted two) in
       let addressed = first_of_five (is_an_addressee x.fixed d.x.addressee) _ _ _ _ is in
       record {
-        team = subst (λ to. audience_number to ≤ largest) to (small_team x.fixed d.x.addressee few addressed);
+        addressee = subst (λ to. audience_number to ≤ largest) to (small_addressee x.fixed d.x.addressee few addressed);
         number = subst (λ n. n ≤ largest) number (small_number d.x d.with_all);
       }
 

@@ -30,7 +30,7 @@ use Rattle.contest_types.specs.declared.submission.Submission.{Submission}
 use Rattle.contest_store_rows.specs.Cells.{number, flag}
 use Rattle.contest_store_rows.specs.FixedRows.{account_row, role_number, role_team, team_row}
 use Rattle.contest_store_rows.specs.Laws.{IsWritableClarification, IsWritableProposal, IsWritableRejudging, IsWritableRelease, IsWritableState, IsWritableSubmission}
-use Rattle.contest_store_rows.specs.ListRows.{audience_number, clarification_row, is_ready, member_account, member_row, member_type, proposal_row, reference_id, release_row, submission_row}
+use Rattle.contest_store_rows.specs.ListRows.{audience_kind, audience_number, clarification_row, is_ready, member_account, member_row, member_type, proposal_row, reference_id, release_row, submission_row}
 use Rattle.contest_store_rows.proofs.ListLaws.{rows_from}
 use Rattle.contest_store_fixed_rows.specs.Laws.{IsWritableAccount}
 
@@ -96,7 +96,7 @@ module _ (s : Setup) (p : Problem) where
 
   pub clarifications_of_problem : (n : ℕ) (cs : List Clarification) → AllByRecursion (IsWritableClarification s) cs → rows_from (clarification_row posed) n cs ≡ rows_from (clarification_row s) n cs
   clarifications_of_problem = same_rows (IsWritableClarification s) (clarification_row s) (clarification_row posed)
-      (λ n c w. ap (λ (o : Option (List ℕ)). number n ∷ number (audience_number c.addressee) ∷ number c.number ∷ flag c.from_jury ∷ Text c.account
+      (λ n c w. ap (λ (o : Option (List ℕ)). number n ∷ number (audience_kind c.addressee) ∷ number (audience_number c.addressee) ∷ number c.number ∷ flag c.from_jury ∷ Text c.account
       ∷ or_null Text o ∷ or_null Text (option_map reference_id c.reply) ∷ Text c.text ∷ number c.time ∷ or_null Text c.key ∷ []) (if_any c.problem w.problem))
 
 within_of : (i n : ℕ) → nat_lt i n ≡ true → i < n

@@ -8,14 +8,14 @@ use Rattle.contest_store_tables.specs.Schema.{form_of}
 use Rattle.contest_store_tables.specs.Steps.{IsHeldAsGiven, Rises, with_rows}
 use Rattle.contest_store_tables.specs.Tables.{TableRows}
 use Rattle.contest_store_tables.specs.declared.table_name.TableName.{TableName}
-use Rattle.contest_store_tables.specs.declared.table_name.TableName.TheVariants.{Desk, Contest, Items, Accounts, Submissions, Proposals, Releases, Rejudgings, Members, Clarifications, Cells}
+use Rattle.contest_store_tables.specs.declared.table_name.TableName.TheVariants.{Desk, Contest, Items, Accounts, Submissions, Proposals, Releases, Rejudgings, Members, Clarifications, Cells, Notices}
 use Rattle.contest_store_changes.specs.ContestTables.{list_rows}
 use Rattle.contest_store_changes.specs.OneRow.{IsOfLists, IsOneRow}
 
 -- the rows are the same if they are in each table
 pub same_tables : (f g : TableRows) → f Desk ≡ g Desk → f Contest ≡ g Contest → f Items ≡ g Items → f Accounts ≡ g Accounts → f Submissions ≡ g Submissions → f Proposals ≡ g Proposals
-    → f Releases ≡ g Releases → f Rejudgings ≡ g Rejudgings → f Members ≡ g Members → f Clarifications ≡ g Clarifications → f Cells ≡ g Cells → f ≡ g
-same_tables f g desk contest items accounts submissions proposals releases rejudgings members clarifications cells = fun_ext at
+    → f Releases ≡ g Releases → f Rejudgings ≡ g Rejudgings → f Members ≡ g Members → f Clarifications ≡ g Clarifications → f Cells ≡ g Cells → f Notices ≡ g Notices → f ≡ g
+same_tables f g desk contest items accounts submissions proposals releases rejudgings members clarifications cells notices = fun_ext at
   where
     at : (name : TableName) → f name ≡ g name
     at Desk = desk
@@ -29,8 +29,9 @@ same_tables f g desk contest items accounts submissions proposals releases rejud
     at Members = members
     at Clarifications = clarifications
     at Cells = cells
+    at Notices = notices
 
-at_end : (row : Row) (rows next : List Row) → next ≡ rows ++ row ∷ [] → IsPermutation (row ∷ rows) next
+pub at_end : (row : Row) (rows next : List Row) → next ≡ rows ++ row ∷ [] → IsPermutation (row ∷ rows) next
 at_end row rows next is = subst (IsPermutation (row ∷ rows)) (sym is) (IsPermutation-sym (rows ++ row ∷ []) (row ∷ rows) (IsPermutation-to_front rows row))
 
 -- one more row at the end of a table

@@ -3,18 +3,22 @@ use Rattle.std.proofs.Common.{◌≡◌, List, [], ◌∷◌, map, zip, Some, su
 use Rattle.std.specs.List.{AllByRecursion}
 use Rattle.sqlite_value.specs.Order.{Row}
 use Rattle.contest_types.specs.State.{ContestState, FixedPart}
+use Rattle.contest_types.specs.Setup.{Setup}
+use Rattle.contest_types.specs.declared.clarification.Clarification.{Clarification}
 use Rattle.contest_types.specs.declared.submission.Release.{Release}
 use Rattle.contest_types.specs.declared.submission.Submission.{Submission}
-use Rattle.contest_store_rows.specs.Clarifications.{clarification_in}
+use Rattle.contest_store_rows.specs.Clarifications.{clarification_in, clarifications_in}
 use Rattle.contest_store_rows.specs.Lists.{list_in}
 use Rattle.contest_store_rows.specs.Proposals.{proposal_in}
 use Rattle.contest_store_rows.specs.Rejudgings.{rejudgings_in}
 use Rattle.contest_store_rows.specs.Releases.{release_in}
 use Rattle.contest_store_rows.specs.Submissions.{submission_in}
 use Rattle.contest_store_rows.specs.Tables.{Tables}
+use Rattle.contest_store_rows.specs.declared.versions.Version.{Version}
+use Rattle.contest_store_rows.specs.declared.versions.Version.TheVariants.{First, Second}
 use Rattle.contest_store_fixed_rows.specs.FixedParts.{fixed_in}
 use Rattle.contest_store_fixed_rows.proofs.OptionSteps.{bound}
-use Rattle.contest_store_fixed_rows.specs.Spelling.{lists_in, with_clarifications_in, with_lists_in, with_proposals_in, with_rejudgings_in, with_releases_in, with_submissions_in, without_rows}
+use Rattle.contest_store_fixed_rows.specs.Spelling.{lists_in_version, with_clarifications_in, with_lists_in, with_proposals_in, with_rejudgings_in, with_releases_in, with_submissions_in, without_rows}
 use Rattle.contest_store_changes.specs.ContestTables.{with_file, with_files}
 use Rattle.contest_store_changes.specs.Kinds.{IsMoment, IsOfKindsRejudging, IsOfKindsSubmission}
 use Rattle.contest_store_changes.proofs.ReadCells.{made}
@@ -55,11 +59,17 @@ releases_read t x y w is =
     let all = each_read (release_in s) (λ (v : Release). IsMoment v.time) (release_read s) 1 t.releases m.x m.first_is in
     subst IsRead m.whole (record { fixed = w.fixed; submissions = w.submissions; proposals = w.proposals; releases = all; clarifications = w.clarifications; rejudgings = w.rejudgings })
 
-clarifications_read : (t : Tables) (x y : ContestState) → IsRead x → with_clarifications_in t x ≡ Some y → IsRead y
-clarifications_read t x y w is =
+each_clarification : (version : Version) (s : Setup) (first today : List Row) (cs : List Clarification) → clarifications_in version s first today ≡ Some cs → AllByRecursion IsReadClarification cs
+each_clarification First s first [] cs is = each_read (clarification_in s) IsReadClarification (clarification_read s) 1 first cs is
+each_clarification First s first (r ∷ rest) cs is = absurd (cc is)
+each_clarification Second s [] today cs is = each_read (clarification_in s) IsReadClarification (clarification_read s) 1 today cs is
+each_clarification Second s (r ∷ rest) today cs is = absurd (cc is)
+
+clarifications_read : (version : Version) (t : Tables) (x y : ContestState) → IsRead x → with_clarifications_in version t x ≡ Some y → IsRead y
+clarifications_read version t x y w is =
     let s = x.fixed.settings in
-    let m = made (λ rows. record x { clarifications = rows }) (list_in (clarification_in s) t.clarifications) y is in
-    let all = each_read (clarification_in s) IsReadClarification (clarification_read s) 1 t.clarifications m.x m.first_is in
+    let m = made (λ rows. record x { clarifications = rows }) (clarifications_in version s t.clarifications t.notices) y is in
+    let all = each_clarification version s t.clarifications t.notices m.x m.first_is in
     subst IsRead m.whole (record { fixed = w.fixed; submissions = w.submissions; proposals = w.proposals; releases = w.releases; clarifications = all; rejudgings = w.rejudgings })
 
 with_rejudgings : (t : Tables) (x y : ContestState) → IsRead x → with_rejudgings_in t x ≡ Some y → IsRead y
@@ -69,17 +79,17 @@ with_rejudgings t x y w is =
     let all = rejudgings_read s t.rejudgings t.members m.x m.first_is in
     subst IsRead m.whole (record { fixed = w.fixed; submissions = w.submissions; proposals = w.proposals; releases = w.releases; clarifications = w.clarifications; rejudgings = all })
 
-pub lists_read : (t : Tables) (x : ContestState) → lists_in t ≡ Some x → IsRead x
-lists_read t x is =
-    let f = bound (λ f. with_lists_in t (without_rows f)) (fixed_in t.desk t.contest t.items t.accounts) x is in
+pub lists_read : (version : Version) (t : Tables) (x : ContestState) → lists_in_version version t ≡ Some x → IsRead x
+lists_read version t x is =
+    let f = bound (λ f. with_lists_in version t (without_rows f)) (fixed_in version t.desk t.contest t.items t.accounts) x is in
     let e = bound (with_rejudgings_in t) _ x f.next_is in
-    let d = bound (with_clarifications_in t) _ e.x e.first_is in
+    let d = bound (with_clarifications_in version t) _ e.x e.first_is in
     let c = bound (with_releases_in t) _ d.x d.first_is in
     let b = bound (with_proposals_in t) (with_submissions_in t (without_rows f.x)) c.x c.first_is in
-    let at_b = submissions_read t (without_rows f.x) b.x (nothing_read f.x (fixed_is t.desk t.contest t.items t.accounts f.x f.first_is)) b.first_is in
+    let at_b = submissions_read t (without_rows f.x) b.x (nothing_read f.x (fixed_is version t.desk t.contest t.items t.accounts f.x f.first_is)) b.first_is in
     let at_c = proposals_read t b.x c.x at_b b.next_is in
     let at_d = releases_read t c.x d.x at_c c.next_is in
-    let at_e = clarifications_read t d.x e.x at_d d.next_is in
+    let at_e = clarifications_read version t d.x e.x at_d d.next_is in
     with_rejudgings t e.x x at_e e.next_is
 
 -- a file has no kind

@@ -16,7 +16,7 @@ use Rattle.contest_types.specs.declared.marks.Marks.{Marks}
 use Rattle.contest_store_rows.specs.Cells.{number_of, same_row, text_of}
 use Rattle.contest_store_rows.specs.FixedRows.{account_row, contest_row}
 use Rattle.contest_store_rows.specs.Readings.{id_in, name_in, number_if_any}
-use Rattle.contest_store_rows.specs.declared.versions.TheConstants.{VERSION}
+use Rattle.contest_store_rows.specs.declared.versions.Version.{Version}
 use Rattle.contest_store_rows.proofs.ListLaws.{parts}
 use Rattle.contest_store_fixed_rows.specs.AccountRows.{account_in, account_said, accounts_in, digest_in}
 use Rattle.contest_store_fixed_rows.specs.FixedParts.{fixed_if, fixed_in, fixed_of_row, fixed_said, is_desk, only, settings_in, setup_of}
@@ -109,9 +109,9 @@ said_is contest items accounts f is =
     of_found IsReadFixed _ f a.next_is
     (record { settings = settings_are contest items s.x s.first_is; accounts = accounts_are s.x accounts a.x a.first_is; marks = marks_are contest m.x m.first_is })
 
-pub fixed_is : (desk contest items accounts : List Row) (f : FixedPart) → fixed_in desk contest items accounts ≡ Some f → IsReadFixed f
-fixed_is desk contest items accounts f is =
-    let d = where_true (is_desk VERSION desk) _ f is in
+pub fixed_is : (version : Version) (desk contest items accounts : List Row) (f : FixedPart) → fixed_in version desk contest items accounts ≡ Some f → IsReadFixed f
+fixed_is version desk contest items accounts f is =
+    let d = where_true (is_desk version desk) _ f is in
     let c = bound (λ r. fixed_of_row r items accounts) (only contest) f d.1 in
     let b = bound (fixed_if c.x) (fixed_said c.x items accounts) f c.next_is in
     let own = where_true (same_row c.x (contest_row b.x)) (Some b.x) f b.next_is in

@@ -12,7 +12,7 @@ use Rattle.contest_types.specs.ClarificationText.{text_from}
 use Rattle.contest_types.specs.IdText.{id_of}
 use Rattle.contest_types.specs.Setup.{Setup}
 use Rattle.contest_types.specs.declared.clarification.Addressee.{Addressee}
-use Rattle.contest_types.specs.declared.clarification.Addressee.TheVariants.{All as ToAll, Team as ToTeam}
+use Rattle.contest_types.specs.declared.clarification.Addressee.TheVariants.{All as ToAll, Group as ToGroup, Team as ToTeam}
 use Rattle.contest_types.specs.declared.clarification.Clarification.{Clarification}
 use Rattle.contest_types.specs.declared.clarification.Reference.{Reference}
 use Rattle.contest_types.specs.declared.limits.TheConstants.{LAST_MOMENT}
@@ -29,7 +29,7 @@ use Rattle.contest_store_rows.specs.ListRows.{audience_number, clarification_row
 use Rattle.contest_store_rows.specs.Lists.{list_from}
 use Rattle.contest_store_rows.specs.Proposals.{proposal_in, proposal_said, proposer_of}
 use Rattle.contest_store_rows.specs.Readings.{id_if_any, name_if_any}
-use Rattle.contest_store_rows.specs.References.{addressee_named, dash_in, is_numeral, largest, number_written, reference_of, team_numbered}
+use Rattle.contest_store_rows.specs.References.{addressee_named, addressee_numbered, dash_in, is_numeral, largest, number_written, reference_of}
 use Rattle.contest_store_rows.specs.Releases.{release_in, release_said}
 use Rattle.contest_store_rows.specs.Submissions.{is_submission_row, submission_if, submission_in, submission_said}
 use Rattle.contest_store_rows.proofs.ListLaws.{parts}
@@ -92,16 +92,17 @@ number_small text n is =
     let written = where_true (is_numeral text && nat_le (digits_value 10 text) largest) (Some (digits_value 10 text)) n is in
     of_found (λ m. m ≤ largest) (digits_value 10 text) n written.1 (at_most _ _ (and_right (is_numeral text) _ written.0))
 
-team_small : (n : ℕ) (b : Bool) (a : Addressee) → n ≤ largest → (if b then None else Some (ToTeam (n - 1))) ≡ Some a → audience_number a ≤ largest
-team_small n true a small is = absurd (cc is)
-team_small n false a small is = of_found (λ b. audience_number b ≤ largest) (ToTeam (n - 1)) a is (omega (arith, small))
+numbered_small : (n : ℕ) (none team group : Bool) (a : Addressee) → n ≤ largest → (if none then None else if team then Some (ToTeam (n - 1)) else if group then Some (ToGroup (n - 1)) else None) ≡ Some a → audience_number a ≤ largest
+numbered_small n true team group a small is = absurd (cc is)
+numbered_small n false true group a small is = of_found (λ b. audience_number b ≤ largest) (ToTeam (n - 1)) a is (omega (arith, small))
+numbered_small n false false true a small is = of_found (λ b. audience_number b ≤ largest) (ToGroup (n - 1)) a is (omega (arith, small))
+numbered_small n false false false a small is = absurd (cc is)
 
-addressee_small : (text : List ℕ) (all team : Bool) (a : Addressee) → (if all then Some ToAll else if team then option_and_then team_numbered (number_written (drop 1 text)) else None) ≡ Some a → audience_number a ≤ largest
-addressee_small text true team a is = of_found (λ b. audience_number b ≤ largest) ToAll a is (omega arith)
-addressee_small text false true a is =
-    let n = bound team_numbered (number_written (drop 1 text)) a is in
-    team_small n.x (n.x == 0) a (number_small (drop 1 text) n.x n.first_is) n.next_is
-addressee_small text false false a is = absurd (cc is)
+addressee_small : (text : List ℕ) (all : Bool) (a : Addressee) → (if all then Some ToAll else option_and_then (addressee_numbered (slice_index text 0)) (number_written (drop 1 text))) ≡ Some a → audience_number a ≤ largest
+addressee_small text true a is = of_found (λ b. audience_number b ≤ largest) ToAll a is (omega arith)
+addressee_small text false a is =
+    let n = bound (addressee_numbered (slice_index text 0)) (number_written (drop 1 text)) a is in
+    numbered_small n.x (n.x == 0) (slice_index text 0 == 99) (slice_index text 0 == 103) a (number_small (drop 1 text) n.x n.first_is) n.next_is
 
 reference_read : (text : List ℕ) (r : Reference) → reference_of text ≡ Some r → IsWritableReference r
 reference_read text r is =
@@ -110,7 +111,7 @@ reference_read text r is =
     let a = bound _ (addressee_named front) r is in
     let n = made _ (number_written back) r a.next_is in
     subst IsWritableReference n.whole (record {
-      team = addressee_small front (bytes_eq front (codes "g")) (slice_index front 0 == 99) a.x a.first_is;
+      addressee = addressee_small front (bytes_eq front (codes "g")) a.x a.first_is;
       number = number_small back n.x n.first_is;
     })
 
@@ -127,18 +128,18 @@ pub record IsReadClarification (c : Clarification) : Type 0 where
 
 pub clarification_read : (s : Setup) (n : ℕ) (r : Row) (c : Clarification) → clarification_in s n r ≡ Some c → IsReadClarification c
 clarification_read s n r c is =
-    let account = bound _ (id_of (text_of (column r 4))) c (of_row (clarification_row s n) r (clarification_said s r) c is) in
-    let text = bound _ (text_from (text_of (column r 7))) c account.next_is in
-    let key = bound _ (id_if_any (column r 9)) c text.next_is in
-    let reply = bound _ (reply_if_any (column r 6)) c key.next_is in
-    let time = where_true (nat_le (number_of (column r 8)) LAST_MOMENT) _ c reply.next_is in
+    let account = bound _ (id_of (text_of (column r 5))) c (of_row (clarification_row s n) r (clarification_said s r) c is) in
+    let text = bound _ (text_from (text_of (column r 8))) c account.next_is in
+    let key = bound _ (id_if_any (column r 10)) c text.next_is in
+    let reply = bound _ (reply_if_any (column r 7)) c key.next_is in
+    let time = where_true (nat_le (number_of (column r 9)) LAST_MOMENT) _ c reply.next_is in
     of_found IsReadClarification _ c time.1
     (record {
       kinds = record {
-        account = id_found (text_of (column r 4)) account.x account.first_is;
-        text = text_found (text_of (column r 7)) text.x text.first_is;
+        account = id_found (text_of (column r 5)) account.x account.first_is;
+        text = text_found (text_of (column r 8)) text.x text.first_is;
         time = at_most _ _ time.0;
-        key = id_if_found (column r 9) key.x key.first_is;
+        key = id_if_found (column r 10) key.x key.first_is;
       };
-      reply = reply_read (text_of (column r 6)) (is_null (column r 6)) reply.x reply.first_is;
+      reply = reply_read (text_of (column r 7)) (is_null (column r 7)) reply.x reply.first_is;
     })

@@ -17,12 +17,12 @@ use Rattle.contest_store_tables.specs.Schema.{form_of}
 use Rattle.contest_store_tables.specs.Steps.{Rises}
 use Rattle.contest_store_tables.specs.Tables.{by_key}
 use Rattle.contest_store_tables.specs.declared.table_name.TableName.{TableName}
-use Rattle.contest_store_tables.specs.declared.table_name.TableName.TheVariants.{Desk, Contest, Items, Accounts, Submissions, Proposals, Releases, Rejudgings, Members, Clarifications, Cells}
+use Rattle.contest_store_tables.specs.declared.table_name.TableName.TheVariants.{Desk, Contest, Items, Accounts, Submissions, Proposals, Releases, Rejudgings, Members, Clarifications, Cells, Notices}
 use Rattle.contest_store_changes.specs.ContestTables.{list_rows}
 use Rattle.contest_store_changes.proofs.RisingLists.{RiseFrom, lower_number, lower_text, next_group, no_group, one_group, rows_rise}
 
 -- one comes below the other by the key of the table
-abbrev BelowIn : TableName → Row → Row → Type 0
+abbrev pub BelowIn : TableName → Row → Row → Type 0
 BelowIn name a b = by_key (form_of name) a b ≡ Less
 
 items_rise : (s : Setup) → Rises Items (items_rows s)
@@ -56,7 +56,8 @@ rises_but_accounts x Releases other = rows_rise (BelowIn Releases) (release_row 
 rises_but_accounts x Rejudgings other = rows_rise (BelowIn Rejudgings) rejudging_row (λ m n a b l. lower_number m n Equal l) 1 x.rejudgings
 rises_but_accounts x Members other = (members_rise x.fixed.settings 1 x.rejudgings).rises
 rises_but_accounts x Cells other = tt
-rises_but_accounts x Clarifications other = rows_rise (BelowIn Clarifications) (clarification_row x.fixed.settings) (λ m n a b l. lower_number m n Equal l) 1 x.clarifications
+rises_but_accounts x Clarifications other = tt
+rises_but_accounts x Notices other = rows_rise (BelowIn Notices) (clarification_row x.fixed.settings) (λ m n a b l. lower_number m n Equal l) 1 x.clarifications
 
 pub rises : (x : ContestState) → IsAscending (λ a b. IsTrue (comes_before a b)) x.fixed.accounts → (name : TableName) → Rises name (list_rows x name)
 rises x by_id Desk = rises_but_accounts x Desk (λ e. cc)
@@ -70,3 +71,4 @@ rises x by_id Rejudgings = rises_but_accounts x Rejudgings (λ e. cc)
 rises x by_id Members = rises_but_accounts x Members (λ e. cc)
 rises x by_id Clarifications = rises_but_accounts x Clarifications (λ e. cc)
 rises x by_id Cells = rises_but_accounts x Cells (λ e. cc)
+rises x by_id Notices = rises_but_accounts x Notices (λ e. cc)

@@ -11,7 +11,7 @@ use Rattle.contest_store_rows.proofs.ListLaws.{one_more, rows_from}
 use Rattle.contest_store_tables.specs.Schema.{form_of}
 use Rattle.contest_store_tables.specs.Steps.{IsHeldAsGiven, with_rows}
 use Rattle.contest_store_tables.specs.declared.table_name.TableName.{TableName}
-use Rattle.contest_store_tables.specs.declared.table_name.TableName.TheVariants.{Desk, Contest, Items, Accounts, Submissions, Proposals, Releases, Rejudgings, Members, Clarifications, Cells}
+use Rattle.contest_store_tables.specs.declared.table_name.TableName.TheVariants.{Desk, Contest, Items, Accounts, Submissions, Proposals, Releases, Rejudgings, Members, Clarifications, Cells, Notices}
 use Rattle.contest_store_changes.specs.ContestTables.{by_name}
 use Rattle.contest_store_changes.specs.Laws.{TypeIsAdded, LanguageIsAdded, GroupIsAdded, ProblemIsAdded, TeamIsAdded}
 use Rattle.contest_store_changes.specs.OneRow.{IsOneRow}
@@ -49,6 +49,7 @@ other_tables t items Rejudgings = refl
 other_tables t items Members = refl
 other_tables t items Clarifications = refl
 other_tables t items Cells = refl
+other_tables t items Notices = refl
 
 one_row : (row : Row) (x y : ContestState) → IsHeldAsGiven (form_of Items) row → IsPermutation (row ∷ items_rows x.fixed.settings) (items_rows y.fixed.settings) → rows_of y ≡ record (rows_of x) { items = items_rows y.fixed.settings } → IsOneRow Items row x y
 one_row row x y given among same = record {

@@ -100,7 +100,7 @@ module _ (x : ContestState) (h : IsSound x) where
   stays_sound (NewProposal r) valid may k = proposal_stays_sound r valid (proposal_is_writable x r accounts_are_valid (and_left _ _ may) k)
   stays_sound (NewRelease r) valid may k = release_stays_sound r valid (release_is_writable x r (and_left _ _ may) k)
   stays_sound (NewClarification r) valid may k =
-      clarification_stays_sound r valid (clarification_is_writable x r (replies_are_small x w.valid.few_teams (parts x h.valid).clarifications) (asked_clarification r may) k)
+      clarification_stays_sound r valid (clarification_is_writable x r (replies_are_small x (record { teams = w.valid.few_teams; groups = w.valid.few_groups }) (parts x h.valid).clarifications) (asked_clarification r may) k)
   stays_sound (NewRejudging r) valid may k = rejudgings_stay_sound (x.rejudgings ++ r ∷ []) valid (with_one _ x.rejudgings r w.rejudgings (rejudging_is_writable x r (and_left _ _ may) k))
   stays_sound (SetMember n place state) valid may k =
       rejudgings_stay_sound (changed_at 1 n (with_member_state place state) x.rejudgings) valid

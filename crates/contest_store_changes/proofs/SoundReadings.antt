@@ -22,7 +22,7 @@ use Rattle.contest_store_changes.specs.Sound.{IsSound}
 use Rattle.contest_store_changes.proofs.CellsRead.{cells_themselves}
 
 -- a load shows the type and the size of a file in place of it
-rows_loaded : (s : Setup) (n : ℕ) (xs : List Submission) → map (loaded_row Submissions) (rows_from (submission_row s) n xs) ≡ rows_from (λ m x. loaded_submission_row s m (length x.file) x) n xs
+pub rows_loaded : (s : Setup) (n : ℕ) (xs : List Submission) → map (loaded_row Submissions) (rows_from (submission_row s) n xs) ≡ rows_from (λ m x. loaded_submission_row s m (length x.file) x) n xs
 rows_loaded s n [] = refl
 rows_loaded s n (x ∷ xs) = ap (λ rows. loaded_submission_row s n (length x.file) x ∷ rows) (rows_loaded s (n + 1) xs)
 
@@ -30,7 +30,7 @@ pub tables_loaded : (cells : List Row) (x : ContestState) → loaded_tables (row
 tables_loaded cells x = ap (λ rows. record (rows_of x) { submissions = rows }) (rows_loaded x.fixed.settings 1 x.submissions)
 
 -- each submission gets its file back from its row
-files_back : (s : Setup) (n : ℕ) (xs : List Submission) → map (λ p. with_file p.0 p.1) (zip (map without_file xs) (rows_from (submission_row s) n xs)) ≡ xs
+pub files_back : (s : Setup) (n : ℕ) (xs : List Submission) → map (λ p. with_file p.0 p.1) (zip (map without_file xs) (rows_from (submission_row s) n xs)) ≡ xs
 files_back s n [] = refl
 files_back s n (x ∷ xs) = ap (λ others. x ∷ others) (files_back s (n + 1) xs)
 

@@ -1,16 +1,18 @@
 -- A valid contest that rows are is sound, and these are its rows.
-use Rattle.std.proofs.Common.{◌≡◌, true, List, Some, refl, sym, subst}
+use Rattle.std.proofs.Common.{◌≡◌, true, List, [], ◌∷◌, map, Some, refl, sym, subst}
 use Rattle.std.specs.List.{AllByRecursion}
 use Rattle.contest_types.specs.State.{ContestState}
 use Rattle.contest_types.specs.Valid.{is_valid}
+use Rattle.contest_store_rows.specs.declared.versions.TheConstants.{VERSION}
 use Rattle.contest_store_fixed_rows.specs.SpellingLaws.{AreRows}
 use Rattle.contest_store_fixed_rows.specs.Spelling.{lists_in}
 use Rattle.contest_store_fixed_rows.proofs.SpellingLaws.{contests_write_back}
 use Rattle.sqlite_value.specs.Order.{Row}
 use Rattle.contest_store_cells.specs.CellRows.{cell_rows}
+use Rattle.contest_store_tables.specs.Statements.{loaded_row}
 use Rattle.contest_store_tables.specs.Steps.{Rises}
 use Rattle.contest_store_tables.specs.Tables.{TableRows}
-use Rattle.contest_store_tables.specs.declared.table_name.TableName.TheVariants.{Accounts, Submissions, Cells}
+use Rattle.contest_store_tables.specs.declared.table_name.TableName.TheVariants.{Accounts, Submissions, Clarifications, Cells}
 use Rattle.contest_store_fixed_rows.proofs.OptionSteps.{bound, where_true}
 use Rattle.contest_store_changes.specs.ContestTables.{if_scored, if_valid, listed_in, loaded_tables, rows_with, same_rows, table_rows, valid_listed_in, with_files}
 use Rattle.contest_store_changes.specs.Laws.{IsWide, ListedContestsAreSound, ValidContestsAreSound}
@@ -23,11 +25,15 @@ use Rattle.contest_store_changes.proofs.ReadCells.{made, of_found}
 use Rattle.contest_store_changes.proofs.ReadContest.{IsRead, lists_read, read_with_files}
 use Rattle.contest_store_changes.proofs.ReadWritable.{writable}
 
+none_mapped : (f : Row → Row) (rows : List Row) → map f rows ≡ [] → [] ≡ rows
+none_mapped f [] none = refl
+none_mapped f (r ∷ rows) none = absurd (cc none)
+
 -- the contest that rows are, with its files, has these rows
-rows_are : (rows : TableRows) (y : ContestState) → AllByRecursion (IsWide Submissions) (rows Submissions) → AreRows y (loaded_tables rows) → rows_with (rows Cells) (with_files (rows Submissions) y) ≡ rows
+rows_are : (rows : TableRows) (y : ContestState) → AllByRecursion (IsWide Submissions) (rows Submissions) → AreRows VERSION y (loaded_tables rows) → rows_with (rows Cells) (with_files (rows Submissions) y) ≡ rows
 rows_are rows y wide are =
     same_tables _ rows (sym are.fixed.desk) (sym are.fixed.contest) (sym are.fixed.items) (sym are.fixed.accounts) (filed_rows y.fixed.settings 1 y.submissions (rows Submissions) wide are.submissions)
-    (sym are.proposals) (sym are.releases) (sym are.rejudgings) (sym are.members) (sym are.clarifications) refl
+    (sym are.proposals) (sym are.releases) (sym are.rejudgings) (sym are.members) (none_mapped (loaded_row Clarifications) (rows Clarifications) are.clarifications.0) refl (sym are.clarifications.1)
 
 sound : (rows : TableRows) (x : ContestState) → Rises Accounts (rows Accounts) → rows_with (rows Cells) x ≡ rows → IsRead x → is_valid x ≡ true → IsSound x
 sound rows x up is read valid = record {
@@ -39,8 +45,8 @@ sound rows x up is read valid = record {
 found_sound : (rows : TableRows) (x : ContestState) → Rises Accounts (rows Accounts) → AllByRecursion (IsWide Submissions) (rows Submissions) → listed_in rows ≡ Some x → is_valid x ≡ true → IsSound x × (rows_with (rows Cells) x ≡ rows)
 found_sound rows x up wide is valid =
     let m = made (with_files (rows Submissions)) (lists_in (loaded_tables rows)) x is in
-    let read = subst IsRead m.whole (read_with_files (rows Submissions) m.x (lists_read (loaded_tables rows) m.x m.first_is)) in
-    let own = subst (λ y. rows_with (rows Cells) y ≡ rows) m.whole (rows_are rows m.x wide (contests_write_back (loaded_tables rows) m.x m.first_is)) in
+    let read = subst IsRead m.whole (read_with_files (rows Submissions) m.x (lists_read VERSION (loaded_tables rows) m.x m.first_is)) in
+    let own = subst (λ y. rows_with (rows Cells) y ≡ rows) m.whole (rows_are rows m.x wide (contests_write_back VERSION (loaded_tables rows) m.x m.first_is)) in
     (sound rows x up own read valid, own)
 
 pub listed_sound : ListedContestsAreSound

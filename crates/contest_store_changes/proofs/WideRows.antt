@@ -8,7 +8,7 @@ use Rattle.sqlite_value.specs.Order.{Row}
 use Rattle.contest_store_tables.specs.Schema.{form_of}
 use Rattle.contest_store_tables.specs.Tables.{by_key, rows_in, show}
 use Rattle.contest_store_tables.specs.declared.table_name.TableName.{TableName}
-use Rattle.contest_store_tables.specs.declared.table_name.TableName.TheVariants.{Desk, Contest, Items, Accounts, Submissions, Proposals, Releases, Rejudgings, Members, Clarifications, Cells}
+use Rattle.contest_store_tables.specs.declared.table_name.TableName.TheVariants.{Desk, Contest, Items, Accounts, Submissions, Proposals, Releases, Rejudgings, Members, Clarifications, Cells, Notices}
 use Rattle.contest_store_changes.specs.Laws.{IsWide}
 
 -- what holds of all rows holds of them in order
@@ -33,6 +33,7 @@ shown_is_wide Rejudgings r = refl
 shown_is_wide Members r = refl
 shown_is_wide Clarifications r = refl
 shown_is_wide Cells r = refl
+shown_is_wide Notices r = refl
 
 pub shown_are_wide : (db : Trees) (name : TableName) → AllByRecursion (IsWide name) (rows_in db name)
 shown_are_wide db name = all_sorted (by_key (form_of name)) (IsWide name) _ (all-map (IsWide name) (show (form_of name)) (shown_is_wide name) (db (form_of name).tree))

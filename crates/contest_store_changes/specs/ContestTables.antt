@@ -10,12 +10,14 @@ use Rattle.contest_types.specs.Valid.{is_valid}
 use Rattle.contest_types.specs.declared.submission.Submission.{Submission}
 use Rattle.contest_store_rows.specs.Cells.{same_row}
 use Rattle.contest_store_rows.specs.Tables.{Tables, rows_of}
+use Rattle.contest_store_rows.specs.declared.versions.TheConstants.{VERSION}
+use Rattle.contest_store_rows.specs.declared.versions.Version.{Version}
 use Rattle.contest_store_cells.specs.CellRows.{cell_rows}
-use Rattle.contest_store_fixed_rows.specs.Spelling.{lists_in}
+use Rattle.contest_store_fixed_rows.specs.Spelling.{lists_in_version}
 use Rattle.contest_store_tables.specs.Statements.{loaded_row}
 use Rattle.contest_store_tables.specs.Steps.{with_rows}
 use Rattle.contest_store_tables.specs.Tables.{TableRows}
-use Rattle.contest_store_tables.specs.declared.table_name.TableName.TheVariants.{Desk, Contest, Items, Accounts, Submissions, Proposals, Releases, Rejudgings, Members, Clarifications, Cells}
+use Rattle.contest_store_tables.specs.declared.table_name.TableName.TheVariants.{Desk, Contest, Items, Accounts, Submissions, Proposals, Releases, Rejudgings, Members, Clarifications, Cells, Notices}
 
 abbrev pub by_name : Tables → TableRows
 by_name t Desk = t.desk
@@ -28,6 +30,7 @@ by_name t Releases = t.releases
 by_name t Rejudgings = t.rejudgings
 by_name t Members = t.members
 by_name t Clarifications = t.clarifications
+by_name t Notices = t.notices
 by_name t Cells = []
 
 -- the rows of its lists, and no cells
@@ -42,7 +45,8 @@ rows_with cells x = with_rows Cells cells (list_rows x)
 abbrev pub table_rows : ContestState → TableRows
 table_rows x = rows_with (cell_rows x) x
 
--- what a load gives of the rows of the lists: of a submission's file only its type and its size
+-- what a load gives of the rows of the lists: of a submission's file only its type and its size, and the first schema's
+-- clarifications as today's has them
 abbrev pub loaded_tables : TableRows → Tables
 loaded_tables rows = record {
   desk = rows Desk;
@@ -54,7 +58,8 @@ loaded_tables rows = record {
   releases = rows Releases;
   rejudgings = rows Rejudgings;
   members = rows Members;
-  clarifications = rows Clarifications;
+  clarifications = map (loaded_row Clarifications) (rows Clarifications);
+  notices = rows Notices;
 }
 
 abbrev pub bytes_of : Value → List ℕ
@@ -72,16 +77,23 @@ with_file s r = record s { file = file_in r }
 abbrev pub with_files : List Row → ContestState → ContestState
 with_files rows x = record x { submissions = map (λ p. with_file p.0 p.1) (zip x.submissions rows) }
 
--- the contest whose lists the rows are, files and all, whatever the cells; none where they are those of no contest
+-- the contest whose lists the rows are in a version of the schema, files and all, whatever the cells; none where they are
+-- those of no contest
+abbrev pub listed_in_version : Version → TableRows → Option ContestState
+listed_in_version version rows = option_map (with_files (rows Submissions)) (lists_in_version version (loaded_tables rows))
+
 abbrev pub listed_in : TableRows → Option ContestState
-listed_in rows = option_map (with_files (rows Submissions)) (lists_in (loaded_tables rows))
+listed_in = listed_in_version VERSION
 
 abbrev pub if_valid : ContestState → Option ContestState
 if_valid x = if is_valid x then Some x else None
 
 -- and that is valid
+abbrev pub valid_listed_in_version : Version → TableRows → Option ContestState
+valid_listed_in_version version rows = option_and_then if_valid (listed_in_version version rows)
+
 abbrev pub valid_listed_in : TableRows → Option ContestState
-valid_listed_in rows = option_and_then if_valid (listed_in rows)
+valid_listed_in = valid_listed_in_version VERSION
 
 -- rows that are the same, one by one
 abbrev pub same_rows : List Row → List Row → Bool

@@ -36,7 +36,7 @@ use Rattle.contest_store_tables.specs.Steps.{Rises}
 use Rattle.contest_store_tables.specs.Tables.{TableRows}
 use Rattle.contest_store_tables.specs.declared.row_change.RowChange.TheVariants as change
 use Rattle.contest_store_tables.specs.declared.table_name.TableName.{TableName}
-use Rattle.contest_store_tables.specs.declared.table_name.TableName.TheVariants.{Items, Accounts, Submissions, Proposals, Releases, Rejudgings, Members, Clarifications, Cells}
+use Rattle.contest_store_tables.specs.declared.table_name.TableName.TheVariants.{Items, Accounts, Submissions, Proposals, Releases, Rejudgings, Members, Cells, Notices}
 use Rattle.contest_store_changes.specs.ContestTables.{rows_with, table_rows, valid_contest_in, valid_listed_in}
 use Rattle.contest_store_changes.specs.Kinds.{IsOfKinds}
 use Rattle.contest_store_changes.specs.OneRow.{IsOneRow, IsOneChange}
@@ -78,7 +78,7 @@ abbrev pub ReleaseIsAdded : Type 0
 ReleaseIsAdded = (x : ContestState) (v : Release) → IsSound x → IsOneRow Releases (release_row x.fixed.settings (length x.releases + 1) v) x (add x (NewRelease v))
 
 abbrev pub ClarificationIsAdded : Type 0
-ClarificationIsAdded = (x : ContestState) (c : Clarification) → IsSound x → IsOneRow Clarifications (clarification_row x.fixed.settings (length x.clarifications + 1) c) x (add x (NewClarification c))
+ClarificationIsAdded = (x : ContestState) (c : Clarification) → IsSound x → IsOneRow Notices (clarification_row x.fixed.settings (length x.clarifications + 1) c) x (add x (NewClarification c))
 
 -- a rejudging with so many of its members
 abbrev pub with_members : Rejudging → List Member → Rejudging

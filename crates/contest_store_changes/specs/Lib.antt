@@ -5,3 +5,5 @@ pub mod OneRow
 pub mod Additions
 pub mod CellSteps
 pub mod Laws
+pub mod Upgraded
+pub mod UpgradeSteps

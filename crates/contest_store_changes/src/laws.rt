@@ -1,4 +1,5 @@
 //! Laws of what a change of a contest does to its tables: functions that do nothing.
+ghost use Rattle.contest_store_changes.specs.Upgraded.{FirstContestsAreSound, FirstRowsAreUpgraded, FirstRowsReadBack};
 ghost use Rattle.contest_store_changes.specs.Laws.{AdditionsStaySound, SoundContestsReadBack, ListedContestsAreSound, ValidContestsAreSound, SubmissionIsAdded, ProposalIsAdded, ReleaseIsAdded, ClarificationIsAdded, RejudgingIsAdded, MemberIsAdded, AccountIsAdded, TypeIsAdded, LanguageIsAdded, GroupIsAdded, ProblemIsAdded, TeamIsAdded, MarksAreChanged, RejudgingIsChanged, MemberIsChanged};
 
 /// What may be added to a sound contest leaves a sound one.
@@ -47,4 +48,15 @@ pub fn changes_are_rows()
     ensures marks { MarksAreChanged }
     ensures rejudging { RejudgingIsChanged }
     ensures member { MemberIsChanged }
+{}
+
+/// In the first schema, too, a sound contest is the one that its rows are.
+pub fn first_contests_are_read()
+    ensures read { FirstRowsReadBack }
+    ensures sound { FirstContestsAreSound }
+{}
+
+/// The rows that the first schema has of a contest are upgraded to those of today's.
+pub fn first_rows_are_upgraded()
+    ensures { FirstRowsAreUpgraded }
 {}

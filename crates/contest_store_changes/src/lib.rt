@@ -9,7 +9,9 @@ mod list_rows;
 mod mark_rows;
 mod rejudging_rows;
 mod setting_rows;
+mod upgrades;
 
 pub use cell_rows::keep_cells;
 pub use entries::append;
 pub use kinds::is_of_kinds;
+pub use upgrades::upgrade;

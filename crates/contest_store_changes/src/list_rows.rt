@@ -95,11 +95,11 @@ pub(crate) fn add_clarification<S: Alter>(
 {
     let row = lists.clarifications().len();
     if !clarification_fits(clarification) {
-        return tables.insert(TableName::Clarifications, &[]);
+        return tables.insert(TableName::Notices, &[]);
     }
     let reply = ReplyId::of(clarification.reply);
     tables.insert(
-        TableName::Clarifications,
+        TableName::Notices,
         &clarification_cells(
             &lists.fixed().settings,
             row as u64 + 1,
@@ -109,7 +109,8 @@ pub(crate) fn add_clarification<S: Alter>(
     )
 }
 
-fn clarification_fits(clarification: &Clarification) -> bool
+/// Whether cells hold the numbers of a clarification.
+pub(crate) fn clarification_fits(clarification: &Clarification) -> bool
     ensures { IsTrue result ↔ (audience_number clarification.now.addressee < 2 ^ 63) × (clarification.now.number + 1 < 2 ^ 63) }
 {
     audience_fits(clarification.addressee) && fits(clarification.number)
@@ -120,6 +121,6 @@ fn audience_fits(addressee: Addressee) -> bool
 {
     match addressee {
         Addressee::All => true,
-        Addressee::Team(team) => fits(team),
+        Addressee::Team(place) | Addressee::Group(place) => fits(place),
     }
 }

@@ -8,7 +8,6 @@ use Rattle.contest_types.specs.Setup.{Setup, IsValid, is_valid_head}
 use Rattle.contest_types.specs.State.{FixedPart}
 use Rattle.contest_store_rows.specs.Cells.{number, same_row}
 use Rattle.contest_store_rows.specs.FixedRows.{contest_row, desk_row, items_rows}
-use Rattle.contest_store_rows.specs.declared.versions.TheConstants.{VERSION}
 use Rattle.contest_store_rows.specs.declared.versions.Version.{Version}
 use Rattle.contest_store_rows.proofs.RowLemmas.{is_no_real, row_itself, same_rows}
 use Rattle.contest_store_fixed_rows.specs.AccountRows.{accounts_in}
@@ -33,8 +32,8 @@ settings_read : (f : FixedPart) → IsValid f.settings → IsWritableSetup f.set
 settings_read f valid w = rw (head_read f valid.head w.head, valid.head) (items_read f.settings valid w)
 
 pub fixed_reads_back : FixedReadsBack
-fixed_reads_back f valid w =
-    rw (marks_read f w.marks, settings_read f valid w.settings, accounts_read f.settings valid f.accounts w.accounts, row_itself (contest_row f) (contest_plain f)) refl
+fixed_reads_back version f valid w =
+    rw (row_itself (desk_row version) refl, marks_read f w.marks, settings_read f valid w.settings, accounts_read f.settings valid f.accounts w.accounts, row_itself (contest_row f) (contest_plain f)) refl
 
 desk_written : (version : Version) (rows : List Row) → is_desk version rows ≡ true → rows ≡ desk_row version ∷ []
 desk_written version [] is = absurd (cc is)
@@ -75,12 +74,12 @@ row_written contest items accounts f is =
     rw (← same) (same_rows contest (contest_row b.x) own.0, said contest items accounts b.x b.first_is)
 
 pub fixed_writes_back : FixedWritesBack
-fixed_writes_back desk contest items accounts f is =
-    let d = where_true (is_desk VERSION desk) _ f is in
+fixed_writes_back version desk contest items accounts f is =
+    let d = where_true (is_desk version desk) _ f is in
     let c = bound (λ r. fixed_of_row r items accounts) (only contest) f d.1 in
     let r = row_written c.x items accounts f c.next_is in
     record {
-      desk = desk_written VERSION desk d.0;
+      desk = desk_written version desk d.0;
       contest = only_one contest c.x c.first_is ∙ ap (λ x. x ∷ []) r.0;
       items = settings_written c.x items f.settings r.1.settings;
       accounts = accounts_written f.settings accounts f.accounts r.1.accounts;

@@ -8,7 +8,6 @@ use Rattle.contest_types.specs.declared.contest.ContestHead.{ContestHead}
 use Rattle.contest_store_fixed_rows.specs.AccountRows.{accounts_in}
 use Rattle.contest_store_rows.specs.Cells.{same_row}
 use Rattle.contest_store_rows.specs.FixedRows.{contest_row, desk_row}
-use Rattle.contest_store_rows.specs.declared.versions.TheConstants.{VERSION}
 use Rattle.contest_store_rows.specs.declared.versions.Version.{Version}
 use Rattle.contest_store_fixed_rows.specs.Heads.{head_in, marks_in}
 use Rattle.contest_store_fixed_rows.specs.Items.{items_in}
@@ -42,6 +41,6 @@ fixed_if contest f = if same_row contest (contest_row f) then Some f else None
 abbrev pub fixed_of_row : (contest : Row) → (items accounts : List Row) → Option FixedPart
 fixed_of_row contest items accounts = option_and_then (fixed_if contest) (fixed_said contest items accounts)
 
-abbrev pub fixed_in : (desk contest items accounts : List Row) → Option FixedPart
-fixed_in desk contest items accounts =
-    if is_desk VERSION desk then option_and_then (λ r. fixed_of_row r items accounts) (only contest) else None
+abbrev pub fixed_in : Version → (desk contest items accounts : List Row) → Option FixedPart
+fixed_in version desk contest items accounts =
+    if is_desk version desk then option_and_then (λ r. fixed_of_row r items accounts) (only contest) else None

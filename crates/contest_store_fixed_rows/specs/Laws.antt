@@ -16,7 +16,7 @@ use Rattle.contest_types.specs.declared.objects.Problem.{Problem}
 use Rattle.contest_types.specs.declared.objects.Group.{Group}
 use Rattle.contest_types.specs.declared.objects.Team.{Team}
 use Rattle.contest_store_rows.specs.FixedRows.{account_row, contest_row, desk_row, items_rows}
-use Rattle.contest_store_rows.specs.declared.versions.TheConstants.{VERSION}
+use Rattle.contest_store_rows.specs.declared.versions.Version.{Version}
 use Rattle.contest_store_fixed_rows.specs.AccountRows.{accounts_in}
 use Rattle.contest_store_fixed_rows.specs.FixedParts.{fixed_in}
 
@@ -66,15 +66,15 @@ pub record IsWritableFixed (f : FixedPart) : Type 0 where
   pub marks : IsWritableMarks f.marks
 
 abbrev pub FixedReadsBack : Type 0
-FixedReadsBack = (f : FixedPart) → IsValid f.settings → IsWritableFixed f →
-    fixed_in (desk_row VERSION ∷ []) (contest_row f ∷ []) (items_rows f.settings) (map (account_row f.settings) f.accounts) ≡ Some f
+FixedReadsBack = (version : Version) (f : FixedPart) → IsValid f.settings → IsWritableFixed f →
+    fixed_in version (desk_row version ∷ []) (contest_row f ∷ []) (items_rows f.settings) (map (account_row f.settings) f.accounts) ≡ Some f
 
 -- the rows of a fixed part
-pub record AreRowsOf (f : FixedPart) (d c i a : List Row) : Type 0 where
-  pub desk : d ≡ desk_row VERSION ∷ []
+pub record AreRowsOf (version : Version) (f : FixedPart) (d c i a : List Row) : Type 0 where
+  pub desk : d ≡ desk_row version ∷ []
   pub contest : c ≡ contest_row f ∷ []
   pub items : i ≡ items_rows f.settings
   pub accounts : a ≡ map (account_row f.settings) f.accounts
 
 abbrev pub FixedWritesBack : Type 0
-FixedWritesBack = (desk contest items accounts : List Row) (f : FixedPart) → fixed_in desk contest items accounts ≡ Some f → AreRowsOf f desk contest items accounts
+FixedWritesBack = (version : Version) (desk contest items accounts : List Row) (f : FixedPart) → fixed_in version desk contest items accounts ≡ Some f → AreRowsOf version f desk contest items accounts

@@ -10,27 +10,28 @@ ghost use Rattle.contest_store_fixed_rows.specs.FixedParts.{fixed_if, fixed_in, 
 use crate::accounts::read_accounts;
 use crate::heads::{contest_cells, desk_cells, head_in, marks_in};
 use crate::settings::add_items_in;
-use contest_store_rows::{VERSION, Version, is_row};
+use contest_store_rows::{Version, is_row};
 use contest_types::{ContestHead, Fixed, Marks, Settings};
 use sqlite::Row;
 use std::alloc::{AllocError, Global};
 
 /// The fixed part of the contest that the rows of the tables `desk`, `contest`, `items` and `accounts`
-/// are, each in the order of its key; none where they are those of no contest.
+/// are in a version of the schema, each in the order of its key; none where they are those of no contest.
 ///
 /// # Errors
 ///
 /// Want of memory alone.
 pub fn read_fixed(
     alloc: Global,
+    version: Version,
     desk: &[Row],
     contest: &[Row],
     items: &[Row],
     accounts: &[Row],
 ) -> Result<Option<Fixed>, AllocError>
-    ensures { IfOk result (λ found. found ≡ fixed_in desk.now contest.now items.now accounts.now) }
+    ensures { IfOk result (λ found. found ≡ fixed_in version desk.now contest.now items.now accounts.now) }
 {
-    if !is_desk(VERSION, desk) {
+    if !is_desk(version, desk) {
         return Ok(None);
     }
     match only(contest) {
@@ -49,7 +50,8 @@ fn only(rows: &[Row]) -> Option<&Row>
     }
 }
 
-fn is_desk(version: Version, rows: &[Row]) -> bool
+/// Whether these rows of the table `desk` say that the tables are of this version.
+pub fn is_desk(version: Version, rows: &[Row]) -> bool
     ensures { result ≡ is_desk version rows.now }
 {
     match only(rows) {

@@ -13,7 +13,7 @@ mod settings;
 mod team_items;
 
 pub use accounts::account_cells;
-pub use fixed_part::read_fixed;
+pub use fixed_part::{is_desk, read_fixed};
 pub use heads::{contest_cells, desk_cells, marks_cells};
 pub use items::{group_cells, language_cells, problem_cells, type_cells};
 pub use loaded_rows::LoadedRows;

@@ -1,7 +1,7 @@
 //! The rows of all tables of a contest.
 use sqlite::Row;
 
-/// The rows of the ten tables as a load gives them, each table's in the order of its key; of a
+/// The rows of the tables of the lists as a load gives them, each table's in the order of its key; of a
 /// submission's file only its type and its size.
 #[derive(Drop)]
 pub struct LoadedRows {
@@ -15,4 +15,5 @@ pub struct LoadedRows {
     pub rejudgings: Vec<Row>,
     pub members: Vec<Row>,
     pub clarifications: Vec<Row>,
+    pub notices: Vec<Row>,
 }

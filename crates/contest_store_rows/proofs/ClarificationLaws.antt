@@ -9,7 +9,7 @@ use Rattle.contest_types.specs.Places.{are_different}
 use Rattle.contest_types.specs.ProblemPlaces.{problem_id_at}
 use Rattle.contest_types.specs.Setup.{Setup, IsValid}
 use Rattle.contest_types.specs.declared.clarification.Addressee.{Addressee}
-use Rattle.contest_types.specs.declared.clarification.Addressee.TheVariants.{All as ToAll, Team as ToTeam}
+use Rattle.contest_types.specs.declared.clarification.Addressee.TheVariants.{All as ToAll, Group as ToGroup, Team as ToTeam}
 use Rattle.contest_types.specs.declared.clarification.Clarification.{Clarification}
 use Rattle.contest_types.specs.declared.clarification.Reference.{Reference}
 use Rattle.contest_types.specs.declared.limits.TheConstants.{LAST_MOMENT}
@@ -17,11 +17,11 @@ use Rattle.contest_types.specs.declared.objects.Problem.{Problem}
 use Rattle.contest_store_rows.specs.Cells.{flag, number_of}
 use Rattle.contest_store_rows.specs.Clarifications.{addressee_of, clarification_in, clarification_said, reply_if_any}
 use Rattle.contest_store_rows.specs.Laws.{ReadsBack, WritesBack, IsWritableClarification, IsWritableReference}
-use Rattle.contest_store_rows.specs.ListRows.{audience_number, clarification_row, reference_id}
+use Rattle.contest_store_rows.specs.ListRows.{audience_kind, audience_number, clarification_row, reference_id}
 use Rattle.contest_store_rows.specs.Readings.{place_if_any}
 use Rattle.contest_store_rows.proofs.PlaceBack.{place_back}
 use Rattle.contest_store_rows.proofs.ReferenceLaws.{reference_back}
-use Rattle.contest_store_rows.proofs.RowLaws.{after_all, id_back, less_one, within}
+use Rattle.contest_store_rows.proofs.RowLaws.{id_back, less_one, within}
 use Rattle.contest_store_rows.proofs.RowLemmas.{is_no_real, no_real_text, reads_back, writes_back}
 
 pub place_if_back : {T : Type 0} (id : T → List ℕ) (rows : List T) (at : Option ℕ) → are_different (map id rows) ≡ true → IfSome at (λ p. p < length rows) →
@@ -37,9 +37,10 @@ pub flag_back : (b : Bool) → (number_of (flag b) == 1) ≡ b
 flag_back true = refl
 flag_back false = refl
 
-addressee_back : (a : Addressee) → addressee_of (audience_number a) ≡ a
+addressee_back : (a : Addressee) → addressee_of (audience_kind a) (audience_number a) ≡ a
 addressee_back ToAll = refl
-addressee_back (ToTeam team) = rw (after_all team, less_one team) refl
+addressee_back (ToTeam team) = rw (less_one team) refl
+addressee_back (ToGroup group) = rw (less_one group) refl
 
 clarification_is_said : (s : Setup) → IsValid s → (n : ℕ) (c : Clarification) → IsWritableClarification s c → clarification_said s (clarification_row s n c) ≡ Some c
 clarification_is_said s valid n c w =

@@ -1,5 +1,5 @@
 -- A small contest as rows, computed: one row of each table, and what is read of some.
-use Rattle.std.proofs.Common.{◌≡◌, ℕ, [], ◌∷◌, false, get_or, refl}
+use Rattle.std.proofs.Common.{◌≡◌, ℕ, [], ◌∷◌, false, get_or, take, refl}
 use Rattle.std.specs.Prelude.{Some, None, codes, is_some}
 use Rattle.std.specs.List.{list_any}
 use Rattle.std.specs.Fmt.{digits}
@@ -13,12 +13,14 @@ use Rattle.contest_types.specs.declared.rejudging.RejudgingState.TheVariants as 
 use Rattle.contest_types.specs.declared.submission.Submission.{Submission}
 use Rattle.contest_types.proofs.ExampleContest.{empty, settings, minutes, accepted, wrong, submitted, released, proposed, asked, answered, announced, rejudged}
 use Rattle.contest_store_rows.specs.Cells.{number}
+use Rattle.contest_store_rows.specs.Clarifications.{addressee_of}
 use Rattle.contest_store_rows.specs.Proposals.{proposal_in}
 use Rattle.contest_store_rows.specs.References.{reference_of}
 use Rattle.contest_store_rows.specs.Rejudgings.{member_in, own_rows}
 use Rattle.contest_store_rows.specs.Releases.{release_in}
 use Rattle.contest_store_rows.specs.Submissions.{submission_in}
-use Rattle.contest_store_rows.specs.Tables.{rows_of}
+use Rattle.contest_store_rows.specs.Tables.{rows_in_version, rows_of}
+use Rattle.contest_store_rows.specs.declared.versions.Version.TheVariants.{First}
 
 -- the second team's first submission, of two bytes in Java with an entry point and a key
 abbrev java : Submission
@@ -33,7 +35,7 @@ demo = record empty {
   rejudgings = rejudged 1 1 accepted state.Applied ∷ [];
 }
 
-desk_rows : (rows_of demo).desk ≡ (number 1 ∷ number 1 ∷ []) ∷ []
+desk_rows : (rows_of demo).desk ≡ (number 1 ∷ number 2 ∷ []) ∷ []
 desk_rows = refl
 
 -- the start is set, and neither the thaw nor the final results
@@ -78,12 +80,30 @@ member_rows : (rows_of demo).members ≡ (number 1 ∷ number 1 ∷ number 2 ∷
 member_rows = refl
 
 -- a team asks, is answered, and all are told
-clarification_rows : (rows_of demo).clarifications ≡
-    (number 1 ∷ number 1 ∷ number 1 ∷ number 0 ∷ Text (codes "a1") ∷ Null ∷ Null ∷ Text (codes "Why?") ∷ number 2400000 ∷ Null ∷ [])
-    ∷ (number 2 ∷ number 1 ∷ number 2 ∷ number 1 ∷ Text (codes "j1") ∷ Null ∷ Text (codes "c1-1") ∷ Text (codes "So.") ∷ number 3000000 ∷ Null ∷ [])
-    ∷ (number 3 ∷ number 0 ∷ number 1 ∷ number 1 ∷ Text (codes "j1") ∷ Null ∷ Null ∷ Text (codes "Lunch.") ∷ number 3600000 ∷ Null ∷ []) ∷ []
+clarification_rows : (rows_of demo).notices ≡
+    (number 1 ∷ number 1 ∷ number 1 ∷ number 1 ∷ number 0 ∷ Text (codes "a1") ∷ Null ∷ Null ∷ Text (codes "Why?") ∷ number 2400000 ∷ Null ∷ [])
+    ∷ (number 2 ∷ number 1 ∷ number 1 ∷ number 2 ∷ number 1 ∷ Text (codes "j1") ∷ Null ∷ Text (codes "c1-1") ∷ Text (codes "So.") ∷ number 3000000 ∷ Null ∷ [])
+    ∷ (number 3 ∷ number 0 ∷ number 0 ∷ number 1 ∷ number 1 ∷ Text (codes "j1") ∷ Null ∷ Null ∷ Text (codes "Lunch.") ∷ number 3600000 ∷ Null ∷ []) ∷ []
 unfolding digits
 clarification_rows = refl
+
+-- where the first schema kept them there is none
+no_first_rows : (rows_of demo).clarifications ≡ []
+no_first_rows = refl
+
+-- a row of the first schema
+first_rows : take 1 (rows_in_version First demo).clarifications ≡ (number 1 ∷ number 1 ∷ number 1 ∷ number 0 ∷ Text (codes "a1") ∷ Null ∷ Null ∷ Text (codes "Why?") ∷ number 2400000 ∷ Null ∷ []) ∷ []
+first_rows = refl
+
+-- what a kind and a number say
+of_all_kinds : addressee_of 0 0 ≡ addressee.All
+of_all_kinds = refl
+
+of_a_team : addressee_of 1 12 ≡ addressee.Team 11
+of_a_team = refl
+
+of_a_group : addressee_of 2 3 ≡ addressee.Group 2
+of_a_group = refl
 
 -- a row that has another number, or a cell more, is none
 wrong_number : release_in settings 2 (number 1 ∷ number 2 ∷ number 1 ∷ number 1 ∷ Text (codes "WA") ∷ number 1380000 ∷ []) ≡ None
@@ -127,6 +147,9 @@ of_team_12 = refl
 of_all : reference_of (codes "g-40") ≡ Some (record { addressee = addressee.All; number = 40 })
 of_all = refl
 
+of_group_3 : reference_of (codes "g3-40") ≡ Some (record { addressee = addressee.Group 2; number = 40 })
+of_group_3 = refl
+
 -- another form names no clarification
-of_another_form : list_any (λ id. is_some (reference_of id)) (codes "g1-1" ∷ codes "c0-1" ∷ codes "c-1" ∷ codes "t1-1" ∷ codes "-1" ∷ codes "g-" ∷ codes "g-1x" ∷ codes "g" ∷ [] ∷ []) ≡ false
+of_another_form : list_any (λ id. is_some (reference_of id)) (codes "g0-1" ∷ codes "c0-1" ∷ codes "c-1" ∷ codes "t1-1" ∷ codes "-1" ∷ codes "g-" ∷ codes "g-1x" ∷ codes "g" ∷ [] ∷ []) ≡ false
 of_another_form = refl

@@ -22,7 +22,7 @@ pub release_is_one_row : ReleaseIsOneRow
 release_is_one_row x v = ap (λ rows. record (rows_of x) { releases = rows }) (one_more (release_row x.fixed.settings) 1 x.releases v)
 
 pub clarification_is_one_row : ClarificationIsOneRow
-clarification_is_one_row x c = ap (λ rows. record (rows_of x) { clarifications = rows }) (one_more (clarification_row x.fixed.settings) 1 x.clarifications c)
+clarification_is_one_row x c = ap (λ rows. record (rows_of x) { notices = rows }) (one_more (clarification_row x.fixed.settings) 1 x.clarifications c)
 
 abbrev members_from : Setup → ℕ → List Rejudging → List Row
 members_from s n rs = flat_map (λ r. rows_from (member_row s r.0) 1 (r.1).members) (enumerate_from n rs)

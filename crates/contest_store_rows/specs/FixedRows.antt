@@ -19,10 +19,11 @@ use Rattle.contest_types.specs.declared.objects.Group.{Group}
 use Rattle.contest_types.specs.declared.objects.Team.{Team}
 use Rattle.contest_store_rows.specs.Cells.{number, flag, numbered}
 use Rattle.contest_store_rows.specs.declared.versions.Version.{Version}
-use Rattle.contest_store_rows.specs.declared.versions.Version.TheVariants.{First}
+use Rattle.contest_store_rows.specs.declared.versions.Version.TheVariants.{First, Second}
 
 abbrev pub version_number : Version → ℕ
 version_number First = 1
+version_number Second = 2
 
 -- the only row of its table is number 1; it says the version of the schema
 abbrev pub desk_row : Version → Row

@@ -66,7 +66,7 @@ abbrev pub SubmissionsWriteBack : Type 0
 SubmissionsWriteBack = (s : Setup) (n : ℕ) (r : Row) (x : Submission) → submission_in s n r ≡ Some x → (size : ℕ) × (size ≤ POSTED_FILE) × (r ≡ loaded_submission_row s n size x)
 
 pub record IsWritableReference (r : Reference) : Type 0 where
-  pub team : audience_number r.addressee ≤ largest
+  pub addressee : audience_number r.addressee ≤ largest
   pub number : r.number ≤ largest
 
 pub record IsWritableClarification (s : Setup) (c : Clarification) : Type 0 where

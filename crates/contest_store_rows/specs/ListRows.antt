@@ -1,5 +1,5 @@
 -- The lists of a contest as rows of its tables, counted from 1 in the order in which they were accepted. Problems,
--- languages, judgement types and accounts go by their ids, teams by their numbers, which count from 1.
+-- languages, judgement types and accounts go by their ids, teams and groups by their numbers, which count from 1.
 use Rattle.std.specs.Prelude.{ℕ, ◌+◌, Bool, true, false, List, [], ◌∷◌, map, Option, None, Some, codes}
 use Rattle.std.specs.List.{enumerate_from, flat_map}
 use Rattle.std.specs.Option.{option_map}
@@ -11,7 +11,7 @@ use Rattle.contest_types.specs.SettingsNames.{type_id_at, language_id_at}
 use Rattle.contest_types.specs.Setup.{Setup}
 use Rattle.contest_types.specs.VisibleIds.{clarification_id}
 use Rattle.contest_types.specs.declared.clarification.Addressee.{Addressee}
-use Rattle.contest_types.specs.declared.clarification.Addressee.TheVariants.{All as ToAll, Team as ToTeam}
+use Rattle.contest_types.specs.declared.clarification.Addressee.TheVariants.{All as ToAll, Group as ToGroup, Team as ToTeam}
 use Rattle.contest_types.specs.declared.clarification.Clarification.{Clarification}
 use Rattle.contest_types.specs.declared.clarification.Reference.{Reference}
 use Rattle.contest_types.specs.declared.proposal.Proposal.{Proposal}
@@ -82,16 +82,30 @@ abbrev pub members_rows : Setup → List Rejudging → List Row
 members_rows s rejudgings =
     flat_map (λ r. map (λ m. member_row s r.0 m.0 m.1) (enumerate_from 1 (r.1).members)) (enumerate_from 1 rejudgings)
 
+-- 0 for all, 1 for a team, 2 for a group
+abbrev pub audience_kind : Addressee → ℕ
+audience_kind ToAll = 0
+audience_kind (ToTeam team) = 1
+audience_kind (ToGroup group) = 2
+
 -- 0 for all
 abbrev pub audience_number : Addressee → ℕ
 audience_number ToAll = 0
 audience_number (ToTeam team) = team + 1
+audience_number (ToGroup group) = group + 1
 
 abbrev pub reference_id : Reference → List ℕ
 reference_id r = clarification_id r.addressee r.number
 
 abbrev pub clarification_row : Setup → ℕ → Clarification → Row
 clarification_row s n c =
+    number n ∷ number (audience_kind c.addressee) ∷ number (audience_number c.addressee) ∷ number c.number ∷ flag c.from_jury ∷ Text c.account
+    ∷ or_null Text (option_map (problem_id_at s.problems) c.problem) ∷ or_null Text (option_map reference_id c.reply)
+    ∷ Text c.text ∷ number c.time ∷ or_null Text c.key ∷ []
+
+-- the same in the table of the first schema, which has no groups
+abbrev pub first_clarification_row : Setup → ℕ → Clarification → Row
+first_clarification_row s n c =
     number n ∷ number (audience_number c.addressee) ∷ number c.number ∷ flag c.from_jury ∷ Text c.account
     ∷ or_null Text (option_map (problem_id_at s.problems) c.problem) ∷ or_null Text (option_map reference_id c.reply)
     ∷ Text c.text ∷ number c.time ∷ or_null Text c.key ∷ []

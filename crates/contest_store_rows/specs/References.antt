@@ -6,7 +6,7 @@ use Rattle.std.specs.Option.{option_and_then, option_map}
 use Rattle.std.specs.Str.{bytes_eq}
 use Rattle.std.specs.Str.Parse.{digits_value}
 use Rattle.contest_types.specs.declared.clarification.Addressee.{Addressee}
-use Rattle.contest_types.specs.declared.clarification.Addressee.TheVariants.{All as ToAll, Team as ToTeam}
+use Rattle.contest_types.specs.declared.clarification.Addressee.TheVariants.{All as ToAll, Group as ToGroup, Team as ToTeam}
 use Rattle.contest_types.specs.declared.clarification.Reference.{Reference}
 
 -- more than any number in an id
@@ -25,16 +25,17 @@ number_written text = if is_numeral text && nat_le (digits_value 10 text) larges
 abbrev pub dash_in : List ℕ → ℕ
 dash_in text = length (take_while (λ b. not (b == 45)) text)
 
--- the team with this number; teams count from 1
-abbrev pub team_numbered : ℕ → Option Addressee
-team_numbered n = if n == 0 then None else Some (ToTeam (n - 1))
+-- `c` and a number is a team, `g` and a number a group; both count from 1
+abbrev pub addressee_numbered : (letter n : ℕ) → Option Addressee
+addressee_numbered letter n =
+    if n == 0 then None else if letter == 99 then Some (ToTeam (n - 1)) else if letter == 103 then Some (ToGroup (n - 1)) else None
 
--- the addressee that a text names: `g` alone is all, `c<team number>` is that team, and nothing else is an addressee
+-- the addressee that a text names: `g` alone is all, `c<team number>` and `g<group number>` are these, and nothing else is an
+-- addressee
 abbrev pub addressee_named : List ℕ → Option Addressee
 addressee_named text =
     if bytes_eq text (codes "g") then Some ToAll
-    else if slice_index text 0 == 99 then option_and_then team_numbered (number_written (drop 1 text))
-    else None
+    else option_and_then (addressee_numbered (slice_index text 0)) (number_written (drop 1 text))
 
 -- `<addressee>-<number>`, and nothing else
 abbrev pub reference_of : List ℕ → Option Reference

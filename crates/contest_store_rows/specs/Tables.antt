@@ -13,10 +13,10 @@ use Rattle.contest_types.specs.declared.submission.Release.{Release}
 use Rattle.contest_types.specs.declared.submission.Submission.{Submission}
 use Rattle.contest_store_rows.specs.Cells.{number, numbered}
 use Rattle.contest_store_rows.specs.FixedRows.{desk_row, contest_row, items_rows, account_row}
-use Rattle.contest_store_rows.specs.ListRows.{clarification_row, member_row, members_rows, proposal_row, rejudging_row, release_row, state_number, submission_row}
+use Rattle.contest_store_rows.specs.ListRows.{clarification_row, first_clarification_row, member_row, members_rows, proposal_row, rejudging_row, release_row, state_number, submission_row}
 use Rattle.contest_store_rows.specs.declared.versions.TheConstants.{VERSION}
 use Rattle.contest_store_rows.specs.declared.versions.Version.{Version}
-use Rattle.contest_store_rows.specs.declared.versions.Version.TheVariants.{First}
+use Rattle.contest_store_rows.specs.declared.versions.Version.TheVariants.{First, Second}
 
 -- the rows of each table, in the order of its key
 pub record Tables : Type 0 where
@@ -30,10 +30,16 @@ pub record Tables : Type 0 where
   pub rejudgings : List Row
   pub members : List Row
   pub clarifications : List Row
+  pub notices : List Row
 
--- the table of clarifications, in each version of the schema
+-- the clarifications stand in a table of each version of the schema; that of the first is empty since the second
 abbrev pub clarifications_rows : Version → Setup → List Clarification → List Row
-clarifications_rows First s clarifications = numbered (clarification_row s) clarifications
+clarifications_rows First s clarifications = numbered (first_clarification_row s) clarifications
+clarifications_rows Second s clarifications = []
+
+abbrev pub notices_rows : Version → Setup → List Clarification → List Row
+notices_rows First s clarifications = []
+notices_rows Second s clarifications = numbered (clarification_row s) clarifications
 
 abbrev pub rows_in_version : Version → ContestState → Tables
 rows_in_version version x = record {
@@ -47,6 +53,7 @@ rows_in_version version x = record {
   rejudgings = numbered rejudging_row x.rejudgings;
   members = members_rows x.fixed.settings x.rejudgings;
   clarifications = clarifications_rows version x.fixed.settings x.clarifications;
+  notices = notices_rows version x.fixed.settings x.clarifications;
 }
 
 -- its rows in the version that is made today
@@ -64,7 +71,7 @@ abbrev pub ReleaseIsOneRow : Type 0
 ReleaseIsOneRow = (x : ContestState) (v : Release) → rows_of (add x (NewRelease v)) ≡ record (rows_of x) { releases = (rows_of x).releases ++ release_row x.fixed.settings (length x.releases + 1) v ∷ [] }
 
 abbrev pub ClarificationIsOneRow : Type 0
-ClarificationIsOneRow = (x : ContestState) (c : Clarification) → rows_of (add x (NewClarification c)) ≡ record (rows_of x) { clarifications = (rows_of x).clarifications ++ clarification_row x.fixed.settings (length x.clarifications + 1) c ∷ [] }
+ClarificationIsOneRow = (x : ContestState) (c : Clarification) → rows_of (add x (NewClarification c)) ≡ record (rows_of x) { notices = (rows_of x).notices ++ clarification_row x.fixed.settings (length x.clarifications + 1) c ∷ [] }
 
 -- one, and one for each of its members
 abbrev pub RejudgingIsItsRows : Type 0

@@ -11,7 +11,7 @@ ghost use Rattle.contest_types.specs.ProblemPlaces.{problem_id_at};
 ghost use Rattle.contest_types.specs.declared.objects.Problem.{Problem as TheProblem};
 ghost use Rattle.contest_store_rows.specs.Cells.{lent, number_of, same_row, text_of};
 ghost use Rattle.contest_store_rows.specs.Clarifications.{addressee_of, clarification_in, clarification_said, reply_if_any};
-ghost use Rattle.contest_store_rows.specs.ListRows.{audience_number, clarification_row, reference_id};
+ghost use Rattle.contest_store_rows.specs.ListRows.{audience_kind, audience_number, clarification_row, reference_id};
 ghost use Rattle.contest_store_rows.specs.Readings.{if_its_row, place_if_any};
 
 use crate::cells::{id_if_any, id_or_null, is_null, is_row, number, number_at, text_at};
@@ -29,7 +29,7 @@ pub fn clarification_cells<'a>(
     row: u64,
     clarification: &'a Clarification,
     reply: &'a ReplyId,
-) -> [ValueRef<'a>; 10]
+) -> [ValueRef<'a>; 11]
     requires row { row < 2 ^ 63 }
     requires audience { audience_number clarification.now.addressee < 2 ^ 63 }
     requires number { clarification.now.number < 2 ^ 63 }
@@ -38,6 +38,7 @@ pub fn clarification_cells<'a>(
 {
     [
         number(row),
+        number(audience_kind(clarification.addressee)),
         number(audience_number(clarification.addressee)),
         number(clarification.number as u64),
         number(clarification.from_jury as u64),
@@ -50,13 +51,23 @@ pub fn clarification_cells<'a>(
     ]
 }
 
+fn audience_kind(addressee: Addressee) -> u64
+    ensures { result ≡ audience_kind addressee }
+{
+    match addressee {
+        Addressee::All => 0,
+        Addressee::Team(_) => 1,
+        Addressee::Group(_) => 2,
+    }
+}
+
 fn audience_number(addressee: Addressee) -> u64
     requires { audience_number addressee < 2 ^ 63 }
     ensures { result ≡ audience_number addressee }
 {
     match addressee {
         Addressee::All => 0,
-        Addressee::Team(team) => team as u64 + 1,
+        Addressee::Team(place) | Addressee::Group(place) => place as u64 + 1,
     }
 }
 
@@ -69,13 +80,14 @@ fn problem_cell(settings: &Settings, problem: Option<usize>) -> ValueRef<'_>
     }
 }
 
-fn addressee_of(number: u64) -> Addressee
-    ensures { result ≡ addressee_of number }
+fn addressee_of(kind: u64, number: u64) -> Addressee
+    ensures { result ≡ addressee_of kind number }
 {
-    if number == 0 {
-        Addressee::All
-    } else {
-        Addressee::Team(number as usize - 1)
+    let place = (number as usize).saturating_sub(1);
+    match kind {
+        0 => Addressee::All,
+        1 => Addressee::Team(place),
+        _ => Addressee::Group(place),
     }
 }
 
@@ -128,30 +140,27 @@ fn clarification_said(
     ensures said { IfOk result (λ found. found ≡ clarification_said settings.now row.now) }
     ensures fits { IfOk result (λ found. IfSome found (λ c. (audience_number c.addressee < 2 ^ 63) × (c.number < 2 ^ 63))) }
 {
-    let Some(time) = Moment::from_milliseconds(number_at(row, 8)) else {
+    let Some(time) = Moment::from_milliseconds(number_at(row, 9)) else {
         return Ok(None);
     };
-    let Some(account) = id_at(alloc, row, 4)? else {
+    let Some(account) = id_at(alloc, row, 5)? else {
         return Ok(None);
     };
-    let Some(key) = id_if_any(alloc, row, 9)? else {
+    let Some(key) = id_if_any(alloc, row, 10)? else {
         return Ok(None);
     };
-    let Some(reply) = reply_if_any(row, 6) else {
+    let Some(reply) = reply_if_any(row, 7) else {
         return Ok(None);
     };
-    let Some(text) = message_at(alloc, row, 7)? else {
-        return Ok(None);
-    };
-    let Some(reply) = reply_if_any(row, 6) else {
+    let Some(text) = message_at(alloc, row, 8)? else {
         return Ok(None);
     };
     Ok(Some(Clarification {
-        addressee: addressee_of(number_at(row, 1)),
-        number: number_at(row, 2) as usize,
-        from_jury: number_at(row, 3) == 1,
+        addressee: addressee_of(number_at(row, 1), number_at(row, 2)),
+        number: number_at(row, 3) as usize,
+        from_jury: number_at(row, 4) == 1,
         account,
-        problem: problem_if_any(settings, row, 5),
+        problem: problem_if_any(settings, row, 6),
         reply,
         text,
         time,

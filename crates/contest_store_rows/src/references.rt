@@ -1,5 +1,5 @@
 //! The visible ids of clarifications, as cells and back.
-ghost use Rattle.std.specs.Prelude.{◌≡◌, ◌≤◌, ◌<◌, ◌+◌, ◌^◌, ◌++◌, drop, length};
+ghost use Rattle.std.specs.Prelude.{◌≡◌, ◌≤◌, ◌<◌, ◌+◌, ◌^◌, ◌++◌, IfSome, drop, length};
 ghost use Rattle.std.specs.Option.{option_map};
 ghost use Rattle.arrayvec.specs.ArrayString.{array_string_len};
 ghost use Rattle.sqlite_value.specs.Value.{owned};
@@ -7,7 +7,7 @@ ghost use Rattle.sqlite_value.specs.declared.value.Value.TheVariants.{Text};
 ghost use Rattle.sqlite.specs.Values.{or_null};
 ghost use Rattle.contest_types.specs.VisibleIds.{clarification_id};
 ghost use Rattle.contest_store_rows.specs.ListRows.{reference_id};
-ghost use Rattle.contest_store_rows.specs.References.{addressee_named, dash_in, largest, number_written, reference_of, team_numbered};
+ghost use Rattle.contest_store_rows.specs.References.{addressee_named, addressee_numbered, dash_in, largest, number_written, reference_of};
 
 use arrayvec::ArrayString;
 use contest_types::{Addressee, Reference, decimal_number};
@@ -66,6 +66,11 @@ fn reference_id(reference: Reference) -> ArrayString<ID>
     let mut id = ArrayString::new();
     match reference.addressee {
         Addressee::All => id.push_str("g-"),
+        Addressee::Group(group) => {
+            id.push_str("g");
+            push_number(&mut id, group as u128 + 1);
+            id.push_str("-");
+        }
         Addressee::Team(team) => {
             id.push_str("c");
             push_number(&mut id, team as u128 + 1);
@@ -100,30 +105,30 @@ pub(crate) fn reference_of(text: &[u8]) -> Option<Reference>
     }
 }
 
-// The addressee that a text names: `g` alone is all, `c<team number>` is that team.
+// The addressee that a text names: `g` alone is all, `c<team number>` and `g<group number>` are these.
 fn addressee_named(text: &[u8]) -> Option<Addressee>
     ensures { result ≡ addressee_named text.now }
 {
     if text == ALL.as_bytes() {
         return Some(Addressee::All);
     }
-    if text.is_empty() || text[0] != b'c' {
-        return None;
-    }
     match number_from(text, 1) {
-        Some(number) => team_numbered(number),
+        Some(number) => addressee_numbered(text[0], number),
         None => None,
     }
 }
 
-// The team with this number; teams count from 1.
-fn team_numbered(number: usize) -> Option<Addressee>
-    ensures { result ≡ team_numbered number }
+// The team or the group with this number; both count from 1.
+fn addressee_numbered(letter: u8, number: usize) -> Option<Addressee>
+    ensures { result ≡ addressee_numbered letter number }
 {
     if number == 0 {
-        None
-    } else {
-        Some(Addressee::Team(number - 1))
+        return None;
+    }
+    match letter {
+        b'c' => Some(Addressee::Team(number - 1)),
+        b'g' => Some(Addressee::Group(number - 1)),
+        _ => None,
     }
 }
 
@@ -141,7 +146,8 @@ fn dash_in(text: &[u8]) -> usize
 
 // The number that a text writes from a place on, if it writes one.
 fn number_from(text: &[u8], at: usize) -> Option<usize>
-    ensures { result ≡ number_written (drop at text.now) }
+    ensures value { result ≡ number_written (drop at text.now) }
+    ensures within { IfSome result (λ n. at < length text.now) }
 {
     if at >= text.len() {
         return None;

@@ -5,12 +5,14 @@ ghost use Rattle.contest_store_rows.specs.FixedRows.{version_number};
 /// A version of the schema.
 #[derive(Clone, Copy, PartialEq, Eq)]
 pub enum Version {
-    /// The first.
+    /// The first, in which a clarification went to a team or to all.
     First,
+    /// The second, in which clarifications stand in a table of their own, the notices.
+    Second,
 }
 
 /// The version of the tables that are made, and of those that are read.
-pub const VERSION: Version = Version::First;
+pub const VERSION: Version = Version::Second;
 
 impl Version {
     /// The version's number, which the tables keep.
@@ -20,6 +22,7 @@ impl Version {
     {
         match self {
             Version::First => 1,
+            Version::Second => 2,
         }
     }
 }

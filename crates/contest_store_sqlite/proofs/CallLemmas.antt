@@ -2,6 +2,7 @@
 use Rattle.std.proofs.Common.{Result, Ok, Err, subst, arith}
 use Rattle.std.specs.Prelude.{OnErr, OnOk}
 use Rattle.sqlite.specs.State.{HasCleanDisk, State}
+use Rattle.sqlite.specs.Tree.{Trees}
 use Rattle.sqlite.proofs.StateLemmas.{survives_then, survives_weaker}
 use Rattle.contest_store.specs.declared.store_error.StoreError.{StoreError}
 use Rattle.contest_store_tables.specs.Counts.{CountsCall}
@@ -56,3 +57,11 @@ module _ {T U : Type 0} (old mid new : State) (b m a : Counts) (From Next To : H
       up = λ _ _. tt;
       back = one.back;
     }
+
+-- a refusal is one whatever would have been answered
+pub call_refuses : {T U : Type 0} (e : StoreError) (old new : State) (b a : Counts) (From To : Holding) (Made : Trees → Type 0) → Call {T = T} (Err e) old new b a From To Made → Call {T = U} (Err e) old new b a From To Made
+call_refuses e old new b a From To Made one = record {
+  step = record { ok = λ _ _ _ _. tt; err = one.step.err; counts = one.step.counts; survives = one.step.survives };
+  up = λ _ _. tt;
+  back = one.back;
+}

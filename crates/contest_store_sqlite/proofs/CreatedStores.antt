@@ -1,5 +1,5 @@
 -- What contracts see of a store that was created.
-use Rattle.std.proofs.Common.{◌≡◌, ◌∙◌, ◌⊎◌, inl, inr, ℕ, Bool, false, Some, IsTrue, ap, subst, sym}
+use Rattle.std.proofs.Common.{◌≡◌, ◌∙◌, ◌⊎◌, inl, inr, ℕ, Bool, false, Some, IsTrue, ap, refl, subst, sym}
 use Rattle.sqlite.specs.State.{HasCleanDisk, State}
 use Rattle.contest_types.specs.State.{ContestState, new_contest}
 use Rattle.contest_types.specs.declared.contest.Contest.{Contest}
@@ -15,7 +15,9 @@ use Rattle.contest_store.specs.declared.store_error.StoreError.TheVariants.{Faul
 use Rattle.contest_store_tables.specs.Connected.{IsBare}
 use Rattle.contest_store_tables.specs.declared.counts.Counts.{Counts}
 use Rattle.contest_store_sqlite.specs.Contests.{contest_of, HoldsContests}
-use Rattle.contest_store_sqlite.specs.Creation.{Created, IsMade, IsOfStore, IsReadEqual, KeepsLists, LeavesWhole, StoodEqual, StoodOther}
+use Rattle.contest_store_sqlite.specs.Creation.{Created, IsMade, IsOfOpen, IsReadEqual, KeepsLists, LeavesWhole, StoodEqual, StoodOther, open_refusal}
+use Rattle.contest_store_sqlite.specs.declared.open_error.OpenError.{OpenError}
+use Rattle.contest_store_sqlite.specs.declared.open_error.OpenError.TheVariants as open_error
 use Rattle.contest_store_sqlite.specs.Keeping.{kept_of, StaysCommitted, StaysHeld, StaysKept}
 use Rattle.contest_store_sqlite.specs.Opening.{HasDesk, ShowsValid}
 use Rattle.contest_store_sqlite.proofs.ShownContests.{both_are, contest_is, has_desk, keeps, shows}
@@ -80,34 +82,46 @@ pub either_desk : (x : ContestState) (head : ContestHead) (old new : State) (lis
 either_desk x head old new lists either = let t = shows_theirs x head old new lists either in has_desk new t.contest t.contest t.holds
 
 -- what the store failed with isn't told as another contest
-not_reused : (e : StoreError) → refusal_of e ≡ KeyReused → ⊥
-not_reused Fault is = cc
-not_reused Memory is = cc
+not_reused : (e : OpenError) → open_refusal e ≡ KeyReused → ⊥
+not_reused (open_error.Store Fault) is = cc
+not_reused (open_error.Store Memory) is = cc
+not_reused open_error.OldSchema is = cc
 
 -- nor as a contest that can't be set up
-not_malformed : (e : StoreError) → refusal_of e ≡ refusal.Malformed → ⊥
-not_malformed Fault is = cc
-not_malformed Memory is = cc
+not_malformed : (e : OpenError) → open_refusal e ≡ refusal.Malformed → ⊥
+not_malformed (open_error.Store Fault) is = cc
+not_malformed (open_error.Store Memory) is = cc
+not_malformed open_error.OldSchema is = cc
+
+-- nor as the first schema
+not_old : (e : StoreError) → refusal_of e ≡ refusal.OldSchema → ⊥
+not_old Fault is = cc
+not_old Memory is = cc
+
+-- what is refused as the first schema was found to be that
+pub is_old : (e : OpenError) → open_refusal e ≡ refusal.OldSchema → e ≡ open_error.OldSchema
+is_old (open_error.Store e) is = absurd (not_old e is)
+is_old open_error.OldSchema is = refl
 
 -- what stood wasn't changed where another contest stood, and nothing was touched where the given one can't be set up
-pub keeps_lists : (old new : State) (given : Refusal) → IsOfStore given ⊎ (given ≡ KeyReused) → (given ≡ KeyReused → KeepsLists old new)
+pub keeps_lists : (old new : State) (given : Refusal) → IsOfOpen given ⊎ (given ≡ KeyReused) → (given ≡ KeyReused → KeepsLists old new)
     → (given ≡ KeyReused) ⊎ (given ≡ refusal.Malformed) → KeepsLists old new
-keeps_lists old new given kind keeps (inl reused) = keeps reused
-keeps_lists old new given (inl failed) keeps (inr malformed) = absurd (not_malformed failed.0 (sym failed.1 ∙ malformed))
-keeps_lists old new given (inr reused) keeps (inr malformed) = keeps reused
+keeps_lists old new given kind stood (inl reused) = stood reused
+keeps_lists old new given (inl failed) stood (inr malformed) = absurd (not_malformed failed.0 (sym failed.1 ∙ malformed))
+keeps_lists old new given (inr reused) stood (inr malformed) = stood reused
 
 -- what is told of a contest that wasn't made
-pub told : (given : Refusal) → IsOfStore given ⊎ (given ≡ KeyReused) → (given ≡ refusal.Malformed) ⊎ ((given ≡ KeyReused) ⊎ IsOfStore given)
+pub told : (given : Refusal) → IsOfOpen given ⊎ (given ≡ KeyReused) → (given ≡ refusal.Malformed) ⊎ ((given ≡ KeyReused) ⊎ IsOfOpen given)
 told given (inl failed) = inr (inr failed)
 told given (inr reused) = inr (inl reused)
 
 -- what isn't set up is malformed, or wants memory
 pub not_set_up : (given : Refusal) (P : Type 0) → (given ≡ refusal.Memory) ⊎ ((given ≡ refusal.Malformed) × P)
-    → (given ≡ refusal.Malformed) ⊎ ((given ≡ KeyReused) ⊎ IsOfStore given)
-not_set_up given P (inl is) = inr (inr (Memory, is))
+    → (given ≡ refusal.Malformed) ⊎ ((given ≡ KeyReused) ⊎ IsOfOpen given)
+not_set_up given P (inl is) = inr (inr (open_error.Store Memory, is))
 not_set_up given P (inr is) = inl is.0
 
 pub stood_other : (head given : ContestHead) (old new : State) (refusal : Refusal) → head ≡ given
-    → IsOfStore refusal ⊎ ((refusal ≡ KeyReused) × StoodOther head old new) → refusal ≡ KeyReused → StoodOther given old new
+    → IsOfOpen refusal ⊎ ((refusal ≡ KeyReused) × StoodOther head old new) → refusal ≡ KeyReused → StoodOther given old new
 stood_other head given old new refusal same (inl failed) is = absurd (not_reused failed.0 (sym failed.1 ∙ is))
 stood_other head given old new refusal same (inr other) is = subst (λ h. StoodOther h old new) same other.1

@@ -8,7 +8,8 @@ use Rattle.contest_types.specs.State.{ContestState}
 use Rattle.contest_types.specs.declared.limits.TheConstants.{LAST_MOMENT}
 use Rattle.contest_types.specs.declared.submission.Submission.{Submission}
 use Rattle.contest_store_rows.specs.Cells.{number_of}
-use Rattle.contest_store_rows.specs.Clarifications.{clarification_in}
+use Rattle.contest_store_rows.specs.Clarifications.{clarifications_in}
+use Rattle.contest_store_rows.specs.declared.versions.Version.{Version}
 use Rattle.contest_store_rows.specs.Lists.{list_in}
 use Rattle.contest_store_rows.specs.Proposals.{proposal_in}
 use Rattle.contest_store_rows.specs.Readings.{id_if_any, name_if_any}
@@ -18,7 +19,7 @@ use Rattle.contest_store_rows.specs.Submissions.{is_submission_row, submission_i
 use Rattle.contest_store_rows.specs.Tables.{Tables}
 use Rattle.contest_store_fixed_rows.specs.FixedParts.{fixed_in}
 use Rattle.contest_store_fixed_rows.proofs.OptionSteps.{bound, where_true}
-use Rattle.contest_store_fixed_rows.specs.Spelling.{lists_in, with_clarifications_in, with_lists_in, with_proposals_in, with_rejudgings_in, with_releases_in, with_submissions_in, without_rows}
+use Rattle.contest_store_fixed_rows.specs.Spelling.{lists_in_version, with_clarifications_in, with_lists_in, with_proposals_in, with_rejudgings_in, with_releases_in, with_submissions_in, without_rows}
 use Rattle.contest_store_changes.proofs.ReadCells.{made, of_found}
 use Rattle.contest_store_changes.proofs.ReadRows.{each_read}
 
@@ -49,18 +50,18 @@ with_proposals t x y all is = (let m = made (λ rows. record x { proposals = row
 with_releases : (t : Tables) (x y : ContestState) → AreFileless x → with_releases_in t x ≡ Some y → AreFileless y
 with_releases t x y all is = (let m = made (λ rows. record x { releases = rows }) (list_in (release_in x.fixed.settings) t.releases) y is in subst AreFileless m.whole all)
 
-with_clarifications : (t : Tables) (x y : ContestState) → AreFileless x → with_clarifications_in t x ≡ Some y → AreFileless y
-with_clarifications t x y all is =
-    (let m = made (λ rows. record x { clarifications = rows }) (list_in (clarification_in x.fixed.settings) t.clarifications) y is in subst AreFileless m.whole all)
+with_clarifications : (version : Version) (t : Tables) (x y : ContestState) → AreFileless x → with_clarifications_in version t x ≡ Some y → AreFileless y
+with_clarifications version t x y all is =
+    (let m = made (λ rows. record x { clarifications = rows }) (clarifications_in version x.fixed.settings t.clarifications t.notices) y is in subst AreFileless m.whole all)
 
 with_rejudgings : (t : Tables) (x y : ContestState) → AreFileless x → with_rejudgings_in t x ≡ Some y → AreFileless y
 with_rejudgings t x y all is = (let m = made (λ rows. record x { rejudgings = rows }) (rejudgings_in x.fixed.settings t.rejudgings t.members) y is in subst AreFileless m.whole all)
 
-pub lists_fileless : (t : Tables) (x : ContestState) → lists_in t ≡ Some x → AllByRecursion HasNoFile x.submissions
-lists_fileless t x is =
-    let f = bound (λ f. with_lists_in t (without_rows f)) (fixed_in t.desk t.contest t.items t.accounts) x is in
+pub lists_fileless : (version : Version) (t : Tables) (x : ContestState) → lists_in_version version t ≡ Some x → AllByRecursion HasNoFile x.submissions
+lists_fileless version t x is =
+    let f = bound (λ f. with_lists_in version t (without_rows f)) (fixed_in version t.desk t.contest t.items t.accounts) x is in
     let e = bound (with_rejudgings_in t) _ x f.next_is in
-    let d = bound (with_clarifications_in t) _ e.x e.first_is in
+    let d = bound (with_clarifications_in version t) _ e.x e.first_is in
     let c = bound (with_releases_in t) _ d.x d.first_is in
     let b = bound (with_proposals_in t) (with_submissions_in t (without_rows f.x)) c.x c.first_is in
-    with_rejudgings t e.x x (with_clarifications t d.x e.x (with_releases t c.x d.x (with_proposals t b.x c.x (with_submissions t (without_rows f.x) b.x b.first_is) b.next_is) c.next_is) d.next_is) e.next_is
+    with_rejudgings t e.x x (with_clarifications version t d.x e.x (with_releases t c.x d.x (with_proposals t b.x c.x (with_submissions t (without_rows f.x) b.x b.first_is) b.next_is) c.next_is) d.next_is) e.next_is

@@ -16,14 +16,15 @@ use Rattle.contest_types.specs.declared.submission.Submission.{Submission}
 use Rattle.contest_lists.specs.Lists.{loaded}
 use Rattle.contest_store_rows.specs.Cells.{number_of}
 use Rattle.contest_store_rows.specs.ListRows.{loaded_submission_row}
+use Rattle.contest_store_rows.specs.declared.versions.Version.{Version}
 use Rattle.contest_store_fixed_rows.specs.SpellingLaws.{AreSubmissionRows}
-use Rattle.contest_store_fixed_rows.specs.Spelling.{lists_in}
+use Rattle.contest_store_fixed_rows.specs.Spelling.{lists_in_version}
 use Rattle.contest_store_fixed_rows.proofs.SpellingLaws.{contests_write_back}
 use Rattle.contest_store_tables.specs.Statements.{loaded_row}
 use Rattle.contest_store_tables.specs.Tables.{TableRows}
 use Rattle.contest_store_tables.specs.declared.table_name.TableName.TheVariants.{Submissions}
 use Rattle.contest_store_valid.specs.Files.{has_small_files}
-use Rattle.contest_store_changes.specs.ContestTables.{file_in, if_valid, loaded_tables, valid_listed_in, with_file, with_files}
+use Rattle.contest_store_changes.specs.ContestTables.{file_in, if_valid, loaded_tables, valid_listed_in_version, with_file, with_files}
 use Rattle.contest_store_changes.proofs.FiledRows.{blob_is}
 use Rattle.contest_store_sqlite.proofs.FilelessLists.{HasNoFile, lists_fileless}
 
@@ -53,17 +54,17 @@ small_files s n (x ∷ xs) (r ∷ rows) are =
     ap₂ ◌&&◌ (small (length (file_in r)) POSTED_FILE (subst (λ size. size ≤ POSTED_FILE) (sym (size_is s n are.0.0 x r are.0.2)) are.0.1)) (small_files s (n + 1) xs rows are.1)
 
 -- the contest that was found
-pub record Found (rows : TableRows) (lists : ContestState) : Type 0 where
+pub record Found (version : Version) (rows : TableRows) (lists : ContestState) : Type 0 where
   pub contest : ContestState
-  pub read : valid_listed_in rows ≡ Some contest
+  pub read : valid_listed_in_version version rows ≡ Some contest
   pub valid : is_valid contest ≡ true
   pub held : loaded contest ≡ lists
 
-pub found : (rows : TableRows) (lists : ContestState) → lists_in (loaded_tables rows) ≡ Some lists → ((x : ContestState) → loaded x ≡ lists → (true && has_small_files x) ≡ is_valid x) → Found rows lists
-found rows lists is valid =
+pub found : (version : Version) (rows : TableRows) (lists : ContestState) → lists_in_version version (loaded_tables rows) ≡ Some lists → ((x : ContestState) → loaded x ≡ lists → (true && has_small_files x) ≡ is_valid x) → Found version rows lists
+found version rows lists is valid =
     let x = with_files (rows Submissions) lists in
-    let are = (contests_write_back (loaded_tables rows) lists is).submissions in
-    let held : loaded x ≡ lists = ap (λ submissions. record lists { submissions = submissions }) (fileless_back lists.fixed.settings 1 lists.submissions (rows Submissions) are (lists_fileless (loaded_tables rows) lists is)) in
+    let are = (contests_write_back version (loaded_tables rows) lists is).submissions in
+    let held : loaded x ≡ lists = ap (λ submissions. record lists { submissions = submissions }) (fileless_back lists.fixed.settings 1 lists.submissions (rows Submissions) are (lists_fileless version (loaded_tables rows) lists is)) in
     let whole : is_valid x ≡ true = sym (valid x held) ∙ small_files lists.fixed.settings 1 lists.submissions (rows Submissions) are in
     record {
       contest = x;

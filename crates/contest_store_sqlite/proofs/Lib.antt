@@ -20,3 +20,4 @@ pub mod MadeRows
 pub mod MadeContests
 pub mod CreatedStores
 pub mod ScoredAdditions
+pub mod UpgradedContests

@@ -9,7 +9,7 @@ use Rattle.contest_store_cells.specs.CellRows.{cell_rows}
 use Rattle.contest_store_cells.proofs.CellOrder.{is_placed}
 use Rattle.contest_store_tables.specs.Steps.{Content, Holds, Showing}
 use Rattle.contest_store_tables.specs.Tables.{TableRows}
-use Rattle.contest_store_tables.specs.declared.table_name.TableName.TheVariants.{Desk, Contest, Items, Accounts, Submissions, Proposals, Releases, Rejudgings, Members, Clarifications, Cells}
+use Rattle.contest_store_tables.specs.declared.table_name.TableName.TheVariants.{Desk, Contest, Items, Accounts, Submissions, Proposals, Releases, Rejudgings, Members, Clarifications, Cells, Notices}
 use Rattle.contest_store_changes.specs.ContestTables.{loaded_tables, table_rows}
 use Rattle.contest_store_changes.specs.Sound.{IsSound}
 use Rattle.contest_store_changes.proofs.CellRowsKept.{cells_rise}
@@ -29,6 +29,7 @@ sound_rises x h Rejudgings = rises x h.by_id Rejudgings
 sound_rises x h Members = rises x h.by_id Members
 sound_rises x h Clarifications = rises x h.by_id Clarifications
 sound_rises x h Cells = cells_rise x (is_placed x h.valid)
+sound_rises x h Notices = rises x h.by_id Notices
 
 pub sound_is_read : (x : ContestState) → IsSound x → lists_in (loaded_tables (table_rows x)) ≡ Some (loaded x)
 sound_is_read x h = ap lists_in (tables_loaded (cell_rows x) x) ∙ contests_read_back x h.writable

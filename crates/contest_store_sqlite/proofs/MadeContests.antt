@@ -1,15 +1,20 @@
 -- A contest that is made where no table stood, and committed.
-use Rattle.std.proofs.Common.{◌≡◌, ◌∙◌, inl, inr, false, [], Result, Ok, Err, IsTrue, ap, refl, subst, sym, arith}
+use Rattle.std.proofs.Common.{◌≡◌, ◌∙◌, ◌∷◌, ◌⊎◌, inl, inr, false, [], List, Result, Ok, Err, IsTrue, ap, refl, subst, sym, arith}
+use Rattle.sqlite.specs.Schema.{Schema}
 use Rattle.sqlite.specs.State.{HasCleanDisk, State}
 use Rattle.sqlite.proofs.StateLemmas.{survives_then, survives_weaker}
 use Rattle.contest_types.specs.State.{ContestState, FixedPart}
 use Rattle.contest_types.specs.declared.contest.ContestHead.{ContestHead}
 use Rattle.contest_store.specs.declared.store_error.StoreError.{StoreError}
 use Rattle.contest_store_fixed_rows.specs.Spelling.{without_rows}
-use Rattle.contest_store_tables.specs.Connected.{IsAtRest, IsBare}
+use Rattle.contest_store_tables.specs.Connected.{IsAtRest, IsBare, IsLacking, IsOfDesk}
 use Rattle.contest_store_tables.specs.Counts.{CountsCall}
 use Rattle.contest_store_tables.specs.Steps.{Call, Content, Ended, HasFirst, Holds, MakesNone, MakesNow, OnlyMade, Showing, Undoes, Within}
 use Rattle.contest_store_tables.specs.declared.counts.Counts.{Counts}
+use Rattle.contest_store_tables.specs.declared.later_table.LaterTable.{LaterTable}
+use Rattle.contest_store_tables.specs.declared.later_table.LaterTable.TheVariants.{Cells, Notices}
+use Rattle.contest_store_tables.specs.declared.standing.Standing.{Standing}
+use Rattle.contest_store_tables.specs.declared.standing.Standing.TheVariants as standings
 use Rattle.contest_store_tables.proofs.HoldLemmas.{bare_holds, on_err}
 use Rattle.contest_store_sqlite.proofs.CallLemmas.{any_err, any_ok}
 use Rattle.contest_store_changes.specs.ContestTables.{table_rows}
@@ -115,3 +120,15 @@ is_equal old new head lists stood read same survives = record {
   equal = ap (λ (x : ContestState). x.fixed.settings.head) (sym read.held) ∙ same;
   survives = survives;
 }
+
+no_table : {T : Type 0} (one : T) (more : List T) → one ∷ more ≡ [] → ⊥
+no_table one more is = cc
+
+-- where the tables of a desk, all or some, or others stand there are some
+pub not_bare : (s : State) (standing : Standing) → (standing ≡ standings.Desk → IsOfDesk s) → ((table : LaterTable) → standing ≡ standings.Lacking table → IsLacking table s)
+    → (standing ≡ standings.Foreign → (¬ IsOfDesk s) × ((table : LaterTable) → ¬ IsLacking table s) × (¬ IsBare s))
+    → (standing ≡ standings.Desk) ⊎ (((table : LaterTable) × standing ≡ standings.Lacking table) ⊎ (standing ≡ standings.Foreign)) → ¬ IsBare s
+not_bare s standing desk lacking foreign (inl is) bare = no_table _ _ (sym (ap (λ (x : Schema). x.tables) (desk is)) ∙ ap (λ (x : Schema). x.tables) bare)
+not_bare s standing desk lacking foreign (inr (inl (Cells, is))) bare = no_table _ _ (sym (ap (λ (x : Schema). x.tables) (lacking Cells is)) ∙ ap (λ (x : Schema). x.tables) bare)
+not_bare s standing desk lacking foreign (inr (inl (Notices, is))) bare = no_table _ _ (sym (ap (λ (x : Schema). x.tables) (lacking Notices is)) ∙ ap (λ (x : Schema). x.tables) bare)
+not_bare s standing desk lacking foreign (inr (inr is)) bare = (foreign is).2 bare

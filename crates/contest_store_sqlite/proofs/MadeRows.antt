@@ -55,7 +55,7 @@ HasDesk s now kept = Within s (Showing with_desk) kept
 both_rows : (f : FixedPart) → HasHeadAlone f → with_rows Contest (contest_row f ∷ []) with_desk ≡ table_rows (without_rows f)
 both_rows f alone =
     same_tables (with_rows Contest (contest_row f ∷ []) with_desk) (table_rows (without_rows f)) refl refl
-    (sym (ap items_rows alone.settings)) (sym (ap (map (account_row f.settings)) alone.accounts)) refl refl refl refl refl refl refl
+    (sym (ap items_rows alone.settings)) (sym (ap (map (account_row f.settings)) alone.accounts)) refl refl refl refl refl refl refl refl
 
 module _ (old mid : State) (b m : Counts) (desk : List ValueRef) (is : lent desk ≡ desk_row VERSION) where
   starts : (now kept : Content) → HasNoRow old now kept → Full old now kept × (HasInserted Desk (bound desk) mid now kept → HasDesk mid now kept)

@@ -1,5 +1,5 @@
 -- What is found where the tables of a desk are read.
-use Rattle.std.proofs.Common.{◌≡◌, ◌∙◌, Bool, true, false, Option, Result, Ok, Err, Some, IsTrue, IfOk, inl, inr, refl, sym, ap, subst, arith}
+use Rattle.std.proofs.Common.{◌≡◌, ◌∙◌, Bool, true, false, Option, Result, Ok, Err, Some, IsTrue, IfOk, refl, sym, ap, subst, arith}
 use Rattle.std.specs.Prelude.{◌&&◌, IfSome, OnOk}
 use Rattle.std.specs.List.{AllByRecursion}
 use Rattle.sqlite.specs.Effect.{IsDatabase}
@@ -10,14 +10,15 @@ use Rattle.contest_types.specs.State.{ContestState}
 use Rattle.contest_types.specs.Valid.{is_valid}
 use Rattle.contest_lists.specs.Lists.{loaded}
 use Rattle.contest_store.specs.declared.store_error.StoreError.{StoreError}
-use Rattle.contest_store_fixed_rows.specs.Spelling.{lists_in}
+use Rattle.contest_store_fixed_rows.specs.Spelling.{lists_in_version}
+use Rattle.contest_store_rows.specs.declared.versions.TheConstants.{VERSION}
 use Rattle.contest_store_cells.specs.CellRows.{cell_rows}
-use Rattle.contest_store_tables.specs.Connected.{IsAtRest, IsOfDesk, IsOfOlderDesk}
+use Rattle.contest_store_tables.specs.Connected.{IsAtRest, IsOfDesk}
 use Rattle.contest_store_tables.specs.Numbered.{IsNumbered}
-use Rattle.contest_store_tables.specs.Steps.{Call, Content, Holds, IsLive, MakesNone, Showing, WithoutCells, with_rows}
-use Rattle.contest_store_tables.specs.Tables.{TableRows, rows_in, without_cells}
-use Rattle.contest_store_tables.proofs.HoldLemmas.{desk_holds, older_holds}
-use Rattle.contest_store_tables.proofs.SoundRows.{older_rises_in, rises_in}
+use Rattle.contest_store_tables.specs.Steps.{Call, Content, Full, Holds, IsLive, MakesNone, Showing, with_rows}
+use Rattle.contest_store_tables.specs.Tables.{TableRows, rows_in}
+use Rattle.contest_store_tables.proofs.HoldLemmas.{desk_holds}
+use Rattle.contest_store_tables.proofs.SoundRows.{rises_in}
 use Rattle.contest_store_tables.specs.declared.counts.Counts.{Counts}
 use Rattle.contest_store_tables.specs.declared.table_name.TableName.TheVariants.{Accounts, Submissions, Cells}
 use Rattle.contest_store_valid.specs.Files.{has_small_files}
@@ -30,34 +31,34 @@ use Rattle.contest_store_changes.proofs.WideRows.{shown_are_wide}
 use Rattle.contest_store_sqlite.specs.Contests.{listed_in_trees}
 use Rattle.contest_store_sqlite.specs.Creation.{KeepsLists}
 use Rattle.contest_store_sqlite.specs.Loading.{AllRise}
-use Rattle.contest_store_sqlite.specs.Opening.{HasDeskTables, IsRead}
+use Rattle.contest_store_sqlite.specs.Opening.{IsRead}
 use Rattle.contest_store_sqlite.specs.Settling.{Keeps, MakesRight, MakesRightOfTables, ReadsTables, Rising}
-use Rattle.contest_store_sqlite.specs.Steps.{HasTables, HoldsTables, content_of}
+use Rattle.contest_store_sqlite.specs.Steps.{HoldsDesk}
 use Rattle.contest_store_sqlite.proofs.FoundContests.{Found, found}
 use Rattle.contest_store_sqlite.proofs.ShownContests.{shown_is}
 
-not_live : {P : Type 0} (b : Bool) → b ≡ false → IsTrue b → P
+pub not_live : {P : Type 0} (b : Bool) → b ≡ false → IsTrue b → P
 not_live true is up = absurd (cc is)
 not_live false is up = absurd (cc up)
 
 -- lists that were read in a transaction, and whose cells were settled and committed
-module _ {T : Type 0} (x : T) (is_older : Bool) (old mid new : State) (b m : Counts) (lists : ContestState)
-    (one : Call (Ok x) old mid b m (HoldsTables is_older) (HasTables is_older) (MakesNone old (HoldsTables is_older)))
-    (are : HasCleanDisk mid → (rows : TableRows) (kept : Content) → Holds old (content_of is_older rows) kept → AllRise rows → lists_in (loaded_tables rows) ≡ Some lists)
+module _ {T : Type 0} (x : T) (old mid new : State) (b m : Counts) (lists : ContestState)
+    (one : Call (Ok x) old mid b m HoldsDesk Full (MakesNone old HoldsDesk))
+    (are : HasCleanDisk mid → (rows : TableRows) (kept : Content) → Holds old (Showing rows) kept → AllRise rows → lists_in_version VERSION (loaded_tables rows) ≡ Some lists)
     (valid : (y : ContestState) → loaded y ≡ lists → (true && has_small_files y) ≡ is_valid y) (survives : Survives mid new (MakesRight lists mid)) where
   early : HasCleanDisk new → HasCleanDisk mid
   early clean = omega (arith, clean, survives.clean)
 
-  its : HasCleanDisk mid → (rows : TableRows) (kept : Content) → Holds old (content_of is_older rows) kept → AllRise rows → Found rows lists
-  its clean rows kept holds up = found rows lists (are clean rows kept holds up) valid
+  its : HasCleanDisk mid → (rows : TableRows) (kept : Content) → Holds old (Showing rows) kept → AllRise rows → Found VERSION rows lists
+  its clean rows kept holds up = found VERSION rows lists (are clean rows kept holds up) valid
 
-  rising : (clean : HasCleanDisk mid) (rows : TableRows) (kept : Content) → (holds : Holds old (content_of is_older rows) kept) → (up : AllRise rows) → Rising lists mid (Showing rows) kept
+  rising : (clean : HasCleanDisk mid) (rows : TableRows) (kept : Content) → (holds : Holds old (Showing rows) kept) → (up : AllRise rows) → Rising lists mid (Showing rows) kept
   rising clean rows kept holds up =
       let f = its clean rows kept holds up in
       record {
         rows = rows;
         shown = refl;
-        within = one.step.ok clean (content_of is_older rows) kept (holds, (rows, refl)) rows refl;
+        within = (one.step.ok clean (Showing rows) kept (holds, (rows, refl))).0;
         rises = up Cells;
         contest = f.contest;
         valid = f.valid;
@@ -68,18 +69,18 @@ module _ {T : Type 0} (x : T) (is_older : Bool) (old mid new : State) (b m : Cou
   if_kept (Ok kept) Q same p f = f p kept same
   if_kept (Err e) Q same p f = tt
 
-  pub reads_tables : (r : Result ContestState StoreError) → IfOk r (λ kept. kept ≡ lists) → Keeps r lists mid new → ReadsTables r is_older old new
+  pub reads_tables : (r : Result ContestState StoreError) → IfOk r (λ kept. kept ≡ lists) → Keeps r lists mid new → ReadsTables r old new
   unfolding its rising
   reads_tables r same keeps clean rows kept holds up =
       let h = rising (early clean) rows kept holds up in
       let f = its (early clean) rows kept holds up in
       if_kept r _ same (keeps clean (Showing rows) kept h) (λ done own is. (f.contest, f.read, is ∙ sym f.held, done))
 
-  pub makes_right : Survives old new (MakesRightOfTables is_older old)
+  pub makes_right : Survives old new (MakesRightOfTables old)
   unfolding its rising
   makes_right =
-      survives_then old mid new _ (MakesRight lists mid) (MakesRightOfTables is_older old)
-      (λ _ db none. (none.0, λ rows kept holds up. absurd (none.1 (content_of is_older rows) kept (holds, (rows, refl)))))
+      survives_then old mid new _ (MakesRight lists mid) (MakesRightOfTables old)
+      (λ _ db none. (none.0, λ rows kept holds up. absurd (none.1 (Showing rows) kept (holds, (rows, refl)))))
       (λ clean db made. (
         one.up (early clean),
         λ rows kept holds up.
@@ -94,18 +95,18 @@ pub are_valid : (found : Option ContestState) (lists : ContestState) → found �
 are_valid found lists is valid = subst (λ o. IfSome o (λ own. (y : ContestState) → loaded y ≡ own → (true && has_small_files y) ≡ is_valid y)) is valid
 
 -- where no valid contest was found nothing is made
-pub makes_none : (is_older : Bool) (old new : State) → Survives old new (λ db. (IsLive old → IsTrue old.is_open) × MakesNone old (HoldsTables is_older) db) → Survives old new (MakesRightOfTables is_older old)
-makes_none is_older old new survives =
-    survives_weaker old new _ _ (λ _ db none. (none.0, λ rows kept holds up. absurd (none.1 (content_of is_older rows) kept (holds, (rows, refl))))) survives
+pub makes_none : (old new : State) → Survives old new (λ db. (IsLive old → IsTrue old.is_open) × MakesNone old HoldsDesk db) → Survives old new (MakesRightOfTables old)
+makes_none old new survives =
+    survives_weaker old new _ _ (λ _ db none. (none.0, λ rows kept holds up. absurd (none.1 (Showing rows) kept (holds, (rows, refl))))) survives
 
-pub makes_none_then : (is_older : Bool) (old mid new : State) → Survives old mid (λ db. (IsLive old → IsTrue old.is_open) × MakesNone old (HoldsTables is_older) db) → Survives mid new (λ _. ⊥)
-    → Survives old new (MakesRightOfTables is_older old)
-makes_none_then is_older old mid new one two =
-    makes_none is_older old new (survives_then old mid new _ (λ _. ⊥) _ (λ _ db none. none) (λ clean db none. absurd none) one two)
+pub makes_none_then : (old mid new : State) → Survives old mid (λ db. (IsLive old → IsTrue old.is_open) × MakesNone old HoldsDesk db) → Survives mid new (λ _. ⊥)
+    → Survives old new (MakesRightOfTables old)
+makes_none_then old mid new one two =
+    makes_none old new (survives_then old mid new _ (λ _. ⊥) _ (λ _ db none. none) (λ clean db none. absurd none) one two)
 
 -- where the tables of a desk stand outside of a transaction
-module _ (old : State) (is_older : Bool) (rows : TableRows) (desk : HasDeskTables old) (outside : old.in_transaction ≡ false) (listed : listed_in_trees old.now.trees ≡ valid_listed_in rows)
-    (holds : HasCleanDisk old → IsTrue old.is_open → Holds old (content_of is_older rows) (content_of is_older rows)) (rises : HasCleanDisk old → IsTrue old.is_open → AllRise rows)
+module _ (old : State) (rows : TableRows) (desk : IsOfDesk old) (outside : old.in_transaction ≡ false) (listed : listed_in_trees old.now.trees ≡ valid_listed_in rows)
+    (holds : HasCleanDisk old → IsTrue old.is_open → Holds old (Showing rows) (Showing rows)) (rises : HasCleanDisk old → IsTrue old.is_open → AllRise rows)
     (wide : AllByRecursion (IsWide Submissions) (rows Submissions)) where
   -- the rows of the contest that they show, with its cells
   whole : (x : ContestState) → AllRise rows → valid_listed_in rows ≡ Some x → IsSound x × (with_rows Cells (cell_rows x) rows ≡ table_rows x)
@@ -113,13 +114,13 @@ module _ (old : State) (is_older : Bool) (rows : TableRows) (desk : HasDeskTable
       let own = listed_sound rows x (up Accounts) wide read in
       (own.0, ap (with_rows Cells (cell_rows x)) (sym own.1) ∙ put_twice Cells (rows Cells) (cell_rows x) (list_rows x))
 
-  pub is_read : (new : State) (r : Result ContestState StoreError) → (HasCleanDisk new → HasCleanDisk old) → (HasCleanDisk new → IsLive old → OnOk r (IsTrue old.is_open)) → ReadsTables r is_older old new → HasCleanDisk new
+  pub is_read : (new : State) (r : Result ContestState StoreError) → (HasCleanDisk new → HasCleanDisk old) → (HasCleanDisk new → IsLive old → OnOk r (IsTrue old.is_open)) → ReadsTables r old new → HasCleanDisk new
       → IfOk r (IsRead old new)
   is_read new (Err e) early up reads clean = tt
   is_read new (Ok lists) early up reads clean =
       let on = up clean (not_live old.in_transaction outside) in
       let rising = rises (early clean) on in
-      let it = reads clean rows (content_of is_older rows) (holds (early clean) on) rising in
+      let it = reads clean rows (Showing rows) (holds (early clean) on) rising in
       let own = whole it.0 rising it.1 in
       record {
         contest = it.0;
@@ -130,18 +131,18 @@ module _ (old : State) (is_older : Bool) (rows : TableRows) (desk : HasDeskTable
       }
 
   -- a crash leaves no more than it could before, or that contest
-  pub keeps_lists : (new : State) → Survives old new (MakesRightOfTables is_older old) → KeepsLists old new
+  pub keeps_lists : (new : State) → Survives old new (MakesRightOfTables old) → KeepsLists old new
   keeps_lists new survives =
       survives_weaker old new _ _ (λ clean db made.
       (let on = made.0 (not_live old.in_transaction outside) in
       let before : HasCleanDisk old = omega (arith, clean, survives.clean) in
       let rising = rises before on in
-      let it = made.1 rows (content_of is_older rows) (holds before on) rising in
+      let it = made.1 rows (Showing rows) (holds before on) rising in
       let own = whole it.0 rising it.1 in
       (it.0, listed ∙ it.1, shown_is db it.0 own.0 (it.2 ∙ own.1))))
       survives
 
--- such tables, where that of the cells stands
+-- such tables
 module _ (old : State) (is : IsOfDesk old) (outside : old.in_transaction ≡ false) (rests : IsTrue old.is_open → IsAtRest old) (sound : IsTrue old.is_open → IsDatabase old.now) (numbered : IsNumbered old) where
   abbrev own : TableRows
   own = rows_in old.now.trees
@@ -152,29 +153,10 @@ module _ (old : State) (is : IsOfDesk old) (outside : old.in_transaction ≡ fal
   rise : HasCleanDisk old → IsTrue old.is_open → AllRise own
   rise clean on = rises_in old.now.trees (subst (λ schema. IsSoundDatabase schema old.now.trees) is (sound on)) (numbered.desk clean on is)
 
-  pub desk_read : (new : State) (r : Result ContestState StoreError) → (HasCleanDisk new → IsLive old → OnOk r (IsTrue old.is_open)) → Survives old new (MakesRightOfTables false old) → ReadsTables r false old new → HasCleanDisk new
+  pub desk_read : (new : State) (r : Result ContestState StoreError) → (HasCleanDisk new → IsLive old → OnOk r (IsTrue old.is_open)) → Survives old new (MakesRightOfTables old) → ReadsTables r old new → HasCleanDisk new
       → IfOk r (IsRead old new)
   desk_read new r up survives reads clean =
-      is_read old false own (inl is) outside refl holds rise (shown_are_wide old.now.trees Submissions) new r (λ now. omega (arith, now, survives.clean)) up reads clean
+      is_read old own is outside refl holds rise (shown_are_wide old.now.trees Submissions) new r (λ now. omega (arith, now, survives.clean)) up reads clean
 
-  pub desk_kept : (new : State) → Survives old new (MakesRightOfTables false old) → KeepsLists old new
-  desk_kept new survives = keeps_lists old false own (inl is) outside refl holds rise (shown_are_wide old.now.trees Submissions) new survives
-
--- and where there is none yet
-module _ (old : State) (is : IsOfOlderDesk old) (outside : old.in_transaction ≡ false) (rests : IsTrue old.is_open → IsAtRest old) (sound : IsTrue old.is_open → IsDatabase old.now) (numbered : IsNumbered old) where
-  abbrev others : TableRows
-  others = rows_in (without_cells old.now.trees)
-
-  stand : HasCleanDisk old → IsTrue old.is_open → Holds old (WithoutCells others) (WithoutCells others)
-  stand clean on = older_holds old (rests on) is (numbered.older clean on is)
-
-  climb : HasCleanDisk old → IsTrue old.is_open → AllRise others
-  climb clean on = older_rises_in old.now.trees (subst (λ schema. IsSoundDatabase schema old.now.trees) is (sound on)) (numbered.older clean on is)
-
-  pub older_read : (new : State) (r : Result ContestState StoreError) → (HasCleanDisk new → IsLive old → OnOk r (IsTrue old.is_open)) → Survives old new (MakesRightOfTables true old) → ReadsTables r true old new → HasCleanDisk new
-      → IfOk r (IsRead old new)
-  older_read new r up survives reads clean =
-      is_read old true others (inr is) outside refl stand climb (shown_are_wide (without_cells old.now.trees) Submissions) new r (λ now. omega (arith, now, survives.clean)) up reads clean
-
-  pub older_kept : (new : State) → Survives old new (MakesRightOfTables true old) → KeepsLists old new
-  older_kept new survives = keeps_lists old true others (inr is) outside refl stand climb (shown_are_wide (without_cells old.now.trees) Submissions) new survives
+  pub desk_kept : (new : State) → Survives old new (MakesRightOfTables old) → KeepsLists old new
+  desk_kept new survives = keeps_lists old own is outside refl holds rise (shown_are_wide old.now.trees Submissions) new survives

@@ -5,7 +5,7 @@ use Rattle.sqlite.specs.State.{HasCleanDisk, State}
 use Rattle.sqlite.specs.Tree.{Trees}
 use Rattle.contest_store.specs.Keeping.{Shows}
 use Rattle.contest_store_tables.specs.Tables.{rows_in}
-use Rattle.contest_store_tables.proofs.OlderLemmas.{not_older}
+use Rattle.contest_store_tables.proofs.LaterLemmas.{lacks_none}
 use Rattle.contest_store_tables.specs.declared.counts.Counts.{Counts}
 use Rattle.contest_types.specs.State.{ContestState}
 use Rattle.contest_store_changes.specs.ContestTables.{table_rows, valid_contest_in}
@@ -51,5 +51,5 @@ trusted s kept clean = (clean, λ up. (let h = (kept clean).holds up in shown_is
 pub kept_numbered : (s : State) → StaysKept s → IsNumbered s
 kept_numbered s kept = record {
   desk = λ clean up desk. ((kept clean).holds up).holds.shows.2;
-  older = λ clean up older. absurd (not_older s.now.schema (((kept clean).holds up).holds.shows.0) older);
+  lacking = λ table clean up is. absurd (lacks_none table s.now.schema (((kept clean).holds up).holds.shows.0) is);
 }

@@ -3,10 +3,12 @@ use Rattle.std.specs.Prelude.{◌≡◌, [], false, None, Option, unwrap_or}
 use Rattle.sqlite.specs.State.{State}
 use Rattle.sqlite.specs.Tree.{Trees}
 use Rattle.contest_types.specs.State.{ContestState, new_contest}
-use Rattle.contest_store_tables.specs.Steps.{Holds, Showing}
+use Rattle.contest_store_tables.specs.Steps.{Holds, Showing, with_rows}
 use Rattle.contest_store_tables.specs.Tables.{rows_in}
 use Rattle.contest_store_changes.specs.ContestTables.{table_rows, valid_contest_in, valid_listed_in}
 use Rattle.contest_store_changes.specs.Sound.{IsSound}
+use Rattle.contest_store_changes.specs.Upgraded.{first_listed_in}
+use Rattle.contest_store_tables.specs.declared.table_name.TableName.TheVariants.{Notices}
 
 -- the valid contest that trees show, if they show one
 abbrev pub contest_in_trees : Trees → Option ContestState
@@ -15,6 +17,10 @@ contest_in_trees db = valid_contest_in (rows_in db)
 -- the valid contest whose lists trees show, whatever their cells, if they show one
 abbrev pub listed_in_trees : Trees → Option ContestState
 listed_in_trees db = valid_listed_in (rows_in db)
+
+-- the valid contest whose lists trees show in the first schema, which has no table of notices
+abbrev pub first_listed_in_trees : Trees → Option ContestState
+first_listed_in_trees db = first_listed_in (with_rows Notices [] (rows_in db))
 
 -- what stands for the contest where trees show none, as those of a store that is shut
 abbrev pub no_contest : ContestState

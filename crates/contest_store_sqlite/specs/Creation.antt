@@ -7,6 +7,7 @@ use Rattle.contest_types.specs.State.{ContestState, FixedPart, new_contest}
 use Rattle.contest_types.specs.declared.contest.Contest.{Contest}
 use Rattle.contest_types.specs.declared.contest.ContestHead.{ContestHead}
 use Rattle.contest_types.specs.declared.refusal.Refusal.{Refusal}
+use Rattle.contest_types.specs.declared.refusal.Refusal.TheVariants as refusal
 use Rattle.contest_store.specs.Keeping.{Kept, LeavesOr, Shows}
 use Rattle.contest_lists.specs.Lists.{loaded}
 use Rattle.contest_store.specs.StoreErrors.{refusal_of}
@@ -106,6 +107,7 @@ IsOfStore refusal = (e : StoreError) × (refusal ≡ refusal_of e)
 -- how it is refused that no contest is opened
 abbrev pub open_refusal : OpenError → Refusal
 open_refusal (open_error.Store e) = refusal_of e
+open_refusal open_error.OldSchema = refusal.OldSchema
 
 -- what an open can be refused with
 abbrev pub IsOfOpen : Refusal → Type 0

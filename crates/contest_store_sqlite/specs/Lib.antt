@@ -8,3 +8,4 @@ pub mod Steps
 pub mod Opening
 pub mod Creation
 pub mod Settling
+pub mod Upgrading

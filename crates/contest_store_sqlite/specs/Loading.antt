@@ -1,18 +1,23 @@
 -- The rows of the tables of the lists, as they are loaded one table after the other.
-use Rattle.std.specs.Prelude.{List, []}
+use Rattle.std.specs.Prelude.{List, [], ◌∷◌, ◌++◌}
 use Rattle.sqlite_value.specs.Order.{Row}
 use Rattle.contest_store_rows.specs.Tables.{Tables}
+use Rattle.contest_store_tables.specs.Schema.{first_tables}
 use Rattle.contest_store_tables.specs.Steps.{Rises}
 use Rattle.contest_store_tables.specs.Tables.{TableRows}
 use Rattle.contest_store_tables.specs.declared.table_name.TableName.{TableName}
-use Rattle.contest_store_tables.specs.declared.table_name.TableName.TheVariants.{Desk, Contest, Items, Accounts, Submissions, Proposals, Releases, Rejudgings, Members, Clarifications, Cells}
+use Rattle.contest_store_tables.specs.declared.table_name.TableName.TheVariants.{Desk, Contest, Items, Accounts, Submissions, Proposals, Releases, Rejudgings, Members, Clarifications, Cells, Notices}
 
 -- the rows of each table rise by its key, so that they have one order
 abbrev pub AllRise : TableRows → Type 0
 AllRise rows = (name : TableName) → Rises name (rows name)
 
+-- the tables of the lists, in the order in which they are made
+abbrev pub list_tables : List TableName
+list_tables = first_tables ++ Notices ∷ []
+
 abbrev pub no_rows : Tables
-no_rows = record { desk = []; contest = []; items = []; accounts = []; submissions = []; proposals = []; releases = []; rejudgings = []; members = []; clarifications = [] }
+no_rows = record { desk = []; contest = []; items = []; accounts = []; submissions = []; proposals = []; releases = []; rejudgings = []; members = []; clarifications = []; notices = [] }
 
 -- these rows in one table; those of the cells aren't of the lists
 abbrev pub with_loaded : TableName → List Row → Tables → Tables
@@ -26,4 +31,5 @@ with_loaded Releases rows t = record t { releases = rows }
 with_loaded Rejudgings rows t = record t { rejudgings = rows }
 with_loaded Members rows t = record t { members = rows }
 with_loaded Clarifications rows t = record t { clarifications = rows }
+with_loaded Notices rows t = record t { notices = rows }
 with_loaded Cells rows t = t

@@ -1,18 +1,29 @@
 -- What is found where a store is opened.
-use Rattle.std.specs.Prelude.{◌≡◌, ◌⊎◌, Option, Some, false, true}
-use Rattle.sqlite.specs.State.{State}
+use Rattle.std.specs.Prelude.{◌≡◌, ◌⊎◌, IsTrue, Option, Some, false, true}
+use Rattle.sqlite.specs.State.{HasCleanDisk, State}
 use Rattle.contest_types.specs.State.{ContestState}
 use Rattle.contest_types.specs.Valid.{is_valid}
 use Rattle.contest_store.specs.Keeping.{Kept, LeavesNoMore, Shows}
 use Rattle.contest_lists.specs.Lists.{loaded}
-use Rattle.contest_store_tables.specs.Connected.{IsOfDesk, IsOfOlderDesk}
+use Rattle.contest_store_tables.specs.Connected.{IsLacking, IsOfDesk}
 use Rattle.contest_store_tables.specs.Schema.{desk_schema}
+use Rattle.contest_store_tables.specs.Tables.{rows_in}
+use Rattle.contest_store_tables.specs.declared.later_table.LaterTable.{LaterTable}
+use Rattle.contest_store_tables.specs.declared.table_name.TableName.TheVariants.{Desk}
+use Rattle.contest_store_fixed_rows.specs.FixedParts.{is_desk}
+use Rattle.contest_store_rows.specs.declared.versions.Version.TheVariants.{First}
 use Rattle.contest_store_sqlite.specs.Contests.{HoldsContests, listed_in_trees, may_leave_of}
 use Rattle.contest_store_sqlite.specs.Value.{StoreValue}
 
--- the tables of a desk stand, and no others; those of one that was made before there was a table of the cells have none
-abbrev pub HasDeskTables : State → Type 0
-HasDeskTables s = IsOfDesk s ⊎ IsOfOlderDesk s
+-- the tables of a desk of the first schema stand, and no others, and their version says so
+pub record IsOfFirst (s : State) : Type 0 where
+  pub table : LaterTable
+  pub lacks : IsLacking table s
+  pub version : is_desk First (rows_in s.now.trees Desk) ≡ true
+
+-- such tables were found: they stand if the database is open, as far as the disk can be believed
+abbrev pub FindsFirst : (old new : State) → Type 0
+FindsFirst old new = HasCleanDisk new → IsTrue old.is_open → IsOfFirst old
 
 -- what a crash while it is opened may leave: what it could leave before, or the contest whose lists stood, with its cells
 abbrev pub may_leave_filled : State → Option ContestState → Type 0
@@ -22,7 +33,7 @@ may_leave_filled s c = may_leave_of s c ⊎ ((x : ContestState) × (listed_in_tr
 -- is committed
 pub record IsRead (old new : State) (lists : ContestState) : Type 0 where
   pub contest : ContestState
-  pub desk : HasDeskTables old
+  pub desk : IsOfDesk old
   pub found : listed_in_trees old.now.trees ≡ Some contest
   pub held : lists ≡ loaded contest
   pub holds : HoldsContests new contest contest
@@ -36,7 +47,7 @@ pub record HasDesk (s : State) : Type 0 where
 -- leaves no more than it could before, or that contest with its cells
 pub record Opened (s : State) (kept : Kept) : Type 0 where
   pub contest : ContestState
-  pub desk : HasDeskTables s
+  pub desk : IsOfDesk s
   pub found : listed_in_trees s.now.trees ≡ Some contest
   pub shows : Shows kept contest contest
   pub crash : LeavesNoMore (may_leave_filled s) kept.may_leave

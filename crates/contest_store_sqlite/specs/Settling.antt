@@ -14,7 +14,6 @@ use Rattle.contest_store_tables.specs.declared.counts.Counts.{Counts}
 use Rattle.contest_store_tables.specs.declared.table_name.TableName.TheVariants.{Cells}
 use Rattle.contest_store_changes.specs.ContestTables.{valid_listed_in}
 use Rattle.contest_store_sqlite.specs.Loading.{AllRise}
-use Rattle.contest_store_sqlite.specs.Steps.{content_of}
 
 -- within a transaction the table of the cells has no row, and takes these
 pub record Fillable (cells : List Row) (s : State) (now kept : Content) : Type 0 where
@@ -74,15 +73,15 @@ abbrev pub MakesRight : (lists : ContestState) → State → Trees → Type 0
 MakesRight lists old db = (now kept : Content) → (h : Rising lists old now kept) → rows_in db ≡ with_rows Cells (cell_rows h.contest) h.rows
 
 -- the lists are those that the rows of a desk's tables are, and its cells are right and committed
-abbrev pub ReadsTables : Result ContestState StoreError → (is_older : Bool) → (old new : State) → Type 0
-ReadsTables result is_older old new =
-    HasCleanDisk new → (rows : TableRows) (kept : Content) → Holds old (content_of is_older rows) kept → AllRise rows
+abbrev pub ReadsTables : Result ContestState StoreError → (old new : State) → Type 0
+ReadsTables result old new =
+    HasCleanDisk new → (rows : TableRows) (kept : Content) → Holds old (Showing rows) kept → AllRise rows
     → IfOk result (λ lists. (x : ContestState) × (valid_listed_in rows ≡ Some x) × (lists ≡ loaded x)
     × Holds new (Showing (with_rows Cells (cell_rows x) rows)) (Showing (with_rows Cells (cell_rows x) rows)))
 
 -- trees have the rows that stood, and the cells of the valid contest whose lists they are
-abbrev pub MakesRightOfTables : (is_older : Bool) → State → Trees → Type 0
-MakesRightOfTables is_older old db =
+abbrev pub MakesRightOfTables : State → Trees → Type 0
+MakesRightOfTables old db =
     (IsLive old → IsTrue old.is_open)
-    × ((rows : TableRows) (kept : Content) → Holds old (content_of is_older rows) kept → AllRise rows
+    × ((rows : TableRows) (kept : Content) → Holds old (Showing rows) kept → AllRise rows
     → (x : ContestState) × (valid_listed_in rows ≡ Some x) × (rows_in db ≡ with_rows Cells (cell_rows x) rows))

@@ -8,9 +8,11 @@ ghost use Rattle.contest_store_tables.specs.Connected.{IsBare, counts_of, shown_
 ghost use Rattle.contest_store_tables.specs.Steps.{Call, HasFirst, MakesNone, Step};
 ghost use Rattle.contest_store_changes.specs.Kinds.{IsMoment};
 ghost use Rattle.contest_store_changes.specs.Sound.{IsSound};
-ghost use Rattle.contest_store_sqlite.specs.Creation.{HasContest, HasHeadAlone, HasNoRow, HoldsNone, IsMade, IsOfKindsContest, IsOfStore, IsReadEqual, KeepsLists, KeepsContest, LeavesEither, LeavesWhole, MakesContest, StoodOther};
+ghost use Rattle.contest_store_sqlite.specs.Creation.{HasContest, HasHeadAlone, HasNoRow, HoldsNone, IsMade, IsOfKindsContest, IsOfOpen, IsReadEqual, KeepsLists, KeepsContest, LeavesEither, LeavesWhole, MakesContest, StoodOther};
+ghost use Rattle.contest_store_sqlite.specs.Opening.{IsOfFirst};
 ghost use Rattle.contest_store_tables.specs.Numbered.{IsNumbered};
 
+use crate::open_error::OpenError;
 use crate::opening::read_desk;
 use contest_lists::is_valid_fixed;
 use contest_store::{ScoredLists, StoreError};
@@ -99,9 +101,9 @@ fn is_moment_if_any(start: Option<Moment>)
 ///
 /// # Errors
 ///
-/// `KeyReused` where another contest stands; then no transaction is left. `Memory` where a growth was
-/// refused. `StoreFault` where the connection failed for another cause, where a transaction stands
-/// already, or where the tables show no valid contest.
+/// `KeyReused` where another contest stands; then no transaction is left. `OldSchema` where the tables are
+/// those of the first schema. `Memory` where a growth was refused. `StoreFault` where the connection failed
+/// for another cause, where a transaction stands already, or where the tables show no valid contest.
 pub(crate) fn make_or_read<S: Alter>(
     tables: &mut Tables<S>,
     alloc: Global,
@@ -114,20 +116,22 @@ pub(crate) fn make_or_read<S: Alter>(
         → IfOk result (λ lists. IsMade (without_rows fixed.value) (shown_by S.Store tables.old) (shown_by S.Store tables.new) lists
         ⊎ IsReadEqual fixed.value.settings.head (shown_by S.Store tables.old) (shown_by S.Store tables.new) lists) }
     ensures differs { HasCleanDisk (shown_by S.Store tables.new)
-        → IfErr result (λ e. IsOfStore e ⊎ ((e ≡ Refusal.KeyReused) × StoodOther fixed.value.settings.head (shown_by S.Store tables.old) (shown_by S.Store tables.new))) }
-    ensures kinds { IfErr result (λ e. IsOfStore e ⊎ (e ≡ Refusal.KeyReused)) }
+        → IfErr result (λ e. IsOfOpen e ⊎ ((e ≡ Refusal.KeyReused) × StoodOther fixed.value.settings.head (shown_by S.Store tables.old) (shown_by S.Store tables.new))) }
+    ensures kinds { IfErr result (λ e. IsOfOpen e ⊎ (e ≡ Refusal.KeyReused)) }
     ensures counts { OnOk result (counts_of tables.new ≡ counts_of tables.old) }
     ensures survives { LeavesEither (without_rows fixed.value) (shown_by S.Store tables.old) (shown_by S.Store tables.new) }
     ensures bare { IsBare (shown_by S.Store tables.old) → LeavesWhole (without_rows fixed.value) (shown_by S.Store tables.old) (shown_by S.Store tables.new) }
     ensures stood { ¬ IsBare (shown_by S.Store tables.old) → KeepsLists (shown_by S.Store tables.old) (shown_by S.Store tables.new) }
     ensures reused { IfErr result (λ e. e ≡ Refusal.KeyReused → KeepsLists (shown_by S.Store tables.old) (shown_by S.Store tables.new)) }
+    ensures old { IfErr result (λ e. e ≡ Refusal.OldSchema → KeepsLists (shown_by S.Store tables.old) (shown_by S.Store tables.new)) }
+    ensures first { HasCleanDisk (shown_by S.Store tables.new) → IfErr result (λ e. e ≡ Refusal.OldSchema → IsTrue (shown_by S.Store tables.old).is_open → IsOfFirst (shown_by S.Store tables.old)) }
 {
     match tables.standing() {
         Standing::Bare => match make_contest(tables, alloc, fixed) {
             Ok(lists) => Ok(lists),
-            Err(error) => Err(error.refusal()),
+            Err(error) => Err(OpenError::Store(error).refusal()),
         },
-        Standing::Desk | Standing::Older | Standing::Foreign => read_equal(
+        Standing::Desk | Standing::Lacking(_) | Standing::Foreign => read_equal(
             tables,
             alloc,
             fixed.settings.head(),
@@ -145,9 +149,10 @@ fn read_equal<S: Alter>(
     requires stood { ¬ IsBare (shown_by S.Store tables.old) }
     ensures equal { HasCleanDisk (shown_by S.Store tables.new) → IfOk result (IsReadEqual head.now (shown_by S.Store tables.old) (shown_by S.Store tables.new)) }
     ensures differs { HasCleanDisk (shown_by S.Store tables.new)
-        → IfErr result (λ e. IsOfStore e ⊎ ((e ≡ Refusal.KeyReused) × StoodOther head.now (shown_by S.Store tables.old) (shown_by S.Store tables.new))) }
-    ensures kinds { IfErr result (λ e. IsOfStore e ⊎ (e ≡ Refusal.KeyReused)) }
+        → IfErr result (λ e. IsOfOpen e ⊎ ((e ≡ Refusal.KeyReused) × StoodOther head.now (shown_by S.Store tables.old) (shown_by S.Store tables.new))) }
+    ensures kinds { IfErr result (λ e. IsOfOpen e ⊎ (e ≡ Refusal.KeyReused)) }
     ensures counts { OnOk result (counts_of tables.new ≡ counts_of tables.old) }
+    ensures first { HasCleanDisk (shown_by S.Store tables.new) → IfErr result (λ e. e ≡ Refusal.OldSchema → IsTrue (shown_by S.Store tables.old).is_open → IsOfFirst (shown_by S.Store tables.old)) }
     ensures survives { KeepsLists (shown_by S.Store tables.old) (shown_by S.Store tables.new) }
 {
     match read_desk(tables, alloc) {

@@ -12,6 +12,8 @@ pub enum OpenError {
     /// have cells that aren't exactly those of its lists, where a transaction stands, or where the
     /// connection failed; `Memory` where a growth was refused.
     Store(StoreError),
+    /// The tables are those of the first schema: they have to be upgraded.
+    OldSchema,
 }
 
 impl OpenError {
@@ -22,6 +24,7 @@ impl OpenError {
     {
         match self {
             OpenError::Store(error) => error.refusal(),
+            OpenError::OldSchema => Refusal::OldSchema,
         }
     }
 }

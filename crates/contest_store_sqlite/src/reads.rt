@@ -3,7 +3,7 @@ ghost use Rattle.std.specs.Prelude.{◌≡◌, IfOk};
 ghost use Rattle.sqlite.specs.State.{HasCleanDisk};
 ghost use Rattle.contest_types.specs.State.{ContestState};
 ghost use Rattle.contest_lists.specs.Lists.{loaded};
-ghost use Rattle.contest_store_fixed_rows.specs.Spelling.{lists_in, tables_of};
+ghost use Rattle.contest_store_fixed_rows.specs.Spelling.{lists_in, lists_in_version, tables_of};
 ghost use Rattle.contest_store_tables.specs.Connected.{shown_by, counts_of};
 ghost use Rattle.contest_store_tables.specs.Steps.{Call, Step, Content, Full, Holds, MakesNone, Showing, Within};
 ghost use Rattle.contest_store_tables.specs.Tables.{TableRows};
@@ -15,6 +15,7 @@ ghost use Rattle.contest_store_sqlite.specs.Steps.{HoldsDesk};
 
 use contest_store::{ScoredLists, StoreError};
 use contest_store_fixed_rows::{LoadedRows, read_lists};
+use contest_store_rows::{VERSION, Version};
 use contest_store_tables::{LIST_TABLES, TableName, Tables};
 use sqlite::{Alter, Row};
 use std::alloc::{AllocError, Global};
@@ -57,21 +58,22 @@ pub(crate) fn find_lists<S: Alter>(
     ensures call { Call result (shown_by S.Store tables.old) (shown_by S.Store tables.new) (counts_of tables.old) (counts_of tables.new) HoldsDesk Full (MakesNone (shown_by S.Store tables.old) HoldsDesk) }
 {
     match tables.begin() {
-        Ok(()) => find_within(tables, alloc),
+        Ok(()) => find_within(tables, alloc, VERSION),
         Err(error) => Err(error),
     }
 }
 
-/// The same within a transaction.
+/// The same within a transaction, in a version of the schema.
 pub(crate) fn find_within<S: Alter>(
     tables: &mut Tables<S>,
     alloc: Global,
+    version: Version,
 ) -> Result<Option<ScoredLists>, StoreError>
-    ensures lists { HasCleanDisk (shown_by S.Store tables.new) → (now : TableRows) (kept : Content) → Within (shown_by S.Store tables.old) (Showing now) kept → AllRise now → IfOk result (λ found. found ≡ lists_in (loaded_tables now)) }
+    ensures lists { HasCleanDisk (shown_by S.Store tables.new) → (now : TableRows) (kept : Content) → Within (shown_by S.Store tables.old) (Showing now) kept → AllRise now → IfOk result (λ found. found ≡ lists_in_version version (loaded_tables now)) }
     ensures step { Step result (shown_by S.Store tables.old) (shown_by S.Store tables.new) (counts_of tables.old) (counts_of tables.new) Full Full (MakesNone (shown_by S.Store tables.old) Full) }
 {
     match load_rows(tables, alloc) {
-        Ok(rows) => match read_scored(alloc, &rows) {
+        Ok(rows) => match read_scored(alloc, version, &rows) {
             Ok(found) => Ok(found),
             Err(AllocError) => Err(tables.out_of_memory()),
         },
@@ -80,10 +82,14 @@ pub(crate) fn find_within<S: Alter>(
 }
 
 // The lists that rows are, with their cells; none where they are those of no contest.
-fn read_scored(alloc: Global, rows: &LoadedRows) -> Result<Option<ScoredLists>, AllocError>
-    ensures { IfOk result (λ found. found ≡ lists_in (tables_of rows.now)) }
+fn read_scored(
+    alloc: Global,
+    version: Version,
+    rows: &LoadedRows,
+) -> Result<Option<ScoredLists>, AllocError>
+    ensures { IfOk result (λ found. found ≡ lists_in_version version (tables_of rows.now)) }
 {
-    match read_lists(alloc, rows)? {
+    match read_lists(alloc, version, rows)? {
         Some(lists) => Ok(Some(ScoredLists::new(alloc, lists)?)),
         None => Ok(None),
     }
@@ -121,6 +127,7 @@ fn without_rows(alloc: Global) -> LoadedRows
         rejudgings: Vec::new(alloc),
         members: Vec::new(alloc),
         clarifications: Vec::new(alloc),
+        notices: Vec::new(alloc),
     }
 }
 
@@ -138,6 +145,7 @@ fn put(rows: &mut LoadedRows, table: TableName, found: Vec<Row>)
         TableName::Rejudgings => rows.rejudgings = found,
         TableName::Members => rows.members = found,
         TableName::Clarifications => rows.clarifications = found,
+        TableName::Notices => rows.notices = found,
         TableName::Cells => drop(found),
     }
 }

@@ -5,6 +5,7 @@ use crate::creation::{make_or_read, new_fixed};
 use crate::keeper::Keeper;
 use crate::open_error::OpenError;
 use crate::opening::read_desk;
+use crate::upgrading::upgrade_desk;
 use contest_lists::Lists;
 use contest_score::CachedCells;
 use contest_store::{ContestStore, StoreError};
@@ -53,11 +54,13 @@ impl<S: Alter> Store<S> {
     ghost use Rattle.contest_store_tables.specs.Connected.{IsBare};
     ghost use Rattle.contest_store.specs.Keeping.{LeavesOnly};
     ghost use Rattle.contest_store_sqlite.specs.Contests.{committed_of, contest_of, may_leave_of};
-    ghost use Rattle.contest_store_sqlite.specs.Creation.{Created, IsOfStore, KeepsLists, LeavesEither, StoodEqual, StoodOther};
+    ghost use Rattle.contest_store_sqlite.specs.Creation.{Created, IsOfOpen, IsOfStore, KeepsLists, LeavesEither, StoodEqual, StoodOther};
     ghost use Rattle.contest_store_sqlite.specs.Keeping.{IsTrusted};
-    ghost use Rattle.contest_store_sqlite.specs.Opening.{HasDesk, IsNew, Opened, ShowsValid};
+    ghost use Rattle.contest_store_sqlite.specs.Opening.{HasDesk, IsNew, IsOfFirst, IsRead, Opened, ShowsValid};
     ghost use Rattle.contest_store_tables.specs.Numbered.{IsNumbered};
+    ghost use Rattle.contest_store_sqlite.specs.Upgrading.{IsUpgraded, KeepsUpgraded};
     ghost use Rattle.contest_store_sqlite.specs.Value.{shown_in, stored};
+    ghost use Rattle.contest_types.specs.State.{ContestState};
 
     /// The store over the tables of a contest, which are read at once, outside of a transaction. Where their
     /// cells have no row, or no table yet, they are filled in one commit; else they have to be those of the
@@ -75,6 +78,7 @@ impl<S: Alter> Store<S> {
         ensures desk { IfOk result (λ store. HasCleanDisk (shown_in S.Store store) → HasDesk (shown_in S.Store store)) }
         ensures new { IfOk result IsNew }
         ensures refused { IfErr result (λ e. KeepsLists (state S.Store conn) (state S.Store e.1)) }
+        ensures first { IfErr result (λ e. HasCleanDisk (state S.Store e.1) → e.0 ≡ OpenError.OldSchema → IsTrue (state S.Store conn).is_open → IsOfFirst (state S.Store conn)) }
     {
         let mut tables = Tables::new(conn);
         match read_desk(&mut tables, alloc) {
@@ -86,7 +90,7 @@ impl<S: Alter> Store<S> {
                     commits: 0,
                 },
             }),
-            Err(error) => Err((OpenError::Store(error), tables.into_connection())),
+            Err(error) => Err((error, tables.into_connection())),
         }
     }
 
@@ -97,11 +101,11 @@ impl<S: Alter> Store<S> {
     /// # Errors
     ///
     /// `Malformed` where a number of the head is off its range or the end is no moment: nothing is
-    /// touched. `KeyReused` where a contest with another head stands. `StoreFault` where other tables
-    /// stand or show no valid contest, where a transaction stands, or where the connection failed;
-    /// `Memory` where a growth was refused. The connection is handed back. What is committed is as it
-    /// was, but for cells that were filled where a contest stands; and a crash may leave the contest
-    /// where no table stood and the commit failed.
+    /// touched. `KeyReused` where a contest with another head stands. `OldSchema` where the tables are those
+    /// of the first schema. `StoreFault` where other tables stand or show no valid contest, where a
+    /// transaction stands, or where the connection failed; `Memory` where a growth was refused. The
+    /// connection is handed back. What is committed is as it was, but for cells that were filled where a
+    /// contest stands; and a crash may leave the contest where no table stood and the commit failed.
     pub fn create(
         alloc: Global,
         conn: Connection<S>,
@@ -115,11 +119,13 @@ impl<S: Alter> Store<S> {
         ensures new { IfOk result IsNew }
         ensures valid { OnOk result (is_valid (new_contest contest) ≡ true) }
         ensures differs { IfErr result (λ e. HasCleanDisk (state S.Store e.1) → e.0 ≡ Refusal.KeyReused → StoodOther contest.head (state S.Store conn) (state S.Store e.1)) }
-        ensures kinds { IfErr result (λ e. (e.0 ≡ Refusal.Malformed) ⊎ ((e.0 ≡ Refusal.KeyReused) ⊎ IsOfStore e.0)) }
+        ensures kinds { IfErr result (λ e. (e.0 ≡ Refusal.Malformed) ⊎ ((e.0 ≡ Refusal.KeyReused) ⊎ IsOfOpen e.0)) }
         ensures malformed { IfErr result (λ e. e.0 ≡ Refusal.Malformed → (is_valid (new_contest contest) ≡ false) × (e.1 ≡ conn)) }
         ensures survives { IfOk result (λ store. LeavesEither (new_contest contest) (state S.Store conn) (shown_in S.Store store)) }
         ensures refused { IfErr result (λ e. LeavesEither (new_contest contest) (state S.Store conn) (state S.Store e.1)) }
         ensures unmade { IfErr result (λ e. ¬ IsBare (state S.Store conn) → KeepsLists (state S.Store conn) (state S.Store e.1)) }
+        ensures old { IfErr result (λ e. e.0 ≡ Refusal.OldSchema → KeepsLists (state S.Store conn) (state S.Store e.1)) }
+        ensures first { IfErr result (λ e. HasCleanDisk (state S.Store e.1) → e.0 ≡ Refusal.OldSchema → IsTrue (state S.Store conn).is_open → IsOfFirst (state S.Store conn)) }
         ensures unchanged { IfErr result (λ e. (e.0 ≡ Refusal.KeyReused) ⊎ (e.0 ≡ Refusal.Malformed) → KeepsLists (state S.Store conn) (state S.Store e.1)) }
     {
         let fixed = match new_fixed(alloc, contest) {
@@ -138,6 +144,31 @@ impl<S: Alter> Store<S> {
             }),
             Err(refusal) => Err((refusal, tables.into_connection())),
         }
+    }
+
+    /// Whether the tables of a connection were upgraded. Those of the first schema show their contest in that
+    /// of today afterwards, by one commit; their cells are treated as `open` does it. Those of today are
+    /// only read, as `open` reads them. The connection is handed back.
+    ///
+    /// # Errors
+    ///
+    /// `StoreFault` where the tables are of neither schema or show no valid contest, where a transaction
+    /// stands, or where the connection failed; `Memory` where a growth was refused. What is committed is as
+    /// it was, but for cells that were filled; and a crash may leave the upgraded contest where the
+    /// commit failed.
+    pub fn upgrade(alloc: Global, conn: Connection<S>) -> (Result<bool, Refusal>, Connection<S>)
+        requires { IsNumbered (state S.Store conn) }
+        ensures moved { HasCleanDisk (state S.Store result.1) → IfOk result.0 (λ moved. moved ≡ true → IsUpgraded (state S.Store conn) (state S.Store result.1)) }
+        ensures stood { HasCleanDisk (state S.Store result.1) → IfOk result.0 (λ moved. moved ≡ false → (lists : ContestState) × IsRead (state S.Store conn) (state S.Store result.1) lists) }
+        ensures kinds { IfErr result.0 IsOfStore }
+        ensures survives { KeepsUpgraded (state S.Store conn) (state S.Store result.1) }
+    {
+        let mut tables = Tables::new(conn);
+        let done = match upgrade_desk(&mut tables, alloc) {
+            Ok(moved) => Ok(moved),
+            Err(error) => Err(error.refusal()),
+        };
+        (done, tables.into_connection())
     }
 
     /// The connection alone, where no change stands that wasn't committed. A transaction stands in it

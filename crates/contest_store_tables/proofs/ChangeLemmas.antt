@@ -30,7 +30,7 @@ use Rattle.contest_store_tables.specs.Statements.{given_terms}
 use Rattle.contest_store_tables.specs.Steps.{Content, HasContent, Within, Full}
 use Rattle.contest_store_tables.specs.Tables.{rows_in, show, by_key}
 use Rattle.contest_store_tables.specs.declared.row_change.RowChange.{RowChange}
-use Rattle.contest_store_tables.specs.declared.row_change.RowChange.TheVariants.{Marks, RejudgingState, MemberState, Cell}
+use Rattle.contest_store_tables.specs.declared.row_change.RowChange.TheVariants.{Version, Marks, RejudgingState, MemberState, Cell}
 use Rattle.contest_store_tables.specs.declared.table_name.TableName.{TableName}
 use Rattle.contest_store_tables.proofs.LoadLemmas.{sorted_rows}
 use Rattle.contest_store_tables.proofs.PlaceLemmas.{put_all_permutes, given_stay, left_over, changed_parts}
@@ -55,6 +55,7 @@ record IsChange (change : RowChange) : Type 0 where
   keyless : (olds news : List Row) → works desk_schema Enforced 0 (form_of (table_of_change change)).tree olds news ≡ []
 
 is_change : (change : RowChange) → IsChange change
+is_change Version = record { passes = λ _ _. refl; numbers = λ _ _. refl; puts = λ _ _. refl; over = λ _. refl; found = refl; keyless = λ _ _. refl }
 is_change Marks = record { passes = λ _ _. refl; numbers = λ _ _. refl; puts = λ _ _. refl; over = λ _. refl; found = refl; keyless = λ _ _. refl }
 is_change RejudgingState = record { passes = λ _ _. refl; numbers = λ _ _. refl; puts = λ _ _. refl; over = λ _. refl; found = refl; keyless = λ _ _. refl }
 is_change MemberState = record { passes = λ _ _. refl; numbers = λ _ _. refl; puts = λ _ _. refl; over = λ _. refl; found = refl; keyless = λ _ _. refl }

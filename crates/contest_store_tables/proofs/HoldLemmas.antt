@@ -13,9 +13,10 @@ use Rattle.sqlite.specs.Schema.{Schema}
 use Rattle.sqlite.specs.Table.{Table}
 use Rattle.std.specs.List.{AllByRecursion}
 use Rattle.contest_store.specs.declared.store_error.StoreError.{StoreError}
-use Rattle.contest_store_tables.specs.Connected.{IsAtRest, IsOfDesk, IsOfOlderDesk, IsBare, IsUndone}
-use Rattle.contest_store_tables.specs.Tables.{rows_in, without_cells}
-use Rattle.contest_store_tables.specs.Steps.{Content, OnlyMade, Showing, WithoutCells, HasContent, Spells, Holds, Within, AreNumbered}
+use Rattle.contest_store_tables.specs.Connected.{IsAtRest, IsOfDesk, IsLacking, IsBare, IsUndone}
+use Rattle.contest_store_tables.specs.Tables.{rows_in, lacking}
+use Rattle.contest_store_tables.specs.declared.later_table.LaterTable.{LaterTable}
+use Rattle.contest_store_tables.specs.Steps.{Content, OnlyMade, Showing, Lacking, HasContent, Spells, Holds, Within, AreNumbered}
 use Rattle.contest_store_tables.proofs.OneWordTexts.{begin_is, commit_is}
 use Rattle.contest_store_tables.proofs.UndoLemmas.{runs_word, commits_word}
 
@@ -50,10 +51,11 @@ desk_holds s rest desk numbered =
     let all : HasContent s.now (Showing (rows_in s.now.trees)) = (desk, refl, numbered) in
     record { is_open = rest.0; shows = all; keeps = subst (λ d. HasContent d (Showing (rows_in s.now.trees))) rest.1 all }
 
-pub older_holds : (s : State) → IsAtRest s → IsOfOlderDesk s → AreNumbered (without_cells s.now.trees) → Holds s (WithoutCells (rows_in (without_cells s.now.trees))) (WithoutCells (rows_in (without_cells s.now.trees)))
-older_holds s rest older numbered =
-    let all : HasContent s.now (WithoutCells (rows_in (without_cells s.now.trees))) = (older, refl, numbered) in
-    record { is_open = rest.0; shows = all; keeps = subst (λ d. HasContent d (WithoutCells (rows_in (without_cells s.now.trees)))) rest.1 all }
+pub lacking_holds : (table : LaterTable) (s : State) → IsAtRest s → IsLacking table s → AreNumbered (lacking table s.now.trees)
+    → Holds s (Lacking table (rows_in (lacking table s.now.trees))) (Lacking table (rows_in (lacking table s.now.trees)))
+lacking_holds table s rest is numbered =
+    let all : HasContent s.now (Lacking table (rows_in (lacking table s.now.trees))) = (is, refl, numbered) in
+    record { is_open = rest.0; shows = all; keeps = subst (λ d. HasContent d (Lacking table (rows_in (lacking table s.now.trees)))) rest.1 all }
 
 pub begun : (old new : State) (now kept : Content) (count : ℕ) → Holds old now kept → Executes (codes "BEGIN") [] old new (Ok count) → Within new now kept
 begun old new now kept count h ran =
@@ -86,7 +88,7 @@ commit_rests (Err e) old new ok err = err.autocommit
 spelled : (d : Database) (x : Content) → HasContent d x → Spells d.trees x
 spelled d (OnlyMade made) h = tt
 spelled d (Showing rows) h = h.1
-spelled d (WithoutCells rows) h = h.1
+spelled d (Lacking table rows) h = h.1
 
 -- a crash in the commit leaves what it could leave before, or the rows of the transaction
 pub commit_leaves : (s : State) (now kept : Content) (db : Trees) → Holds s now kept → CommitsBy (codes "COMMIT") [] s db → Spells db now

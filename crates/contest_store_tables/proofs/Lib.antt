@@ -12,9 +12,10 @@ pub mod StepLemmas
 pub mod InsertLemmas
 pub mod RowLemmas
 pub mod MakingLemmas
-pub mod OlderLemmas
+pub mod LaterLemmas
 pub mod UpdateLemmas
 pub mod PlaceLemmas
 pub mod ChangeLemmas
+pub mod ClearLemmas
 pub mod ZipLemmas
 pub mod NumberedLemmas

@@ -17,7 +17,7 @@ use Rattle.contest_store_tables.specs.Tables.{show, by_key, rows_in}
 use Rattle.contest_store_tables.specs.Statements.{load_query, loaded_row, Loads}
 use Rattle.contest_store_tables.specs.Steps.{Rises}
 use Rattle.contest_store_tables.specs.declared.table_name.TableName.{TableName}
-use Rattle.contest_store_tables.specs.declared.table_name.TableName.TheVariants.{Desk, Contest, Items, Accounts, Submissions, Proposals, Releases, Rejudgings, Members, Clarifications, Cells}
+use Rattle.contest_store_tables.specs.declared.table_name.TableName.TheVariants.{Desk, Contest, Items, Accounts, Submissions, Proposals, Releases, Rejudgings, Members, Clarifications, Cells, Notices}
 
 ones : {A B : Type 0} (f : A → B) (xs : List A) → flat_map (λ x. f x ∷ []) xs ≡ map f xs
 ones f [] = refl
@@ -54,6 +54,7 @@ is_read Rejudgings = record { gives = λ r. refl; sorts = λ a b. refl; whole = 
 is_read Members = record { gives = λ r. refl; sorts = λ a b. refl; whole = λ os. refl; over = λ db. refl }
 is_read Clarifications = record { gives = λ r. refl; sorts = λ a b. refl; whole = λ os. refl; over = λ db. refl }
 is_read Cells = record { gives = λ r. refl; sorts = λ a b. refl; whole = λ os. refl; over = λ db. refl }
+is_read Notices = record { gives = λ r. refl; sorts = λ a b. refl; whole = λ os. refl; over = λ db. refl }
 
 module _ (name : TableName) (db : Trees) where
   abbrev q : Query

@@ -20,11 +20,12 @@ use Rattle.sqlite_keyed.specs.Lists.{sort_by}
 use Rattle.sqlite_trees.specs.Tree.{IsTable, rowid}
 use Rattle.sqlite_trees.specs.View.{is_int}
 use Rattle.contest_store_tables.specs.Making.{Creates, before, up_to}
-use Rattle.contest_store_tables.specs.Schema.{form_of, index_of, all_tables, desk_schema, older_schema}
+use Rattle.contest_store_tables.specs.Schema.{form_of, index_of, all_tables, desk_schema, later_name, schema_before}
 use Rattle.contest_store_tables.specs.Steps.{Content, OnlyMade, Showing, HasContent, HasFirst, HasCreated, schema_with, Within, HasMade, Step, MakesNone}
 use Rattle.contest_store_tables.specs.Tables.{show, by_key}
+use Rattle.contest_store_tables.specs.declared.later_table.LaterTable.{LaterTable}
+use Rattle.contest_store_tables.specs.declared.later_table.LaterTable.TheVariants as later
 use Rattle.contest_store_tables.specs.declared.table_name.TableName.{TableName}
-use Rattle.contest_store_tables.specs.declared.table_name.TableName.TheVariants.{Cells}
 use Rattle.contest_store_tables.proofs.InsertLemmas.{went, same_value}
 use Rattle.contest_store_tables.proofs.RowLemmas.{at_table}
 use Rattle.contest_store_tables.proofs.StepLemmas.{in_turn}
@@ -99,10 +100,11 @@ pub all_made : schema_with all_tables ≡ desk_schema
 unfolding understood everything
 all_made = refl
 
--- and where all but that of the cells are, it is that of an older desk
-pub older_made : before Cells ≡ older_schema
+-- and where those before this one are, it is that of a desk that lacks it
+pub made_before : (table : LaterTable) → before (later_name table) ≡ schema_before table
 unfolding understood everything
-older_made = refl
+made_before later.Cells = refl
+made_before later.Notices = refl
 
 -- and the tables show no rows
 pub made_shows : (d : Database) → HasContent d (OnlyMade all_tables) → HasContent d (Showing (λ _. []))
@@ -115,7 +117,7 @@ made_shows d h =
     )
 
 -- each table stands at its place
-pub at_index : (i : ℕ) (d : TableName) → i < 11 → index_of (get_or all_tables i d) ≡ i
+pub at_index : (i : ℕ) (d : TableName) → i < 12 → index_of (get_or all_tables i d) ≡ i
 at_index zero d h = refl
 at_index (suc zero) d h = refl
 at_index (suc (suc zero)) d h = refl
@@ -127,7 +129,8 @@ at_index (suc (suc (suc (suc (suc (suc (suc zero))))))) d h = refl
 at_index (suc (suc (suc (suc (suc (suc (suc (suc zero)))))))) d h = refl
 at_index (suc (suc (suc (suc (suc (suc (suc (suc (suc zero))))))))) d h = refl
 at_index (suc (suc (suc (suc (suc (suc (suc (suc (suc (suc zero)))))))))) d h = refl
-at_index (suc (suc (suc (suc (suc (suc (suc (suc (suc (suc (suc i))))))))))) d h = absurd (omega (arith, h))
+at_index (suc (suc (suc (suc (suc (suc (suc (suc (suc (suc (suc zero))))))))))) d h = refl
+at_index (suc (suc (suc (suc (suc (suc (suc (suc (suc (suc (suc (suc i)))))))))))) d h = absurd (omega (arith, h))
 
 -- the tables made so far, and then the next
 module _ {T : Type 0} (old mid new : State) (b m a : Counts) (i : ℕ) (name : TableName) (place : index_of name ≡ i)

@@ -22,11 +22,13 @@ use Rattle.sqlite_trees.specs.declared.store.Shape.TheVariants as shape
 use Rattle.sqlite_trees.specs.Objects.{catalog_tree, IsListed}
 use Rattle.sqlite_trees.specs.Props.{IsOrdered-prop}
 use Rattle.sqlite_trees.specs.View.{View, IsShaped, IsOrdered}
-use Rattle.contest_store_tables.specs.Connected.{IsAtRest, IsOfDesk, IsOfOlderDesk, IsBare}
+use Rattle.contest_store_tables.specs.Connected.{IsAtRest, IsOfDesk, IsLacking, IsBare}
 use Rattle.contest_store_tables.specs.Numbered.{IsNumbered}
 use Rattle.contest_store_tables.specs.Steps.{AreNumbered}
-use Rattle.contest_store_tables.specs.Tables.{without_cells}
-use Rattle.contest_store_tables.proofs.RowLemmas.{at_older, at_table}
+use Rattle.contest_store_tables.specs.Tables.{lacking}
+use Rattle.contest_store_tables.specs.declared.later_table.LaterTable.{LaterTable}
+use Rattle.contest_store_tables.specs.declared.later_table.LaterTable.TheVariants as later
+use Rattle.contest_store_tables.proofs.RowLemmas.{at_lacking, at_table}
 
 -- the rows of each table rise by their numbers
 abbrev pub AllNumbered : Schema → Trees → Type 0
@@ -70,13 +72,15 @@ over_numbered v s ordered listed same sound =
 pub bare_numbered : (s : State) → IsBare s → AllNumbered s.now.schema s.now.trees
 bare_numbered s bare = subst (λ (schema : Schema). AllNumbered schema s.now.trees) (sym bare) tt
 
--- those of a desk, and of an older one
+-- those of a desk, also if it lacks some
 desk_numbered : (s : State) → AllNumbered s.now.schema s.now.trees → IsOfDesk s → AreNumbered s.now.trees
 desk_numbered s all desk name = at_table (λ t. IsShaped shape.Table (s.now.trees t.tree)) name (subst (λ (schema : Schema). AllNumbered schema s.now.trees) desk all)
 
-older_numbered : (s : State) → AllNumbered s.now.schema s.now.trees → IsOfOlderDesk s → AreNumbered (without_cells s.now.trees)
-older_numbered s all older name =
-    at_older (λ t. IsShaped shape.Table (without_cells s.now.trees t.tree)) name (subst (λ (schema : Schema). AllNumbered schema s.now.trees) older all) (tt, tt)
+lacking_numbered : (table : LaterTable) (s : State) → AllNumbered s.now.schema s.now.trees → IsLacking table s → AreNumbered (lacking table s.now.trees)
+lacking_numbered later.Cells s all is name =
+    at_lacking (λ t. IsShaped shape.Table (lacking later.Cells s.now.trees t.tree)) later.Cells name (subst (λ (schema : Schema). AllNumbered schema s.now.trees) is all) ((tt, tt), ((tt, tt), tt))
+lacking_numbered later.Notices s all is name =
+    at_lacking (λ t. IsShaped shape.Table (lacking later.Notices s.now.trees t.tree)) later.Notices name (subst (λ (schema : Schema). AllNumbered schema s.now.trees) is all) ((tt, tt), tt)
 
 pub all_numbered : (s : State) → (HasCleanDisk s → IsTrue s.is_open → AllNumbered s.now.schema s.now.trees) → IsNumbered s
-all_numbered s all = record { desk = λ clean up desk. desk_numbered s (all clean up) desk; older = λ clean up older. older_numbered s (all clean up) older }
+all_numbered s all = record { desk = λ clean up desk. desk_numbered s (all clean up) desk; lacking = λ table clean up is. lacking_numbered table s (all clean up) is }

@@ -21,12 +21,14 @@ use Rattle.sqlite_trees.proofs.TreeLemmas.{IsTable-put_row, all-put_row}
 use Rattle.sqlite_keyed.specs.Lists.{sort_by}
 use Rattle.sqlite_keyed.proofs.ListLemmas.{all-append}
 use Rattle.sqlite_sql.proofs.QueryLemmas.{key_cmp_total}
-use Rattle.contest_store_tables.specs.Schema.{form_of, index_of, all_tables, desk_schema, older_schema}
+use Rattle.contest_store_tables.specs.Schema.{form_of, index_of, all_tables, desk_schema, schema_before}
 use Rattle.contest_store_tables.specs.Tables.{TableRows, rows_in, show, by_key}
 use Rattle.contest_store_tables.specs.Statements.{given_terms, Inserts}
 use Rattle.contest_store_tables.specs.Steps.{Within, with_rows, HasInserted, Content, HasContent, Full, AreNumbered}
+use Rattle.contest_store_tables.specs.declared.later_table.LaterTable.{LaterTable}
+use Rattle.contest_store_tables.specs.declared.later_table.LaterTable.TheVariants as later
 use Rattle.contest_store_tables.specs.declared.table_name.TableName.{TableName}
-use Rattle.contest_store_tables.specs.declared.table_name.TableName.TheVariants.{Desk, Contest, Items, Accounts, Submissions, Proposals, Releases, Rejudgings, Members, Clarifications, Cells}
+use Rattle.contest_store_tables.specs.declared.table_name.TableName.TheVariants.{Desk, Contest, Items, Accounts, Submissions, Proposals, Releases, Rejudgings, Members, Clarifications, Cells, Notices}
 use Rattle.contest_store_tables.proofs.InsertLemmas.{Puts, put_permutes, inserts, insert_shows, insert_keeps}
 use Rattle.contest_store_tables.proofs.LoadLemmas.{sorted_rows}
 use Rattle.contest_store_tables.proofs.SortedLemmas.{one_order}
@@ -45,10 +47,17 @@ at_table P Rejudgings all = all.1.1.1.1.1.1.1.0
 at_table P Members all = all.1.1.1.1.1.1.1.1.0
 at_table P Clarifications all = all.1.1.1.1.1.1.1.1.1.0
 at_table P Cells all = all.1.1.1.1.1.1.1.1.1.1.0
+at_table P Notices all = all.1.1.1.1.1.1.1.1.1.1.1.0
 
--- and so does what holds of each table of an older desk's, and of the cells
-pub at_older : (P : Table → Type 0) (name : TableName) → AllByRecursion P older_schema.tables → P (form_of Cells) → P (form_of name)
-at_older P name all cells = at_table P name (all-append P older_schema.tables (form_of Cells ∷ []) all (cells, tt))
+-- the tables from this one on
+abbrev pub tables_from : LaterTable → List Table
+tables_from later.Cells = form_of Cells ∷ form_of Notices ∷ []
+tables_from later.Notices = form_of Notices ∷ []
+
+-- and so does what holds of each table before this one, and of those from it on
+pub at_lacking : (P : Table → Type 0) (table : LaterTable) (name : TableName) → AllByRecursion P (schema_before table).tables → AllByRecursion P (tables_from table) → P (form_of name)
+at_lacking P later.Cells name all more = at_table P name (all-append P (schema_before later.Cells).tables (tables_from later.Cells) all more)
+at_lacking P later.Notices name all more = at_table P name (all-append P (schema_before later.Notices).tables (tables_from later.Notices) all more)
 
 -- the table with a tree
 abbrev table_at : ℕ → TableName
@@ -66,6 +75,7 @@ has_own_tree Rejudgings = refl
 has_own_tree Members = refl
 has_own_tree Clarifications = refl
 has_own_tree Cells = refl
+has_own_tree Notices = refl
 
 one_tree : (a b : TableName) → (form_of a).tree ≡ (form_of b).tree → a ≡ b
 one_tree a b same = sym (has_own_tree a) ∙ ap table_at same ∙ has_own_tree b
@@ -109,6 +119,7 @@ is_plain_table Rejudgings = record { found = refl; uncounted = refl; keyless = �
 is_plain_table Members = record { found = refl; uncounted = refl; keyless = λ _ _. refl; values = λ _. refl; stamps = λ _. refl }
 is_plain_table Clarifications = record { found = refl; uncounted = refl; keyless = λ _ _. refl; values = λ _. refl; stamps = λ _. refl }
 is_plain_table Cells = record { found = refl; uncounted = refl; keyless = λ _ _. refl; values = λ _. refl; stamps = λ _. refl }
+is_plain_table Notices = record { found = refl; uncounted = refl; keyless = λ _ _. refl; values = λ _. refl; stamps = λ _. refl }
 
 -- the row that the tree takes
 abbrev put_for : TableName → Row → List Row → Row

@@ -23,12 +23,14 @@ use Rattle.sqlite_schema.specs.Rules.{Keeps, equal, differ, agree, clashes, guar
 use Rattle.sqlite_rules.proofs.KeyLemmas.{agree_back, differ_back}
 use Rattle.sqlite_catalog.specs.Listing.{IsSound}
 use Rattle.sqlite_keyed.proofs.ListLemmas.{all-append, all_weaker, all_both, all_from_test, ascending-map, ascending_weaker, none_from_any}
-use Rattle.contest_store_tables.specs.Schema.{form_of, desk_schema, desk_indexes, older_schema}
-use Rattle.contest_store_tables.specs.Tables.{rows_in, show, by_key, without_cells}
+use Rattle.contest_store_tables.specs.Schema.{form_of, desk_schema, desk_indexes, schema_before}
+use Rattle.contest_store_tables.specs.Tables.{rows_in, show, by_key, lacking}
 use Rattle.contest_store_tables.specs.Steps.{AreNumbered, Rises}
+use Rattle.contest_store_tables.specs.declared.later_table.LaterTable.{LaterTable}
+use Rattle.contest_store_tables.specs.declared.later_table.LaterTable.TheVariants as later
 use Rattle.contest_store_tables.specs.declared.table_name.TableName.{TableName}
-use Rattle.contest_store_tables.specs.declared.table_name.TableName.TheVariants.{Desk, Contest, Items, Accounts, Submissions, Proposals, Releases, Rejudgings, Members, Clarifications, Cells}
-use Rattle.contest_store_tables.proofs.RowLemmas.{at_table}
+use Rattle.contest_store_tables.specs.declared.table_name.TableName.TheVariants.{Desk, Contest, Items, Accounts, Submissions, Proposals, Releases, Rejudgings, Members, Clarifications, Cells, Notices}
+use Rattle.contest_store_tables.proofs.RowLemmas.{at_table, tables_from}
 use Rattle.contest_store_tables.proofs.StrictSort.{rises_sorted}
 
 -- two rows of a tree, by their values at these places
@@ -158,6 +160,7 @@ module _ (db : Trees) (full_columns : Keeps NotNull desk_schema db) (once : Keep
   apart Releases = apart_numbers _ (numbered Releases).0
   apart Rejudgings = apart_numbers _ (numbered Rejudgings).0
   apart Clarifications = apart_numbers _ (numbered Clarifications).0
+  apart Notices = apart_numbers _ (numbered Notices).0
 
 -- the order of the shown rows is that of the rows by their key's places
 shown_cmp : (name : TableName) (a b : Row) → by_key (form_of name) (show (form_of name) a) (show (form_of name) b) ≡ place_cmp (form_of name).primary a b
@@ -172,6 +175,7 @@ shown_cmp Rejudgings a b = refl
 shown_cmp Members a b = refl
 shown_cmp Clarifications a b = refl
 shown_cmp Cells a b = refl
+shown_cmp Notices a b = refl
 
 -- what each table shows rises by its key
 rises : (db : Trees) → Keeps NotNull desk_schema db → Keeps Unique desk_schema db → AreNumbered db → (name : TableName) → Rises name (rows_in db name)
@@ -185,12 +189,17 @@ rises db full once numbered name =
 pub rises_in : (db : Trees) → IsSound desk_schema db → AreNumbered db → (name : TableName) → Rises name (rows_in db name)
 rises_in db sound numbered name = rises db (sound.obeys.rules NotNull) (sound.obeys.rules Unique) numbered name
 
--- what the tables of an older desk keep is kept by those of a desk that has no cell
-all_keep : (rule : Constraint) (db : Trees) → AllByRecursion (λ t. AllByRecursion (λ row. passes rule desk_schema (without_cells db) t row ≡ true) (without_cells db t.tree)) older_schema.tables
-    → Keeps rule desk_schema (without_cells db)
-all_keep rule db kept =
-    all-append (λ t. AllByRecursion (λ row. passes rule desk_schema (without_cells db) t row ≡ true) (without_cells db t.tree)) older_schema.tables (form_of Cells ∷ []) kept (tt, tt)
+-- what the tables before this one keep is kept by those of a desk whose other tables have no row
+all_keep : (rule : Constraint) (table : LaterTable) (db : Trees) → AllByRecursion (λ t. AllByRecursion (λ row. passes rule desk_schema (lacking table db) t row ≡ true) (lacking table db t.tree)) (schema_before table).tables
+    → Keeps rule desk_schema (lacking table db)
+all_keep rule later.Cells db kept =
+    all-append (λ t. AllByRecursion (λ row. passes rule desk_schema (lacking later.Cells db) t row ≡ true) (lacking later.Cells db t.tree)) (schema_before later.Cells).tables (tables_from later.Cells) kept (tt, (tt, tt))
+all_keep rule later.Notices db kept =
+    all-append (λ t. AllByRecursion (λ row. passes rule desk_schema (lacking later.Notices db) t row ≡ true) (lacking later.Notices db t.tree)) (schema_before later.Notices).tables (tables_from later.Notices) kept (tt, tt)
 
--- so what the tables of an older desk show rises by their keys
-pub older_rises_in : (db : Trees) → IsSound older_schema db → AreNumbered (without_cells db) → (name : TableName) → Rises name (rows_in (without_cells db) name)
-older_rises_in db sound numbered name = rises (without_cells db) (all_keep NotNull db (sound.obeys.rules NotNull)) (all_keep Unique db (sound.obeys.rules Unique)) numbered name
+-- so what they show rises by their keys
+pub lacking_rises_in : (table : LaterTable) (db : Trees) → IsSound (schema_before table) db → AreNumbered (lacking table db) → (name : TableName) → Rises name (rows_in (lacking table db) name)
+lacking_rises_in later.Cells db sound numbered name =
+    rises (lacking later.Cells db) (all_keep NotNull later.Cells db (sound.obeys.rules NotNull)) (all_keep Unique later.Cells db (sound.obeys.rules Unique)) numbered name
+lacking_rises_in later.Notices db sound numbered name =
+    rises (lacking later.Notices db) (all_keep NotNull later.Notices db (sound.obeys.rules NotNull)) (all_keep Unique later.Notices db (sound.obeys.rules Unique)) numbered name

@@ -3,11 +3,12 @@ use Rattle.std.proofs.Common.{[], ◌∷◌, codes, refl}
 use Rattle.sqlite_tied.specs.Compute.{everything}
 use Rattle.sqlite.specs.Listing.{understood}
 use Rattle.contest_store_tables.specs.Changes.{Changes}
+use Rattle.contest_store_tables.specs.Clearing.{Clears}
 use Rattle.contest_store_tables.specs.Making.{Creates}
-use Rattle.contest_store_tables.specs.declared.row_change.RowChange.TheVariants.{Marks, RejudgingState, MemberState, Cell}
+use Rattle.contest_store_tables.specs.declared.row_change.RowChange.TheVariants.{Version, Marks, RejudgingState, MemberState, Cell}
 use Rattle.contest_store_tables.specs.Schema.{form_of}
 use Rattle.contest_store_tables.specs.Statements.{Inserts, Loads, FindsFile}
-use Rattle.contest_store_tables.specs.declared.table_name.TableName.TheVariants.{Desk, Contest, Items, Accounts, Submissions, Proposals, Releases, Rejudgings, Members, Clarifications, Cells}
+use Rattle.contest_store_tables.specs.declared.table_name.TableName.TheVariants.{Desk, Contest, Items, Accounts, Submissions, Proposals, Releases, Rejudgings, Members, Clarifications, Cells, Notices}
 
 pub desk_created : Creates Desk (codes "CREATE TABLE desk (one INTEGER PRIMARY KEY, version INTEGER NOT NULL) STRICT")
 unfolding understood everything
@@ -133,9 +134,9 @@ pub members_loaded : Loads Members (codes "SELECT rejudging, place, team, k, typ
 unfolding understood everything
 members_loaded = record { names = codes "rejudging" ∷ codes "place" ∷ codes "team" ∷ codes "k" ∷ codes "type" ∷ codes "account" ∷ codes "ready" ∷ []; is = refl; plain = (refl, refl); unlisted = refl }
 
-pub clarifications_loaded : Loads Clarifications (codes "SELECT seq, audience, k, from_jury, account, problem, reply, text, time, key FROM clarifications ORDER BY seq")
+pub clarifications_loaded : Loads Clarifications (codes "SELECT seq, audience <> 0, audience, k, from_jury, account, problem, reply, text, time, key FROM clarifications ORDER BY seq")
 unfolding understood everything
-clarifications_loaded = record { names = codes "seq" ∷ codes "audience" ∷ codes "k" ∷ codes "from_jury" ∷ codes "account" ∷ codes "problem" ∷ codes "reply" ∷ codes "text" ∷ codes "time" ∷ codes "key" ∷ []; is = refl; plain = (refl, refl); unlisted = refl }
+clarifications_loaded = record { names = codes "seq" ∷ codes "audience <> 0" ∷ codes "audience" ∷ codes "k" ∷ codes "from_jury" ∷ codes "account" ∷ codes "problem" ∷ codes "reply" ∷ codes "text" ∷ codes "time" ∷ codes "key" ∷ []; is = refl; plain = (refl, refl); unlisted = refl }
 
 pub cells_loaded : Loads Cells (codes "SELECT audience, team, problem, judged, pending, solved, penalties FROM cells ORDER BY audience, team, problem")
 unfolding understood everything
@@ -160,3 +161,23 @@ member_state_changed = record { is = refl; plain = (refl, refl) }
 pub cell_changed : Changes Cell (codes "UPDATE cells SET judged = ?4, pending = ?5, solved = ?6, penalties = ?7 WHERE audience = ?1 AND team = ?2 AND problem = ?3")
 unfolding understood everything
 cell_changed = record { is = refl; plain = (refl, refl) }
+
+pub notices_created : Creates Notices (codes "CREATE TABLE notices (seq INTEGER PRIMARY KEY, kind INTEGER NOT NULL, number INTEGER NOT NULL, k INTEGER NOT NULL, from_jury INTEGER NOT NULL, account TEXT NOT NULL, problem TEXT, reply TEXT, text TEXT NOT NULL, time INTEGER NOT NULL, key TEXT, UNIQUE (kind, number, k)) STRICT")
+unfolding understood everything
+notices_created = record { is = refl; whole = refl; plain = (refl, refl); table = record (form_of Notices) { tree = 0 }; defined = refl; made = refl; uncounted = refl }
+
+pub notices_inserted : Inserts Notices (codes "INSERT INTO notices (seq, kind, number, k, from_jury, account, problem, reply, text, time, key) VALUES (?1, ?2, ?3, ?4, ?5, ?6, ?7, ?8, ?9, ?10, ?11)")
+unfolding understood everything
+notices_inserted = record { is = refl; plain = (refl, refl) }
+
+pub notices_loaded : Loads Notices (codes "SELECT seq, kind, number, k, from_jury, account, problem, reply, text, time, key FROM notices ORDER BY seq")
+unfolding understood everything
+notices_loaded = record { names = codes "seq" ∷ codes "kind" ∷ codes "number" ∷ codes "k" ∷ codes "from_jury" ∷ codes "account" ∷ codes "problem" ∷ codes "reply" ∷ codes "text" ∷ codes "time" ∷ codes "key" ∷ []; is = refl; plain = (refl, refl); unlisted = refl }
+
+pub clarifications_cleared : Clears Clarifications (codes "DELETE FROM clarifications")
+unfolding understood everything
+clarifications_cleared = record { is = refl; plain = (refl, refl) }
+
+pub version_changed : Changes Version (codes "UPDATE desk SET version = ?2 WHERE one = ?1")
+unfolding understood everything
+version_changed = record { is = refl; plain = (refl, refl) }

@@ -18,11 +18,12 @@ use Rattle.contest_store_tables.specs.Tables.{TableRows, show}
 use Rattle.contest_store_tables.specs.Statements.{given_terms}
 use Rattle.contest_store_tables.specs.Steps.{Holding, Within, Showing, with_rows, Rises}
 use Rattle.contest_store_tables.specs.declared.row_change.RowChange.{RowChange}
-use Rattle.contest_store_tables.specs.declared.row_change.RowChange.TheVariants.{Marks, RejudgingState, MemberState, Cell}
+use Rattle.contest_store_tables.specs.declared.row_change.RowChange.TheVariants.{Version, Marks, RejudgingState, MemberState, Cell}
 use Rattle.contest_store_tables.specs.declared.table_name.TableName.{TableName}
-use Rattle.contest_store_tables.specs.declared.table_name.TableName.TheVariants.{Contest, Rejudgings, Members, Cells}
+use Rattle.contest_store_tables.specs.declared.table_name.TableName.TheVariants.{Desk, Contest, Rejudgings, Members, Cells}
 
 abbrev pub table_of_change : RowChange → TableName
+table_of_change Version = Desk
 table_of_change Marks = Contest
 table_of_change RejudgingState = Rejudgings
 table_of_change MemberState = Members
@@ -30,6 +31,7 @@ table_of_change Cell = Cells
 
 -- the key of the row is the first of what is given, as SQL compares them
 abbrev pub is_changed : RowChange → Row → Row → Bool
+is_changed Version given r = equal Binary (column r 0) (column given 0) && true
 is_changed Marks given r = equal Binary (column r 0) (column given 0) && true
 is_changed RejudgingState given r = equal Binary (column r 0) (column given 0) && true
 is_changed MemberState given r = equal Binary (column r 0) (column given 0) && (equal Binary (column r 1) (column given 1) && true)
@@ -38,6 +40,7 @@ is_changed Cell given r =
 
 -- the row with what else is given in its last columns
 abbrev pub changed_row : RowChange → Row → Row → Row
+changed_row Version given r = column r 0 ∷ column given 1 ∷ []
 changed_row Marks given r =
     column r 0 ∷ column r 1 ∷ column r 2 ∷ column r 3 ∷ column r 4 ∷ column r 5 ∷ column r 6 ∷ column r 7 ∷ column r 8 ∷ column r 9
     ∷ column given 1 ∷ column given 2 ∷ column given 3 ∷ []
@@ -49,6 +52,7 @@ abbrev pub change_row : RowChange → Row → Row → Row
 change_row change given r = if is_changed change given r then changed_row change given r else r
 
 abbrev pub change_terms : RowChange → List Term
+change_terms Version = op2 (Compare Eq Binary) (col 1 0) (col 0 0) ∷ []
 change_terms Marks = op2 (Compare Eq Binary) (col 1 0) (col 0 0) ∷ []
 change_terms RejudgingState = op2 (Compare Eq Binary) (col 1 0) (col 0 0) ∷ []
 change_terms MemberState = op2 (Compare Eq Binary) (col 1 1) (col 0 0) ∷ op2 (Compare Eq Binary) (col 1 2) (col 0 1) ∷ []
@@ -56,6 +60,7 @@ change_terms Cell = op2 (Compare Eq Binary) (col 1 1) (col 0 0) ∷ op2 (Compare
 
 -- the number of the row, and the row that takes its place
 abbrev pub row_terms : RowChange → List Term
+row_terms Version = col 1 0 ∷ col 1 0 ∷ lit Null ∷ col 0 1 ∷ []
 row_terms Marks =
     col 1 0 ∷ col 1 0 ∷ lit Null ∷ col 1 2 ∷ col 1 3 ∷ col 1 4 ∷ col 1 5 ∷ col 1 6 ∷ col 1 7 ∷ col 1 8 ∷ col 1 9 ∷ col 1 10 ∷ col 0 1 ∷ col 0 2 ∷ col 0 3 ∷ []
 row_terms RejudgingState = col 1 0 ∷ col 1 0 ∷ lit Null ∷ col 1 2 ∷ col 0 1 ∷ []

@@ -3,8 +3,9 @@ use Rattle.std.specs.Prelude.{◌≡◌, false, [], IsTrue}
 use Rattle.sqlite.specs.State.{State}
 use Rattle.sqlite.specs.Held.{Held, state}
 use Rattle.sqlite_trees.specs.declared.store.Store.{Ghosts}
-use Rattle.contest_store_tables.specs.Schema.{desk_schema, older_schema}
+use Rattle.contest_store_tables.specs.Schema.{desk_schema, schema_before}
 use Rattle.contest_store_tables.specs.declared.counts.Counts.{Counts}
+use Rattle.contest_store_tables.specs.declared.later_table.LaterTable.{LaterTable}
 use Rattle.contest_store_tables.specs.declared.tables.Tables.{Tables}
 
 abbrev pub connection_of : {S : Type 0} → Tables S → Held S
@@ -24,9 +25,9 @@ IsAtRest s = IsTrue s.is_open × (s.now ≡ s.committed)
 abbrev pub IsOfDesk : State → Type 0
 IsOfDesk s = s.now.schema ≡ desk_schema
 
--- those of an older desk stand, and no others
-abbrev pub IsOfOlderDesk : State → Type 0
-IsOfOlderDesk s = s.now.schema ≡ older_schema
+-- those that are made before this one stand, and no others
+abbrev pub IsLacking : LaterTable → State → Type 0
+IsLacking table s = s.now.schema ≡ schema_before table
 
 -- no table stands
 abbrev pub IsBare : State → Type 0

@@ -6,5 +6,6 @@ pub mod Connected
 pub mod Steps
 pub mod Making
 pub mod Changes
+pub mod Clearing
 pub mod Forms
 pub mod Numbered

@@ -10,8 +10,10 @@ use Rattle.sqlite_schema.specs.declared.schema.Column.{Column}
 use Rattle.sqlite_schema.specs.declared.schema.Index.{Index}
 use Rattle.sqlite_schema.specs.declared.schema.Stamps.{Stamps}
 use Rattle.sqlite_value.specs.Keys.{plain}
+use Rattle.contest_store_tables.specs.declared.later_table.LaterTable.{LaterTable}
+use Rattle.contest_store_tables.specs.declared.later_table.LaterTable.TheVariants as later
 use Rattle.contest_store_tables.specs.declared.table_name.TableName.{TableName}
-use Rattle.contest_store_tables.specs.declared.table_name.TableName.TheVariants.{Desk, Contest, Items, Accounts, Submissions, Proposals, Releases, Rejudgings, Members, Clarifications, Cells}
+use Rattle.contest_store_tables.specs.declared.table_name.TableName.TheVariants.{Desk, Contest, Items, Accounts, Submissions, Proposals, Releases, Rejudgings, Members, Clarifications, Cells, Notices}
 
 abbrev pub column_of : Kind → (not_null : Bool) → List ℕ → Column
 column_of kind not_null name = record { name = name; kind = kind; is_strict = true; not_null = not_null; default = Null; collation = Binary }
@@ -96,14 +98,26 @@ form_of Clarifications = numbered_table (codes "clarifications") 17 ((2 ∷ 3 �
 form_of Cells = table_of (codes "cells") 19 (1 ∷ 2 ∷ 3 ∷ []) []
     (number (codes "audience") ∷ number (codes "team") ∷ text (codes "problem") ∷ number (codes "judged") ∷ number (codes "pending") ∷ number_or_none (codes "solved")
     ∷ number (codes "penalties") ∷ [])
+form_of Notices = numbered_table (codes "notices") 21 ((2 ∷ 3 ∷ 4 ∷ []) ∷ [])
+    (number_or_none (codes "seq") ∷ number (codes "kind") ∷ number (codes "number") ∷ number (codes "k") ∷ number (codes "from_jury") ∷ text (codes "account")
+    ∷ text_or_none (codes "problem") ∷ text_or_none (codes "reply") ∷ text (codes "text") ∷ number (codes "time") ∷ text_or_none (codes "key") ∷ [])
 
--- those of an older desk, which was made before there was a table of the cells
-abbrev pub older_tables : List TableName
-older_tables = Desk ∷ Contest ∷ Items ∷ Accounts ∷ Submissions ∷ Proposals ∷ Releases ∷ Rejudgings ∷ Members ∷ Clarifications ∷ []
+abbrev pub later_name : LaterTable → TableName
+later_name later.Cells = Cells
+later_name later.Notices = Notices
+
+-- those that each desk has had
+abbrev pub first_tables : List TableName
+first_tables = Desk ∷ Contest ∷ Items ∷ Accounts ∷ Submissions ∷ Proposals ∷ Releases ∷ Rejudgings ∷ Members ∷ Clarifications ∷ []
 
 -- in the order in which they are made
 abbrev pub all_tables : List TableName
-all_tables = older_tables ++ Cells ∷ []
+all_tables = first_tables ++ Cells ∷ Notices ∷ []
+
+-- those that are made before this one
+abbrev pub tables_before : LaterTable → List TableName
+tables_before later.Cells = first_tables
+tables_before later.Notices = first_tables ++ Cells ∷ []
 
 -- the place of a table among them
 abbrev pub index_of : TableName → ℕ
@@ -118,23 +132,32 @@ index_of Rejudgings = 7
 index_of Members = 8
 index_of Clarifications = 9
 index_of Cells = 10
+index_of Notices = 11
 
 abbrev pub index_on : List ℕ → (tree table : ℕ) → List ℕ → Index
 index_on name tree table columns = record { name = name; tree = tree; table = table; columns = columns; order = plain; is_unique = true }
 
-abbrev pub older_indexes : List Index
-older_indexes =
+abbrev pub first_indexes : List Index
+first_indexes =
     index_on (codes "sqlite_autoindex_items_1") 3 2 (1 ∷ 2 ∷ []) ∷ index_on (codes "sqlite_autoindex_items_2") 4 2 (1 ∷ 3 ∷ [])
     ∷ index_on (codes "sqlite_autoindex_accounts_1") 6 5 (1 ∷ []) ∷ index_on (codes "sqlite_autoindex_accounts_2") 7 5 (4 ∷ [])
     ∷ index_on (codes "sqlite_autoindex_submissions_1") 9 8 (2 ∷ 3 ∷ []) ∷ index_on (codes "sqlite_autoindex_submissions_2") 10 8 (2 ∷ 9 ∷ [])
     ∷ index_on (codes "sqlite_autoindex_releases_1") 13 12 (2 ∷ 3 ∷ 4 ∷ []) ∷ index_on (codes "sqlite_autoindex_members_1") 16 15 (1 ∷ 2 ∷ [])
     ∷ index_on (codes "sqlite_autoindex_clarifications_1") 18 17 (2 ∷ 3 ∷ []) ∷ []
 
-abbrev pub desk_indexes : List Index
-desk_indexes = older_indexes ++ index_on (codes "sqlite_autoindex_cells_1") 20 19 (1 ∷ 2 ∷ 3 ∷ []) ∷ []
+abbrev pub cells_index : Index
+cells_index = index_on (codes "sqlite_autoindex_cells_1") 20 19 (1 ∷ 2 ∷ 3 ∷ [])
 
-abbrev pub older_schema : Schema
-older_schema = record { tables = map form_of older_tables; indexes = older_indexes; views = [] }
+abbrev pub desk_indexes : List Index
+desk_indexes = first_indexes ++ cells_index ∷ index_on (codes "sqlite_autoindex_notices_1") 22 21 (2 ∷ 3 ∷ 4 ∷ []) ∷ []
+
+abbrev pub indexes_before : LaterTable → List Index
+indexes_before later.Cells = first_indexes
+indexes_before later.Notices = first_indexes ++ cells_index ∷ []
+
+-- the tables of a desk that lacks this one
+abbrev pub schema_before : LaterTable → Schema
+schema_before table = record { tables = map form_of (tables_before table); indexes = indexes_before table; views = [] }
 
 abbrev pub desk_schema : Schema
 desk_schema = record { tables = map form_of all_tables; indexes = desk_indexes; views = [] }

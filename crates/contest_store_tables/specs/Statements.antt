@@ -15,14 +15,15 @@ use Rattle.sqlite.specs.Listing.{understood, reads_listing}
 use Rattle.sqlite.proofs.Callers.{IsPlain, command_of}
 use Rattle.sqlite_schema.specs.Rules.{equal}
 use Rattle.sqlite_sql.specs.declared.ops.BinaryOp.TheVariants.{Compare}
-use Rattle.sqlite_sql.specs.declared.ops.CompareOp.TheVariants.{Eq}
+use Rattle.sqlite_sql.specs.declared.ops.CompareOp.TheVariants.{Eq, Ne}
 use Rattle.sqlite_sql.specs.declared.ops.UnaryOp.TheVariants.{TypeOf, Length}
+use Rattle.sqlite_sql.specs.Ops.{binary}
 use Rattle.sqlite_sql.specs.Text.{length_of, type_of}
 use Rattle.sqlite_value.specs.Keys.{ascending}
 use Rattle.contest_store_tables.specs.Schema.{form_of, index_of, desk_schema}
 use Rattle.contest_store_tables.specs.Tables.{columns_of}
 use Rattle.contest_store_tables.specs.declared.table_name.TableName.{TableName}
-use Rattle.contest_store_tables.specs.declared.table_name.TableName.TheVariants.{Submissions}
+use Rattle.contest_store_tables.specs.declared.table_name.TableName.TheVariants.{Submissions, Clarifications}
 
 -- the parameters as a row of the tree: the row's number first, if the table has a column for it
 abbrev pub given_terms : Table → List Term
@@ -33,15 +34,21 @@ pub record Inserts (name : TableName) (sql : List ℕ) : Type 0 where
   pub is : command_of (understood desk_schema sql) ≡ Insert (index_of name) (Values (given_terms (form_of name)) (length (given_terms (form_of name))))
   pub plain : IsPlain (understood desk_schema sql)
 
--- what a load gives of a row: all of it, but of a submission's file only its type and its length
+-- what a load gives of a row: all of it, but of a submission's file only its type and its length; and of a clarification of
+-- the first schema, as today's schema has it, whether it goes to a team
 abbrev pub loaded_row : TableName → Row → Row
 loaded_row Submissions r =
     column r 0 ∷ column r 1 ∷ column r 2 ∷ column r 3 ∷ column r 4 ∷ column r 5 ∷ column r 6 ∷ type_of (column r 7) ∷ length_of (column r 7) ∷ column r 8 ∷ []
+loaded_row Clarifications r =
+    column r 0 ∷ binary (Compare Ne Binary) (column r 1) (Int (pos 0)) ∷ column r 1 ∷ column r 2 ∷ column r 3 ∷ column r 4 ∷ column r 5 ∷ column r 6 ∷ column r 7
+    ∷ column r 8 ∷ column r 9 ∷ []
 loaded_row _ r = r
 
 abbrev pub loaded_terms : TableName → List Term
 loaded_terms Submissions =
     col 1 0 ∷ col 1 2 ∷ col 1 3 ∷ col 1 4 ∷ col 1 5 ∷ col 1 6 ∷ col 1 7 ∷ op1 TypeOf (col 1 8) ∷ op1 Length (col 1 8) ∷ col 1 9 ∷ []
+loaded_terms Clarifications =
+    col 1 0 ∷ op2 (Compare Ne Binary) (col 1 2) (lit (Int (pos 0))) ∷ col 1 2 ∷ col 1 3 ∷ col 1 4 ∷ col 1 5 ∷ col 1 6 ∷ col 1 7 ∷ col 1 8 ∷ col 1 9 ∷ col 1 10 ∷ []
 loaded_terms name = map (col 1) (columns_of (form_of name))
 
 -- each row of the table, by its key

@@ -17,11 +17,13 @@ use Rattle.sqlite_rules.specs.Cast.{cast_row}
 use Rattle.sqlite_trees.specs.Tree.{IsAscending, IsTable, rowid}
 use Rattle.sqlite_trees.specs.View.{is_int}
 use Rattle.contest_store.specs.declared.store_error.StoreError.{StoreError}
-use Rattle.contest_store_tables.specs.Schema.{form_of, all_tables, desk_schema, older_schema}
-use Rattle.contest_store_tables.specs.Tables.{TableRows, rows_in, show, by_key, without_cells}
+use Rattle.contest_store_tables.specs.Schema.{form_of, all_tables, desk_schema, schema_before}
+use Rattle.contest_store_tables.specs.Tables.{TableRows, rows_in, show, by_key, lacking}
 use Rattle.contest_store_tables.specs.Statements.{given_terms}
 use Rattle.contest_store_tables.specs.Counts.{CountsCall}
 use Rattle.contest_store_tables.specs.declared.counts.Counts.{Counts}
+use Rattle.contest_store_tables.specs.declared.later_table.LaterTable.{LaterTable}
+use Rattle.contest_store_tables.specs.declared.later_table.LaterTable.TheVariants.{Cells, Notices}
 use Rattle.contest_store_tables.specs.declared.table_name.TableName.{TableName}
 
 -- these tables, made one after the other
@@ -32,23 +34,23 @@ schema_with = fold (λ s name. created s (form_of name)) (record { tables = []; 
 abbrev pub AreNumbered : Trees → Type 0
 AreNumbered db = (name : TableName) → IsTable (db (form_of name).tree) × AllByRecursion (λ r. IsTrue (is_int (rowid r))) (db (form_of name).tree)
 
--- what a database has: these tables alone, all of them empty, or the tables of a desk with these rows, or those of an
--- older desk
+-- what a database has: these tables alone, all of them empty, or the tables of a desk with these rows, or those that are
+-- made before one of them
 pub data Content : Type 0 where
   OnlyMade : List TableName → Content
   Showing : TableRows → Content
-  WithoutCells : TableRows → Content
+  Lacking : LaterTable → TableRows → Content
 
 abbrev pub HasContent : Database → Content → Type 0
 HasContent d (OnlyMade made) = (d.schema ≡ schema_with made) × AllByRecursion (λ (t : Table). d.trees t.tree ≡ []) d.schema.tables
 HasContent d (Showing rows) = (d.schema ≡ desk_schema) × (rows_in d.trees ≡ rows) × AreNumbered d.trees
-HasContent d (WithoutCells rows) = (d.schema ≡ older_schema) × (rows_in (without_cells d.trees) ≡ rows) × AreNumbered (without_cells d.trees)
+HasContent d (Lacking table rows) = (d.schema ≡ schema_before table) × (rows_in (lacking table d.trees) ≡ rows) × AreNumbered (lacking table d.trees)
 
 -- trees that show these rows; of tables without a row nothing is said
 abbrev pub Spells : Trees → Content → Type 0
 Spells db (OnlyMade made) = Unit {0}
 Spells db (Showing rows) = rows_in db ≡ rows
-Spells db (WithoutCells rows) = rows_in (without_cells db) ≡ rows
+Spells db (Lacking table rows) = rows_in (lacking table db) ≡ rows
 
 -- an open connection has this content now, and this one as it was last committed
 pub record Holds (s : State) (now kept : Content) : Type 0 where
@@ -67,9 +69,9 @@ Within s now kept = Holds s now kept × IsTrue s.in_transaction
 abbrev pub Full : Holding
 Full s now kept = Within s now kept × ((rows : TableRows) × (now ≡ Showing rows))
 
--- the tables of an older desk stand
-abbrev pub FullOlder : Holding
-FullOlder s now kept = Within s now kept × ((rows : TableRows) × (now ≡ WithoutCells rows))
+-- those stand that are made before this one
+abbrev pub FullLacking : LaterTable → Holding
+FullLacking table s now kept = Within s now kept × ((rows : TableRows) × (now ≡ Lacking table rows))
 
 -- the last commit became this
 abbrev pub Ended : Holding
@@ -87,9 +89,14 @@ HasCreated count s now kept = Within s (OnlyMade (take count all_tables)) kept
 abbrev pub HasMade : Holding
 HasMade s now kept = Within s (Showing (λ _. [])) kept
 
--- where the tables of an older desk stood, those of a desk do, with the same rows and no cell
-abbrev pub HasCells : Holding
-HasCells s now kept = (rows : TableRows) → now ≡ WithoutCells rows → Within s (Showing rows) kept
+-- what a database has once this table is made too, and is empty
+abbrev pub with_later : LaterTable → TableRows → Content
+with_later Cells rows = Lacking Notices rows
+with_later Notices rows = Showing rows
+
+-- it is made, and the others have the same rows
+abbrev pub HasLater : LaterTable → Holding
+HasLater table s now kept = (rows : TableRows) → now ≡ Lacking table rows → Within s (with_later table rows) kept
 
 -- these rows in place of those of one table
 abbrev pub with_rows : TableName → List Row → TableRows → TableRows

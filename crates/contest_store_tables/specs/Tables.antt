@@ -11,8 +11,10 @@ use Rattle.sqlite_value.specs.Keys.{rising}
 use Rattle.sqlite_sql.specs.Query.{key_cmp}
 use Rattle.sqlite_keyed.specs.Lists.{sort_by}
 use Rattle.contest_store_tables.specs.Schema.{form_of}
+use Rattle.contest_store_tables.specs.declared.later_table.LaterTable.{LaterTable}
+use Rattle.contest_store_tables.specs.declared.later_table.LaterTable.TheVariants as later
 use Rattle.contest_store_tables.specs.declared.table_name.TableName.{TableName}
-use Rattle.contest_store_tables.specs.declared.table_name.TableName.TheVariants.{Cells}
+use Rattle.contest_store_tables.specs.declared.table_name.TableName.TheVariants.{Cells, Notices}
 
 -- where its columns stand in a row of the tree, which begins with the row's number and has none in its place
 abbrev pub columns_of : Table → List ℕ
@@ -33,6 +35,7 @@ TableRows = TableName → List Row
 abbrev pub rows_in : Trees → TableRows
 rows_in db name = sort_by (by_key (form_of name)) (map (show (form_of name)) (db (form_of name).tree))
 
--- the trees of an older desk, as if the table of the cells were there and had no row
-abbrev pub without_cells : Trees → Trees
-without_cells db = with_tree db (form_of Cells).tree []
+-- the trees of a desk that lacks this table, as if it and those after it were there and had no row
+abbrev pub lacking : LaterTable → Trees → Trees
+lacking later.Cells db = with_tree (with_tree db (form_of Notices).tree []) (form_of Cells).tree []
+lacking later.Notices db = with_tree db (form_of Notices).tree []

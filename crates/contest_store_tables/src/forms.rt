@@ -37,14 +37,8 @@ pub(crate) struct IndexForm {
     pub(crate) columns: &'static [usize],
 }
 
-/// How many tables an older desk has: those that are made first.
-pub(crate) const OLDER_TABLES: usize = 10;
-
-/// And how many indexes.
-pub(crate) const OLDER_INDEXES: usize = 9;
-
 /// The tables, in the order in which they are made.
-pub(crate) static TABLE_FORMS: [TableForm; 11] = [
+pub(crate) static TABLE_FORMS: [TableForm; 12] = [
     TableForm {
         name: b"desk",
         tree: 0,
@@ -213,10 +207,30 @@ pub(crate) static TABLE_FORMS: [TableForm; 11] = [
             Number(b"penalties"),
         ],
     },
+    TableForm {
+        name: b"notices",
+        tree: 21,
+        key: Some(0),
+        primary: &[0],
+        uniques: &[&[2, 3, 4]],
+        columns: &[
+            NumberOrNone(b"seq"),
+            Number(b"kind"),
+            Number(b"number"),
+            Number(b"k"),
+            Number(b"from_jury"),
+            Text(b"account"),
+            TextOrNone(b"problem"),
+            TextOrNone(b"reply"),
+            Text(b"text"),
+            Number(b"time"),
+            TextOrNone(b"key"),
+        ],
+    },
 ];
 
 /// The indexes, in the order in which they are made.
-pub(crate) static INDEX_FORMS: [IndexForm; 10] = [
+pub(crate) static INDEX_FORMS: [IndexForm; 11] = [
     IndexForm {
         name: b"sqlite_autoindex_items_1",
         tree: 3,
@@ -276,5 +290,11 @@ pub(crate) static INDEX_FORMS: [IndexForm; 10] = [
         tree: 20,
         table: 19,
         columns: &[1, 2, 3],
+    },
+    IndexForm {
+        name: b"sqlite_autoindex_notices_1",
+        tree: 22,
+        table: 21,
+        columns: &[2, 3, 4],
     },
 ];

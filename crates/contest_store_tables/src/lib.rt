@@ -3,6 +3,7 @@
 
 mod counts;
 mod forms;
+mod later_table;
 mod row_change;
 mod schema_test;
 mod standing;
@@ -12,6 +13,7 @@ mod tables;
 mod texts;
 
 pub use counts::{Counts, one_more};
+pub use later_table::LaterTable;
 pub use row_change::RowChange;
 pub use standing::Standing;
 pub use table_name::{ALL_TABLES, LIST_TABLES, TableName};

@@ -4,6 +4,8 @@
 /// then the new values in the order of the columns.
 #[derive(Clone, Copy, Debug, PartialEq, Eq)]
 pub enum RowChange {
+    /// The version, in the one row of `Desk`.
+    Version,
     /// Start, thaw and finalized, in the one row of `Contest`.
     Marks,
     /// The state, in a row of `Rejudgings`.

@@ -2,11 +2,10 @@
 ghost use Rattle.std.specs.Prelude.{◌≡◌, ◌↔◌, [], map, IsTrue};
 ghost use Rattle.sqlite_value.specs.Keys.{plain};
 ghost use Rattle.contest_store_tables.specs.Forms.{column_in, table_in, index_in};
-ghost use Rattle.contest_store_tables.specs.Schema.{no_stamps, desk_schema, older_schema};
+ghost use Rattle.contest_store_tables.specs.Schema.{no_stamps, desk_schema, schema_before};
 
-use crate::forms::{
-    ColumnForm, INDEX_FORMS, IndexForm, OLDER_INDEXES, OLDER_TABLES, TABLE_FORMS, TableForm,
-};
+use crate::LaterTable;
+use crate::forms::{ColumnForm, INDEX_FORMS, IndexForm, TABLE_FORMS, TableForm};
 use sqlite_schema::code::Terms;
 use sqlite_schema::schema::{Column, Index, Kind, Schema, Stamps, Table};
 use sqlite_value::keys::{Collation, Order};
@@ -164,15 +163,14 @@ pub(crate) fn is_of_desk(schema: &Schema) -> bool
     has_only(schema, &TABLE_FORMS, &INDEX_FORMS)
 }
 
-/// Whether the tables of an older desk stand, and no others.
-pub(crate) fn is_of_older_desk(schema: &Schema) -> bool
-    ensures { IsTrue result ↔ (schema.now ≡ older_schema) }
+/// Whether those tables of a desk stand that are made before this one, and no others.
+pub(crate) fn is_lacking(schema: &Schema, table: LaterTable) -> bool
+    ensures { IsTrue result ↔ (schema.now ≡ schema_before table) }
 {
-    has_only(
-        schema,
-        &TABLE_FORMS[..OLDER_TABLES],
-        &INDEX_FORMS[..OLDER_INDEXES],
-    )
+    match table {
+        LaterTable::Cells => has_only(schema, &TABLE_FORMS[..10], &INDEX_FORMS[..9]),
+        LaterTable::Notices => has_only(schema, &TABLE_FORMS[..11], &INDEX_FORMS[..10]),
+    }
 }
 
 /// Whether no table stands.

@@ -1,5 +1,7 @@
 //! What stands in a database.
 
+use crate::LaterTable;
+
 /// Which tables stand in a database.
 #[derive(Clone, Copy, Debug, PartialEq, Eq)]
 pub enum Standing {
@@ -7,8 +9,8 @@ pub enum Standing {
     Bare,
     /// The tables of a desk, and no others.
     Desk,
-    /// The tables of a desk but that of the cells, and no others.
-    Older,
+    /// Of the tables of a desk those that are made before this one, and no others.
+    Lacking(LaterTable),
     /// Others.
     Foreign,
 }

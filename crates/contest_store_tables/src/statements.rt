@@ -4,16 +4,17 @@ ghost use Rattle.sqlite.specs.declared.types.Value.{Value};
 ghost use Rattle.sqlite.specs.State.{HasCleanDisk};
 ghost use Rattle.sqlite.specs.Values.{bound};
 ghost use Rattle.contest_store_tables.specs.Changes.{HasChanged};
+ghost use Rattle.contest_store_tables.specs.Clearing.{HasCleared};
 ghost use Rattle.contest_store_tables.specs.Connected.{shown_by, counts_of};
 ghost use Rattle.contest_store_tables.specs.Schema.{index_of};
 ghost use Rattle.contest_store_tables.specs.Statements.{loaded_row, files_of};
-ghost use Rattle.contest_store_tables.specs.declared.table_name.TableName.TheVariants.{Submissions};
-ghost use Rattle.contest_store_tables.specs.Steps.{Call, Step, Content, Showing, Holds, Within, Full, FullOlder, Ended, Rises, HasFirst, HasCreated, HasMade, HasCells, HasInserted, MakesNone, MakesNow};
+ghost use Rattle.contest_store_tables.specs.declared.table_name.TableName.TheVariants.{Clarifications, Submissions};
+ghost use Rattle.contest_store_tables.specs.Steps.{Call, Step, Content, Showing, Holds, Within, Full, FullLacking, Ended, Rises, HasFirst, HasCreated, HasMade, HasLater, HasInserted, MakesNone, MakesNow};
 ghost use Rattle.contest_store_tables.specs.Tables.{TableRows};
 
 use crate::table_name::ALL_TABLES;
-use crate::texts::{change_text, create_text, file_text, insert_text, load_text};
-use crate::{RowChange, TableName, Tables};
+use crate::texts::{change_text, clear_text, create_text, file_text, insert_text, load_text};
+use crate::{LaterTable, RowChange, TableName, Tables};
 use contest_store::StoreError;
 use sqlite::types::ValueRef;
 use sqlite::{Alter, Row};
@@ -51,13 +52,13 @@ impl<S: Alter> Tables<S> {
         Ok(())
     }
 
-    /// Makes the table of the cells, which is empty then, within a transaction in which the tables of an
-    /// older desk stand.
-    pub fn make_cells(&mut self) -> Result<(), StoreError>
-        ensures { Step result (shown_by S.Store self.old) (shown_by S.Store self.new) (counts_of self.old) (counts_of self.new) FullOlder HasCells
-            (MakesNone (shown_by S.Store self.old) FullOlder) }
+    /// Makes a table that a desk lacks, which is empty then, within a transaction in which those before it
+    /// stand.
+    pub fn make_later(&mut self, table: LaterTable) -> Result<(), StoreError>
+        ensures { Step result (shown_by S.Store self.old) (shown_by S.Store self.new) (counts_of self.old) (counts_of self.new) (FullLacking table) (HasLater table)
+            (MakesNone (shown_by S.Store self.old) (FullLacking table)) }
     {
-        self.execute(create_text(TableName::Cells), &[])
+        self.execute(create_text(table.name()), &[])
     }
 
     /// Inserts a row into a table, within a transaction.
@@ -75,6 +76,14 @@ impl<S: Alter> Tables<S> {
             (MakesNone (shown_by S.Store self.old) Full) }
     {
         self.execute(change_text(change), given)
+    }
+
+    /// Takes all rows out of `Clarifications`, within a transaction.
+    pub fn clear_clarifications(&mut self) -> Result<(), StoreError>
+        ensures { Step result (shown_by S.Store self.old) (shown_by S.Store self.new) (counts_of self.old) (counts_of self.new) Full (HasCleared Clarifications)
+            (MakesNone (shown_by S.Store self.old) Full) }
+    {
+        self.execute(clear_text(), &[])
     }
 
     /// The rows of a table, in the order of its key, within a transaction.

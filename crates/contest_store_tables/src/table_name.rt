@@ -21,14 +21,16 @@ pub enum TableName {
     Rejudgings,
     /// The members of the rejudgings.
     Members,
-    /// The clarifications.
+    /// Where the first schema kept the clarifications; no row since the second.
     Clarifications,
     /// The cells of the teams at the problems, under either mask.
     Cells,
+    /// The clarifications.
+    Notices,
 }
 
 /// The tables of the lists, in the order in which they are made: all but that of the cells.
-pub const LIST_TABLES: [TableName; 10] = [
+pub const LIST_TABLES: [TableName; 11] = [
     TableName::Desk,
     TableName::Contest,
     TableName::Items,
@@ -39,10 +41,11 @@ pub const LIST_TABLES: [TableName; 10] = [
     TableName::Rejudgings,
     TableName::Members,
     TableName::Clarifications,
+    TableName::Notices,
 ];
 
 /// All tables, in the order in which they are made.
-pub const ALL_TABLES: [TableName; 11] = [
+pub const ALL_TABLES: [TableName; 12] = [
     TableName::Desk,
     TableName::Contest,
     TableName::Items,
@@ -54,4 +57,5 @@ pub const ALL_TABLES: [TableName; 11] = [
     TableName::Members,
     TableName::Clarifications,
     TableName::Cells,
+    TableName::Notices,
 ];

@@ -5,13 +5,13 @@ ghost use Rattle.sqlite.specs.Effect.{IsDatabase};
 ghost use Rattle.sqlite.specs.Held.{state};
 ghost use Rattle.sqlite.specs.State.{HasCleanDisk, Survives, Executes, CommitsBy, CommitsShowing, Shown};
 ghost use Rattle.contest_store_tables.specs.Counts.{cause_of, counted, CountsCall};
-ghost use Rattle.contest_store_tables.specs.Steps.{OnlyMade, Showing, WithoutCells, AreNumbered, Holds};
-ghost use Rattle.contest_store_tables.specs.Tables.{rows_in, without_cells};
-ghost use Rattle.contest_store_tables.specs.Connected.{connection_of, shown_by, counts_of, IsAtRest, IsOfDesk, IsOfOlderDesk, IsBare, IsUndone};
+ghost use Rattle.contest_store_tables.specs.Steps.{OnlyMade, Showing, Lacking, AreNumbered, Holds};
+ghost use Rattle.contest_store_tables.specs.Tables.{rows_in, lacking};
+ghost use Rattle.contest_store_tables.specs.Connected.{connection_of, shown_by, counts_of, IsAtRest, IsOfDesk, IsLacking, IsBare, IsUndone};
 
 use crate::counts::cause_of;
-use crate::schema_test::{is_bare, is_of_desk, is_of_older_desk};
-use crate::{Counts, Standing};
+use crate::schema_test::{is_bare, is_lacking, is_of_desk};
+use crate::{Counts, LaterTable, Standing};
 use contest_store::StoreError;
 use sqlite::types::ValueRef;
 use sqlite::{Alter, Connection, Error, Row};
@@ -36,8 +36,8 @@ impl<S: Alter> Tables<S> {
         ensures bare { IsAtRest (state S.Store conn) → IsBare (state S.Store conn) → Holds (shown_by S.Store result) (OnlyMade []) (OnlyMade []) }
         ensures desk { IsAtRest (state S.Store conn) → IsOfDesk (state S.Store conn) → AreNumbered (state S.Store conn).now.trees
             → Holds (shown_by S.Store result) (Showing (rows_in (state S.Store conn).now.trees)) (Showing (rows_in (state S.Store conn).now.trees)) }
-        ensures older { IsAtRest (state S.Store conn) → IsOfOlderDesk (state S.Store conn) → AreNumbered (without_cells (state S.Store conn).now.trees)
-            → Holds (shown_by S.Store result) (WithoutCells (rows_in (without_cells (state S.Store conn).now.trees))) (WithoutCells (rows_in (without_cells (state S.Store conn).now.trees))) }
+        ensures lacking { (table : LaterTable) → IsAtRest (state S.Store conn) → IsLacking table (state S.Store conn) → AreNumbered (lacking table (state S.Store conn).now.trees)
+            → Holds (shown_by S.Store result) (Lacking table (rows_in (lacking table (state S.Store conn).now.trees))) (Lacking table (rows_in (lacking table (state S.Store conn).now.trees))) }
     {
         Tables {
             conn,
@@ -59,16 +59,18 @@ impl<S: Alter> Tables<S> {
     /// Which tables stand in the database.
     pub fn standing(&self) -> Standing
         ensures desk { result ≡ Standing.Desk → IsOfDesk (shown_by S.Store self.now) }
-        ensures older { result ≡ Standing.Older → IsOfOlderDesk (shown_by S.Store self.now) }
+        ensures lacking { (table : LaterTable) → result ≡ Standing.Lacking table → IsLacking table (shown_by S.Store self.now) }
         ensures bare { result ≡ Standing.Bare → IsBare (shown_by S.Store self.now) }
-        ensures foreign { result ≡ Standing.Foreign → (¬ IsOfDesk (shown_by S.Store self.now)) × (¬ IsOfOlderDesk (shown_by S.Store self.now)) × (¬ IsBare (shown_by S.Store self.now)) }
+        ensures foreign { result ≡ Standing.Foreign → (¬ IsOfDesk (shown_by S.Store self.now)) × ((table : LaterTable) → ¬ IsLacking table (shown_by S.Store self.now)) × (¬ IsBare (shown_by S.Store self.now)) }
         ensures sound { IsTrue (shown_by S.Store self.now).is_open → IsDatabase (shown_by S.Store self.now).now }
     {
         let schema = self.conn.schema();
         if is_of_desk(schema) {
             Standing::Desk
-        } else if is_of_older_desk(schema) {
-            Standing::Older
+        } else if is_lacking(schema, LaterTable::Notices) {
+            Standing::Lacking(LaterTable::Notices)
+        } else if is_lacking(schema, LaterTable::Cells) {
+            Standing::Lacking(LaterTable::Cells)
         } else if is_bare(schema) {
             Standing::Bare
         } else {

@@ -1,7 +1,9 @@
 //! The texts of the statements on the tables.
 ghost use Rattle.contest_store_tables.specs.Changes.{Changes};
 ghost use Rattle.contest_store_tables.specs.Making.{Creates};
+ghost use Rattle.contest_store_tables.specs.Clearing.{Clears};
 ghost use Rattle.contest_store_tables.specs.Statements.{Inserts, Loads, FindsFile};
+ghost use Rattle.contest_store_tables.specs.declared.table_name.TableName.TheVariants.{Clarifications};
 
 use crate::{RowChange, TableName};
 
@@ -32,6 +34,8 @@ pub(crate) fn create_text(table: TableName) -> &'static str
             "CREATE TABLE clarifications (seq INTEGER PRIMARY KEY, audience INTEGER NOT NULL, k INTEGER NOT NULL, from_jury INTEGER NOT NULL, account TEXT NOT NULL, problem TEXT, reply TEXT, text TEXT NOT NULL, time INTEGER NOT NULL, key TEXT, UNIQUE (audience, k)) STRICT",
         TableName::Cells =>
             "CREATE TABLE cells (audience INTEGER NOT NULL, team INTEGER NOT NULL, problem TEXT NOT NULL, judged INTEGER NOT NULL, pending INTEGER NOT NULL, solved INTEGER, penalties INTEGER NOT NULL, PRIMARY KEY (audience, team, problem)) STRICT",
+        TableName::Notices =>
+            "CREATE TABLE notices (seq INTEGER PRIMARY KEY, kind INTEGER NOT NULL, number INTEGER NOT NULL, k INTEGER NOT NULL, from_jury INTEGER NOT NULL, account TEXT NOT NULL, problem TEXT, reply TEXT, text TEXT NOT NULL, time INTEGER NOT NULL, key TEXT, UNIQUE (kind, number, k)) STRICT",
     }
 }
 
@@ -60,6 +64,8 @@ pub(crate) fn insert_text(table: TableName) -> &'static str
             "INSERT INTO clarifications (seq, audience, k, from_jury, account, problem, reply, text, time, key) VALUES (?1, ?2, ?3, ?4, ?5, ?6, ?7, ?8, ?9, ?10)",
         TableName::Cells =>
             "INSERT INTO cells (audience, team, problem, judged, pending, solved, penalties) VALUES (?1, ?2, ?3, ?4, ?5, ?6, ?7)",
+        TableName::Notices =>
+            "INSERT INTO notices (seq, kind, number, k, from_jury, account, problem, reply, text, time, key) VALUES (?1, ?2, ?3, ?4, ?5, ?6, ?7, ?8, ?9, ?10, ?11)",
     }
 }
 
@@ -83,9 +89,11 @@ pub(crate) fn load_text(table: TableName) -> &'static str
         TableName::Members =>
             "SELECT rejudging, place, team, k, type, account, ready FROM members ORDER BY rejudging, place",
         TableName::Clarifications =>
-            "SELECT seq, audience, k, from_jury, account, problem, reply, text, time, key FROM clarifications ORDER BY seq",
+            "SELECT seq, audience <> 0, audience, k, from_jury, account, problem, reply, text, time, key FROM clarifications ORDER BY seq",
         TableName::Cells =>
             "SELECT audience, team, problem, judged, pending, solved, penalties FROM cells ORDER BY audience, team, problem",
+        TableName::Notices =>
+            "SELECT seq, kind, number, k, from_jury, account, problem, reply, text, time, key FROM notices ORDER BY seq",
     }
 }
 
@@ -94,6 +102,7 @@ pub(crate) fn change_text(change: RowChange) -> &'static str
     ensures { Changes change result.now }
 {
     match change {
+        RowChange::Version => "UPDATE desk SET version = ?2 WHERE one = ?1",
         RowChange::Marks =>
             "UPDATE contest SET start = ?2, thaw = ?3, finalized = ?4 WHERE one = ?1",
         RowChange::RejudgingState => "UPDATE rejudgings SET state = ?2 WHERE n = ?1",
@@ -102,6 +111,13 @@ pub(crate) fn change_text(change: RowChange) -> &'static str
         RowChange::Cell =>
             "UPDATE cells SET judged = ?4, pending = ?5, solved = ?6, penalties = ?7 WHERE audience = ?1 AND team = ?2 AND problem = ?3",
     }
+}
+
+/// The statement that takes all rows out of `Clarifications`.
+pub(crate) fn clear_text() -> &'static str
+    ensures { Clears Clarifications result.now }
+{
+    "DELETE FROM clarifications"
 }
 
 /// The statement that finds the file of a submission by its team and its number.

@@ -6,6 +6,8 @@ use Rattle.contest_lists.specs.Lists.{loaded}
 use Rattle.contest_types.specs.State.{of_submission, same_addressee}
 use Rattle.contest_types.specs.Valid.{is_valid}
 use Rattle.contest_types.specs.declared.account.Role.TheVariants as role
+use Rattle.contest_types.specs.declared.clarification.Addressee.TheVariants as addressee
+use Rattle.contest_types.specs.declared.clarification.Clarification.{Clarification}
 use Rattle.contest_types.specs.declared.submission.Submission.{Submission}
 use Rattle.contest_types.proofs.ExampleContest.{accounts, account_for, asked, answered, announced, submitted, minutes}
 use Rattle.contest_types.proofs.ExampleTalk.{base, submissions}
@@ -41,6 +43,13 @@ keys_of_teams = refl
 -- a team's question and the jury's answer count up together, and what is told to all by itself
 by_addressee : numbered same_addressee (map addressee_of (asked 0 1 (minutes 40) ∷ answered 0 2 (minutes 50) ∷ announced 1 (minutes 60) None ∷ [])) ≡ 1 ∷ 2 ∷ 1 ∷ []
 by_addressee = refl
+
+-- so does what is told to each group
+abbrev told : (group number : ℕ) → Clarification
+told group number = record (announced number (minutes 60) None) { addressee = addressee.Group group }
+
+by_group : numbered same_addressee (map addressee_of (announced 1 (minutes 60) None ∷ told 0 1 ∷ told 1 1 ∷ told 0 2 ∷ asked 0 1 (minutes 61) ∷ [])) ≡ 1 ∷ 1 ∷ 1 ∷ 2 ∷ 1 ∷ []
+by_group = refl
 
 -- a team's key is its own, a judge's goes by the account, whoever it is sent to
 team_and_judge : same_sender (whose (asked 0 1 (minutes 40))) (whose (answered 0 2 (minutes 50))) ≡ false

@@ -1,5 +1,5 @@
 -- Clarifications by their addressees, by who sent them, and by what they answer.
-use Rattle.std.proofs.Common.{◌≡◌, ℕ, ◌+◌, ◌<◌, get_or, take, Bool, true, false, List, [], ◌∷◌, ◌++◌, length, map, filter, Option, Some, None, refl, sym, ◌∙◌, ap}
+use Rattle.std.proofs.Common.{◌≡◌, ℕ, ◌+◌, ◌-◌, ◌<◌, get_or, take, Bool, true, false, List, [], ◌∷◌, ◌++◌, length, map, filter, Option, Some, None, refl, sym, ◌∙◌, ap, arith}
 use Rattle.std.proofs.Math.Path.{fun_ext}
 use Rattle.std.specs.Prelude.{◌&&◌, nat_eq, nat_le, nat_lt, count_by, is_some, if◌then◌else◌}
 use Rattle.std.specs.Borrow.{Bor}
@@ -8,11 +8,16 @@ use Rattle.std.specs.Option.{option_eq, option_map_or}
 use Rattle.std.specs.Str.{bytes_eq}
 use Rattle.std.specs.Cmp.{IsEquivalence}
 use Rattle.std.specs.Cmp.Lexicographic.{pointwise, options_equiv}
+use Rattle.std.proofs.lemmas.Bool.Decides.{nat_tests}
 use Rattle.std.proofs.lemmas.Cmp.{nat_list_eq_equiv}
 use Rattle.std.proofs.lemmas.List.{take_more}
 use Rattle.std.proofs.lemmas.List.Elements.{filter_map-append}
 use Rattle.contest_types.specs.Accounts.{account_named}
+use Rattle.contest_types.specs.Masks.{audience_at}
 use Rattle.contest_types.specs.Series.{in_each, count_up}
+use Rattle.contest_types.specs.Setup.{Setup}
+use Rattle.contest_types.specs.Sight.{hears}
+use Rattle.contest_types.specs.TeamPlaces.{is_of_group}
 use Rattle.contest_types.specs.State.{ContestState, same_addressee}
 use Rattle.contest_types.specs.ValidClarifications.{is_an_addressee, is_well_sent, is_valid_clarification, to_one_addressee, are_valid_clarifications, OfTeam, OfAccount, same_scope, in_one_scope, keys_are_own}
 use Rattle.contest_types.specs.declared.limits.TheConstants.{TEAM_REQUESTS, JURY_CLARIFICATIONS}
@@ -34,8 +39,13 @@ use Rattle.contest_store_valid.proofs.PairLemmas.{all_same, any_mapped, same_pai
 
 same_key : (a b : Addressee) → addressee_eq.eq a b ≡ same_addressee a b
 same_key addressee.All addressee.All = refl
+same_key addressee.All (addressee.Group h) = refl
 same_key addressee.All (addressee.Team u) = refl
+same_key (addressee.Group g) addressee.All = refl
+same_key (addressee.Group g) (addressee.Group h) = refl
+same_key (addressee.Group g) (addressee.Team u) = refl
 same_key (addressee.Team t) addressee.All = refl
+same_key (addressee.Team t) (addressee.Group h) = refl
 same_key (addressee.Team t) (addressee.Team u) = refl
 
 -- equal as keys of a map is the same
@@ -132,6 +142,13 @@ valid_alone x =
     (λ c. last_two (is_an_addressee x.fixed c.addressee && is_some (account_named x.fixed.accounts c.account) && option_map_or (λ problem. nat_lt problem (length x.fixed.settings.problems)) c.problem true) (answers c) (is_well_sent x.fixed c))
     x.clarifications
     ∙ all_both (is_sent x.fixed) answers x.clarifications
+
+-- a team hears what goes to the groups that it is in
+pub own_groups : (s : Setup) (group team : ℕ) → hears (audience_at team) s (addressee.Group group) ≡ is_of_group s group team
+own_groups s group team =
+    let above : nat_lt 0 (team + 1) ≡ true = grind (arith, nat_tests) in
+    let same : team + 1 - 1 ≡ team = omega arith in
+    ap (λ b. b && is_of_group s group (team + 1 - 1)) above ∙ ap (is_of_group s group) same
 
 -- one more row, if it gives something
 pub given_more : {X Y : Type 0} (h : X → Option Y) (xs : List X) (i : ℕ) (x : X) (ys more : List Y) → i < length xs → x ≡ get_or xs i x

@@ -3,7 +3,6 @@ ghost use Rattle.std.specs.Prelude.{◌≡◌, ◌++◌, ◌∷◌, [], true, na
 ghost use Rattle.std.specs.Option.{option_map_or};
 ghost use Rattle.contest_types.specs.Masks.{audience_at};
 ghost use Rattle.contest_types.specs.Series.{in_each};
-ghost use Rattle.contest_types.specs.Setup.{Setup};
 ghost use Rattle.contest_types.specs.Sight.{hears};
 ghost use Rattle.contest_types.specs.State.{same_addressee};
 ghost use Rattle.contest_types.specs.ValidClarifications.{is_an_addressee, may_send, is_well_sent, in_one_scope, keys_are_own};
@@ -15,7 +14,7 @@ ghost use Rattle.contest_store_valid.specs.Talk.{is_sent, whose, read_sent};
 
 use crate::accounts::Accounts;
 use crate::numbering::are_at_most;
-use contest_types::{Addressee, Clarification, Fixed, Reference, Role, Settings};
+use contest_types::{Addressee, Clarification, Fixed, Reference, Role, Settings, is_of_group};
 use std::alloc::{AllocError, Global};
 
 /// Who wrote a clarification, in as far as keys are told apart by it: the addressee, if a team did, or
@@ -39,6 +38,7 @@ fn is_an_addressee(fixed: &Fixed, addressee: Addressee) -> bool
 {
     match addressee {
         Addressee::All => true,
+        Addressee::Group(group) => group < fixed.settings.groups().len(),
         Addressee::Team(team) => team < fixed.settings.teams().len(),
     }
 }
@@ -60,17 +60,17 @@ fn is_well_sent(fixed: &Fixed, accounts: &Accounts<'_>, clarification: &Clarific
         return true;
     }
     match accounts.role(&clarification.account) {
-        Some(role) => may_send(role, clarification),
+        Some(role) => may_send(&fixed.settings, role, clarification),
         None => false,
     }
 }
 
-fn may_send(role: Role, clarification: &Clarification) -> bool
-    ensures { (s : Setup) → result ≡ may_send s role clarification.now }
+fn may_send(settings: &Settings, role: Role, clarification: &Clarification) -> bool
+    ensures { result ≡ may_send settings.now role clarification.now }
 {
     match role {
         Role::Team(team) => {
-            is_to(team, clarification.addressee) && may_answer(team, clarification.reply)
+            is_to(team, clarification.addressee) && may_answer(settings, team, clarification.reply)
         }
         Role::Judge | Role::Admin => false,
     }
@@ -80,25 +80,27 @@ fn is_to(team: usize, to: Addressee) -> bool
     ensures { result ≡ same_addressee (addressee.Team team) to }
 {
     match to {
-        Addressee::All => false,
+        Addressee::All | Addressee::Group(_) => false,
         Addressee::Team(addressed) => team == addressed,
     }
 }
 
-fn may_answer(team: usize, reply: Option<Reference>) -> bool
-    ensures { (s : Setup) → result ≡ option_map_or (λ (r : TheReference). hears (audience_at team) s r.addressee) reply true }
+fn may_answer(settings: &Settings, team: usize, reply: Option<Reference>) -> bool
+    ensures { result ≡ option_map_or (λ (r : TheReference). hears (audience_at team) settings.now r.addressee) reply true }
 {
     match reply {
-        Some(reference) => hears(team, reference.addressee),
+        Some(reference) => hears(settings, team, reference.addressee),
         None => true,
     }
 }
 
-fn hears(team: usize, to: Addressee) -> bool
-    ensures { (s : Setup) → result ≡ hears (audience_at team) s to }
+#[tactic(auto, using(crate::proofs::TalkLemmas::own_groups))]
+fn hears(settings: &Settings, team: usize, to: Addressee) -> bool
+    ensures { result ≡ hears (audience_at team) settings.now to }
 {
     match to {
         Addressee::All => true,
+        Addressee::Group(group) => is_of_group(settings, group, team),
         Addressee::Team(other) => team == other,
     }
 }

@@ -10,7 +10,7 @@ use Rattle.contest_text.specs.AwardsText.{awards_text}
 use Rattle.contest_text.specs.BoardCsv.{board_csv}
 use Rattle.contest_text.specs.CellText.{cell_text}
 use Rattle.csv.specs.Writing.{default_writer, escaped, field_text, fields_text, is_blank}
-use Rattle.contest_text.specs.BoardText.{word_of}
+use Rattle.contest_text.specs.BoardText.{of_group_text, word_of}
 use Rattle.contest_types.specs.declared.audience.Phase.TheVariants as phase
 
 abbrev cell : (judged pending : ℕ) → Option ℕ → Cell
@@ -49,6 +49,13 @@ frozen_ended = refl
 
 running : word_of phase.Running false false ≡ codes "running"
 running = refl
+
+-- the title names a group's board; the whole board's has no such words
+whole_board : of_group_text settings None ≡ []
+whole_board = refl
+
+group_board : of_group_text (record settings { groups = record { id = codes "north"; name = codes "North" } ∷ [] }) (Some 0) ≡ codes " of North"
+group_board = refl
 
 -- a field is quoted where it has to be, and a quote in it stands twice
 plain_field : field_text default_writer (codes "Alpha") ≡ codes "Alpha"

@@ -6,6 +6,7 @@ use Rattle.contest_types.specs.Setup.{Setup}
 use Rattle.contest_types.specs.ProblemPlaces.{label_at}
 use Rattle.contest_types.specs.Clock.{phase_at, is_freezing}
 use Rattle.contest_types.specs.RelTimeText.{rel_time_text}
+use Rattle.contest_types.specs.SettingsNames.{group_name_at}
 use Rattle.contest_types.specs.declared.audience.Audience.{Audience}
 use Rattle.contest_types.specs.declared.audience.Audience.TheVariants as audience
 use Rattle.contest_types.specs.declared.audience.Phase.{Phase}
@@ -45,9 +46,18 @@ word_at s marks now = word_of (phase_at s marks now) (is_final s marks now) (is_
 abbrev pub title_end : Setup → Marks → ℕ → List ℕ
 title_end s marks now = codes ", " ++ word_at s marks now ++ codes "\n"
 
--- `<Who> board, contest time <time>, <word>`
-abbrev pub title_line : Setup → Marks → ℕ → Audience → List ℕ
-title_line s marks now who = who_text s who ++ codes " board, contest time " ++ contest_time marks.start now ++ title_end s marks now
+-- whose rows a group's board has: ` of <group name>`; nothing on the whole board
+abbrev pub of_group_text : Setup → Option ℕ → List ℕ
+of_group_text s None = []
+of_group_text s (Some group) = codes " of " ++ group_name_at s group
+
+-- `, contest time <time>`
+abbrev pub time_text : Option ℕ → ℕ → List ℕ
+time_text start now = codes ", contest time " ++ contest_time start now
+
+-- `<Who> board, contest time <time>, <word>`, and `<Who> board of <group name>, ..` for a group
+abbrev pub title_line : Setup → Marks → ℕ → Audience → (group : Option ℕ) → List ℕ
+title_line s marks now who group = who_text s who ++ codes " board" ++ of_group_text s group ++ time_text marks.start now ++ title_end s marks now
 
 -- the column of names: as wide as the widest, and at least four columns
 abbrev pub name_width : Setup → List Row → ℕ
@@ -75,6 +85,6 @@ row_line s width r =
     front width (decimal r.rank) (name_at s r.team) (decimal r.score.solved) (decimal r.score.total) ++ flat_map (λ c. right_field 9 (cell_text c)) r.cells ++ codes "\n"
 
 -- the whole text
-abbrev pub board_text : Setup → Marks → ℕ → Audience → Scoreboard → List ℕ
-board_text s marks now who b =
-    s.head.name ++ codes "\n" ++ title_line s marks now who ++ heading_line s (name_width s b.rows) b.columns ++ flat_map (row_line s (name_width s b.rows)) b.rows
+abbrev pub board_text : Setup → Marks → ℕ → Audience → (group : Option ℕ) → Scoreboard → List ℕ
+board_text s marks now who group b =
+    s.head.name ++ codes "\n" ++ title_line s marks now who group ++ heading_line s (name_width s b.rows) b.columns ++ flat_map (row_line s (name_width s b.rows)) b.rows

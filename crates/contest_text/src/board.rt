@@ -5,7 +5,7 @@ ghost use Rattle.std.specs.List.{flat_map};
 ghost use Rattle.contest_types.specs.RelTimeText.{rel_time_text};
 ghost use Rattle.contest_text.specs.CellText.{cell_text};
 ghost use Rattle.contest_types.specs.ProblemPlaces.{label_at};
-ghost use Rattle.contest_text.specs.BoardText.{numbered_id, who_text, contest_time, word_of, word_at, title_end, title_line, name_width, right_field, front, heading_line, row_line, board_text};
+ghost use Rattle.contest_text.specs.BoardText.{numbered_id, who_text, of_group_text, time_text, contest_time, word_of, word_at, title_end, title_line, name_width, right_field, front, heading_line, row_line, board_text};
 
 use crate::cell_text::write_cell;
 use crate::padding::{push_left, push_right};
@@ -20,7 +20,8 @@ use unicode_width::UnicodeWidthStr;
 const CELL_COLUMNS: usize = 9;
 
 /// The text of a board of these settings for a caller at a moment: the contest's name, a title line,
-/// the heading with the labels of the board's columns, and a line for each of its rows.
+/// the heading with the labels of the board's columns, and a line for each of its rows. The title names
+/// the group whose board it is, if it is one, by its place in the settings, from 0.
 ///
 /// # Errors
 ///
@@ -31,15 +32,16 @@ pub fn board_text(
     marks: &Marks,
     now: Moment,
     audience: Audience,
+    group: Option<usize>,
     board: &Board,
 ) -> Result<String, Refusal>
-    ensures text { IfOk result (λ text. string_bytes text ≡ board_text settings.now marks.now now audience board.now) }
+    ensures text { IfOk result (λ text. string_bytes text ≡ board_text settings.now marks.now now audience group board.now) }
     ensures err { IfErr result (λ e. e ≡ Refusal.Memory) }
 {
     let mut out = String::new(alloc);
     out.push_str(settings.head().name.as_str())?;
     out.push_str("\n")?;
-    push_title(&mut out, settings, marks, now, audience)?;
+    push_title(&mut out, settings, marks, now, audience, group)?;
     let width = name_width(settings, board.rows());
     push_heading(&mut out, settings, width, board.columns())?;
     push_rows(alloc, &mut out, settings, width, board.rows())?;
@@ -53,13 +55,36 @@ fn push_title(
     marks: &Marks,
     now: Moment,
     audience: Audience,
+    group: Option<usize>,
 ) -> Result<(), AllocError>
-    ensures { OnOk result (string_bytes out.new ≡ string_bytes out.old ++ title_line settings.now marks.now now audience) }
+    ensures { OnOk result (string_bytes out.new ≡ string_bytes out.old ++ title_line settings.now marks.now now audience group) }
 {
     push_who(out, settings, audience)?;
-    out.push_str(" board, contest time ")?;
-    push_contest_time(out, marks.start, now)?;
+    out.push_str(" board")?;
+    push_group(out, settings, group)?;
+    push_time(out, marks.start, now)?;
     push_title_end(out, settings, marks, now)
+}
+
+/// Pushes which group's board it is, if it is one.
+fn push_group(out: &mut String, settings: &Settings, group: Option<usize>) -> Result<(), AllocError>
+    ensures { OnOk result (string_bytes out.new ≡ string_bytes out.old ++ of_group_text settings.now group) }
+{
+    match group {
+        Some(group) => {
+            out.push_str(" of ")?;
+            out.push_str(settings.group_name(group))
+        }
+        None => Ok(()),
+    }
+}
+
+/// Pushes the contest time behind its words.
+fn push_time(out: &mut String, start: Option<Moment>, now: Moment) -> Result<(), AllocError>
+    ensures { OnOk result (string_bytes out.new ≡ string_bytes out.old ++ time_text start now) }
+{
+    out.push_str(", contest time ")?;
+    push_contest_time(out, start, now)
 }
 
 /// Pushes the word that says where the contest stands, and the line's end.

@@ -29,6 +29,7 @@ use Rattle.contest_types.proofs.AddLemmas.{next_number, next_key, clock_kept}
 
 pub addressed_itself : (to : Addressee) → same_addressee to to ≡ true
 addressed_itself addressee.All = refl
+addressed_itself (addressee.Group group) = eq-eqb group group refl
 addressed_itself (addressee.Team team) = eq-eqb team team refl
 
 pub one_addressee : IsTogether to_one_addressee

@@ -1,5 +1,5 @@
 -- Adding what may be added keeps a contest valid: rows of the settings, and accounts.
-use Rattle.std.proofs.Common.{◌≡◌, ℕ, ◌≤◌, Bool, true, false, List, [], ◌∷◌, ◌++◌, length, map, Option, Some, None, refl, sym, ◌∙◌, arith}
+use Rattle.std.proofs.Common.{◌≡◌, ℕ, ◌≤◌, Bool, true, false, List, [], ◌∷◌, ◌++◌, length, map, Option, Some, None, refl, arith}
 use Rattle.std.specs.Prelude.{◌&&◌, ◌||◌, not, nat_le, nat_lt, is_some}
 use Rattle.std.specs.List.{list_all}
 use Rattle.std.specs.Option.{option_map_or}
@@ -56,13 +56,15 @@ abbrev pub with_lists : ContestState → List JudgementType → List Language �
 with_lists x types languages problems groups teams accounts =
     record x { fixed = record { settings = record { head = x.fixed.settings.head; types = types; languages = languages; problems = problems; groups = groups; teams = teams }; accounts = accounts; marks = x.fixed.marks } }
 
--- each list is as long as before or longer, and each account that was named is
+-- each list is as long as before or longer, each account that was named is, and nobody hears less
 pub record Wider (f g : FixedPart) : Type 0 where
   pub types : length f.settings.types ≤ length g.settings.types
   pub languages : length f.settings.languages ≤ length g.settings.languages
   pub problems : length f.settings.problems ≤ length g.settings.problems
+  pub groups : length f.settings.groups ≤ length g.settings.groups
   pub teams : length f.settings.teams ≤ length g.settings.teams
   pub named : (id : List ℕ) (a : Account) → account_named f.accounts id ≡ Some a → account_named g.accounts id ≡ Some a
+  pub heard : (a : Audience) (to : Addressee) → hears a f.settings to ≡ true → hears a g.settings to ≡ true
 
 three_of_six : (a a' b b' c c' d e f : Bool) → (a ≡ true → a' ≡ true) → (b ≡ true → b' ≡ true) → (c ≡ true → c' ≡ true) → (a && b && c && d && e && f) ≡ true → (a' && b' && c' && d && e && f) ≡ true
 three_of_six a a' b b' c c' d e f wa wb wc v =
@@ -93,6 +95,7 @@ there_wider f g w proposer.Import h = refl
 
 addressee_wider : (f g : FixedPart) → Wider f g → (to : Addressee) → is_an_addressee f to ≡ true → is_an_addressee g to ≡ true
 addressee_wider f g w addressee.All h = refl
+addressee_wider f g w (addressee.Group group) h = below_wider _ _ group w.groups h
 addressee_wider f g w (addressee.Team team) h = below_wider _ _ team w.teams h
 
 problem_wider : (m n : ℕ) → m ≤ n → (p : Option ℕ) → option_map_or (λ problem. nat_lt problem m) p true ≡ true → option_map_or (λ problem. nat_lt problem n) p true ≡ true
@@ -112,32 +115,28 @@ role_wider m n l role.Admin h = refl
 pub account_wider : (m n : Setup) → length m.teams ≤ length n.teams → (a : Account) → is_valid_account m a ≡ true → is_valid_account n a ≡ true
 account_wider m n l a h = first_of_two _ _ _ (role_wider m n l a.role) h
 
--- what is heard doesn't go by which settings there are
-pub hears_by_any : (a : Audience) (m n : Setup) (to : Addressee) → hears a m to ≡ hears a n to
-hears_by_any a m n addressee.All = refl
-hears_by_any a m n (addressee.Team team) = refl
-
-replies_by_any : (a : Audience) (m n : Setup) (reply : Option Reference) → option_map_or (λ (r : Reference). hears a m r.addressee) reply true ≡ option_map_or (λ (r : Reference). hears a n r.addressee) reply true
-replies_by_any a m n None = refl
-replies_by_any a m n (Some r) = hears_by_any a m n r.addressee
+replies_wider : (a : Audience) (m n : Setup) → ((to : Addressee) → hears a m to ≡ true → hears a n to ≡ true) → (reply : Option Reference)
+    → option_map_or (λ (r : Reference). hears a m r.addressee) reply true ≡ true → option_map_or (λ (r : Reference). hears a n r.addressee) reply true ≡ true
+replies_wider a m n heard None h = refl
+replies_wider a m n heard (Some r) h = heard r.addressee h
 
 -- who may send still does
-sends_wider : (m n : Setup) (r : Role) (c : Clarification) → may_send m r c ≡ true → may_send n r c ≡ true
-sends_wider m n (role.Team team) c h = second_of_two _ _ _ (λ k. sym (replies_by_any (audience_at team) m n c.reply) ∙ k) h
-sends_wider m n role.Judge c h = h
-sends_wider m n role.Admin c h = h
+sends_wider : (f g : FixedPart) → Wider f g → (r : Role) (c : Clarification) → may_send f.settings r c ≡ true → may_send g.settings r c ≡ true
+sends_wider f g w (role.Team team) c h = second_of_two _ _ _ (replies_wider (audience_at team) f.settings g.settings (w.heard (audience_at team)) c.reply) h
+sends_wider f g w role.Judge c h = h
+sends_wider f g w role.Admin c h = h
 
-sender_wider : (m n : Setup) (found more : Option Account) (c : Clarification) → ((a : Account) → found ≡ Some a → more ≡ Some a)
-    → option_map_or (λ a. may_send m a.role c) found false ≡ true → option_map_or (λ a. may_send n a.role c) more false ≡ true
-sender_wider m n None more c same h = absurd (false≢true h)
-sender_wider m n (Some a) more c same h = rw (same a refl) (sends_wider m n a.role c h)
+sender_wider : (f g : FixedPart) → Wider f g → (found more : Option Account) (c : Clarification) → ((a : Account) → found ≡ Some a → more ≡ Some a)
+    → option_map_or (λ a. may_send f.settings a.role c) found false ≡ true → option_map_or (λ a. may_send g.settings a.role c) more false ≡ true
+sender_wider f g w None more c same h = absurd (false≢true h)
+sender_wider f g w (Some a) more c same h = rw (same a refl) (sends_wider f g w a.role c h)
 
 sent_wider : (f g : FixedPart) → Wider f g → (c : Clarification) → is_well_sent f c ≡ true → is_well_sent g c ≡ true
 sent_wider f g w c h =
     let go : (b : Bool) → (b || option_map_or (λ a. may_send f.settings a.role c) (account_named f.accounts c.account) false) ≡ true → (b || option_map_or (λ a. may_send g.settings a.role c) (account_named g.accounts c.account) false) ≡ true =
     elim [
       | true ↦ λ k. refl
-      | false ↦ λ k. sender_wider f.settings g.settings (account_named f.accounts c.account) (account_named g.accounts c.account) c (w.named c.account) k
+      | false ↦ λ k. sender_wider f g w (account_named f.accounts c.account) (account_named g.accounts c.account) c (w.named c.account) k
     ] in
     go c.from_jury h
 
@@ -285,4 +284,4 @@ takes id same rows row most d n = record {
 
 -- no list but one grows
 pub same_lists : (x : ContestState) → Wider x.fixed x.fixed
-same_lists x = record { types = omega arith; languages = omega arith; problems = omega arith; teams = omega arith; named = λ id a e. e }
+same_lists x = record { types = omega arith; languages = omega arith; problems = omega arith; groups = omega arith; teams = omega arith; named = λ id a e. e; heard = λ a to h. h }

@@ -1,10 +1,10 @@
 -- Two numbers with a `-` between them tell both.
-use Rattle.std.proofs.Common.{◌≡◌, ℕ, ◌<◌, List, [], ◌∷◌, ◌++◌, refl, sym, ap, ◌∙◌, arith}
+use Rattle.std.proofs.Common.{◌≡◌, ℕ, ◌<◌, List, [], ◌∷◌, ◌++◌, length, refl, sym, ap, ◌∙◌, arith}
 use Rattle.std.specs.Prelude.{◌^◌}
 use Rattle.std.specs.Char.{digit_value}
 use Rattle.std.specs.Fmt.{decimal}
 use Rattle.std.specs.Str.Parse.{AllDigits}
-use Rattle.std.proofs.lemmas.Fmt.{decimal_injective, decimal_is_IsNumeral}
+use Rattle.std.proofs.lemmas.Fmt.{decimal_injective, decimal_is_IsNumeral, decimal_nonempty}
 
 no_digit : (c : ℕ) → 45 ≡ c → digit_value c < 10 → ⊥
 no_digit c e h =
@@ -27,3 +27,9 @@ pub dashed : (t m u n : ℕ) → t < 2 ^ 64 → m < 2 ^ 64 → u < 2 ^ 64 → n 
 dashed t m u n lt lm lu ln e =
     let both = at_dash (decimal t) (decimal u) (decimal m) (decimal n) (decimal_is_IsNumeral t lt).0.1 (decimal_is_IsNumeral u lu).0.1 e in
     (decimal_injective t u lt lu both.0, decimal_injective m n lm ln both.1)
+
+-- a number has a digit before its `-`
+pub undashed : (t : ℕ) (xs ys : List ℕ) → t < 2 ^ 64 → 45 ∷ xs ≡ decimal t ++ 45 ∷ ys → ⊥
+undashed t xs ys lt e =
+    let both = at_dash [] (decimal t) xs ys tt (decimal_is_IsNumeral t lt).0.1 e in
+    omega (arith, ap length both.0, decimal_nonempty t lt)

@@ -150,11 +150,11 @@ submissions_within = refl
 submissions_past : are_valid_submissions (rows a_submission 501) ≡ false
 submissions_past = refl
 
--- a file of 262,144 bytes, whatever they are
-largest_file : (file : List ℕ) → length file ≡ 262_144 → is_valid_submission empty.fixed (record (submitted 0 1 5 0) { file = file }) ≡ true
+-- a file of 1,048,576 bytes, whatever they are
+largest_file : (file : List ℕ) → length file ≡ 1_048_576 → is_valid_submission empty.fixed (record (submitted 0 1 5 0) { file = file }) ≡ true
 largest_file file is = rw is refl
 
-too_large_file : (file : List ℕ) → length file ≡ 262_145 → is_valid_submission empty.fixed (record (submitted 0 1 5 0) { file = file }) ≡ false
+too_large_file : (file : List ℕ) → length file ≡ 1_048_577 → is_valid_submission empty.fixed (record (submitted 0 1 5 0) { file = file }) ≡ false
 too_large_file file is = rw is refl
 
 -- 1,000 proposals for a submission

@@ -2,7 +2,7 @@
 use Rattle.std.proofs.Common.{◌≡◌, refl}
 use Rattle.std.specs.Prelude.{codes}
 use Rattle.contest_types.specs.Refusals.{row_of}
-use Rattle.contest_types.specs.declared.refusal.Refusal.TheVariants.{HeadTooLarge, ImportRow, SameJudge}
+use Rattle.contest_types.specs.declared.refusal.Refusal.TheVariants.{HeadTooLarge, ImportRow, OldSchema, SameJudge}
 use Rattle.contest_types.specs.declared.refusal.Cause.TheVariants.{TableFull}
 
 same_judge : row_of SameJudge ≡ record { number = 16; name = codes "SameJudge"; status = 403; body = codes "{\"code\":403,\"message\":\"SameJudge\"}" }
@@ -14,3 +14,6 @@ head_too_large = refl
 -- the record and its cause aren't in the body
 import_row : row_of (ImportRow 501 TableFull) ≡ record { number = 22; name = codes "ImportRow"; status = 409; body = codes "{\"code\":409,\"message\":\"ImportRow\"}" }
 import_row = refl
+
+old_schema : row_of OldSchema ≡ record { number = 26; name = codes "OldSchema"; status = 503; body = codes "{\"code\":503,\"message\":\"OldSchema\"}" }
+old_schema = refl

@@ -13,7 +13,7 @@ use Rattle.std.proofs.lemmas.Map.Lookups.{exact_bytes}
 use Rattle.std.proofs.lemmas.Slice.Eq.{bytes_eq-Decides}
 use Rattle.contest_types.specs.Accounts.{account_named}
 use Rattle.contest_types.specs.Series.{in_each, count_up}
-use Rattle.contest_types.specs.TeamPlaces.{team_places}
+use Rattle.contest_types.specs.TeamPlaces.{team_places, group_places}
 use Rattle.contest_types.specs.Order.{Has, IsInOrder}
 use Rattle.contest_types.specs.State.{FixedPart, ContestState, same_addressee, clarifications_to}
 use Rattle.contest_types.specs.VisibleIds.{clarification_id}
@@ -22,18 +22,18 @@ use Rattle.contest_types.specs.ValidClarifications.{is_an_addressee, has_clarifi
 use Rattle.contest_types.specs.Valid.{is_valid}
 use Rattle.contest_types.specs.Laws.{IsHeard}
 use Rattle.contest_types.specs.declared.audience.Audience.{Audience}
-use Rattle.contest_types.specs.declared.limits.TheConstants.{TEAMS, TEAM_REQUESTS, JURY_CLARIFICATIONS}
+use Rattle.contest_types.specs.declared.limits.TheConstants.{GROUPS, TEAMS, TEAM_REQUESTS, JURY_CLARIFICATIONS}
 use Rattle.contest_types.specs.declared.clarification.Clarification.{Clarification}
 use Rattle.contest_types.specs.declared.clarification.Addressee.{Addressee}
-use Rattle.contest_types.specs.declared.clarification.Addressee.TheVariants.{All as ToAll, Team as ToTeam}
+use Rattle.contest_types.specs.declared.clarification.Addressee.TheVariants.{All as ToAll, Group as ToGroup, Team as ToTeam}
 use Rattle.contest_types.proofs.AddClarification.{addressed_itself, one_addressee}
 use Rattle.contest_types.proofs.AddSettings.{tests_of}
-use Rattle.contest_types.proofs.DashedNumbers.{dashed}
-use Rattle.contest_types.proofs.InOrderLemmas.{count_more, nothing_added, nothing_lost, flat_has, has_flat, has_map, map_has, has_filter, filter_has}
+use Rattle.contest_types.proofs.DashedNumbers.{dashed, undashed}
+use Rattle.contest_types.proofs.InOrderLemmas.{count_more, nothing_added, nothing_lost, flat_has, has_flat, has_front, has_back, has_map, map_has, has_filter, filter_has}
 use Rattle.contest_types.proofs.OrderLemmas.{same_order}
 use Rattle.contest_types.proofs.PlaceLemmas.{and_left, and_right}
 use Rattle.contest_types.proofs.Rising.{strict}
-use Rattle.contest_types.proofs.SeenWhole.{all_has, below, both_equal, clarification_order, has_team, heard_rises, not_greater, one_row}
+use Rattle.contest_types.proofs.SeenWhole.{all_has, below, both_equal, clarification_order, has_below, has_team, heard_rises, not_greater, one_row}
 use Rattle.contest_types.proofs.SeriesLemmas.{in_any}
 use Rattle.contest_types.proofs.SettingsTest.{at_most}
 use Rattle.contest_types.proofs.SightLemmas.{same_is_one}
@@ -88,7 +88,7 @@ tests x valid =
 first_of_five : (a b c d e : Bool) → (a && b && c && d && e) ≡ true → a ≡ true
 first_of_five a b c d e v = and_left a b (and_left (a && b) c (and_left (a && b && c) d (and_left (a && b && c && d) e v)))
 
--- it goes to all, or to a team that is there
+-- it goes to all, or to a group or a team that is there
 pub goes_to : (x : ContestState) (c : Clarification) → is_valid x ≡ true → Has x.clarifications c → is_an_addressee x.fixed c.addressee ≡ true
 goes_to x c valid h =
     first_of_five (is_an_addressee x.fixed c.addressee) (is_some (account_named x.fixed.accounts c.account)) (option_map_or (λ problem. nat_lt problem (length x.fixed.settings.problems)) c.problem true)
@@ -96,7 +96,10 @@ goes_to x c valid h =
 
 has_addressee : (f : FixedPart) (p : Addressee) → is_an_addressee f p ≡ true → Has (addressees f.settings) p
 has_addressee f ToAll h = inl refl
-has_addressee f (ToTeam team) h = inr (has_map ToTeam (team_places f.settings) team (has_team f.settings team (below team (length f.settings.teams) h)))
+has_addressee f (ToGroup group) h =
+    inr (has_front (map ToGroup (group_places f.settings)) (map ToTeam (team_places f.settings)) (ToGroup group) (has_map ToGroup (group_places f.settings) group (has_below (length f.settings.groups) group (below group (length f.settings.groups) h))))
+has_addressee f (ToTeam team) h =
+    inr (has_back (map ToGroup (group_places f.settings)) (map ToTeam (team_places f.settings)) (ToTeam team) (has_map ToTeam (team_places f.settings) team (has_team f.settings team (below team (length f.settings.teams) h))))
 
 pub own_number : (x : ContestState) (c : Clarification) → is_valid x ≡ true → Has x.clarifications c → c.number ≤ TEAM_REQUESTS + JURY_CLARIFICATIONS
 own_number x c valid h =
@@ -105,26 +108,54 @@ own_number x c valid h =
     let low = not_greater (λ (d : Clarification). d.number) 1 cs c ((tests x valid).series c).numbers here in
     omega (arith, low, ((tests x valid).series c).few)
 
--- what an id begins with: `g` for one to all, `c` for one of a team
+-- what an id begins with: `g` for one to all or to a group, `c` for one of a team
 abbrev jury_letter : ℕ
 jury_letter = 103
 
 abbrev team_letter : ℕ
 team_letter = 99
 
+-- there are no more teams and groups than there may be
+pub record HasFew (f : FixedPart) : Type 0 where
+  pub teams : length f.settings.teams ≤ TEAMS
+  pub groups : length f.settings.groups ≤ GROUPS
+
+pub has_few : (x : ContestState) → is_valid x ≡ true → HasFew x.fixed
+has_few x valid =
+    let tests = tests_of x (parts x valid).settings in
+    record { teams = at_most _ TEAMS tests.few_teams; groups = at_most _ GROUPS tests.few_groups }
+
+-- a number, a `-` and another number tell both, where the first is one more than a place
+both_numbers : (i j m n most : ℕ) → i ≤ most → j ≤ most → most < 2 ^ 63 → m < 2 ^ 64 → n < 2 ^ 64
+    → (decimal (i + 1) ++ 45 ∷ []) ++ decimal m ≡ (decimal (j + 1) ++ 45 ∷ []) ++ decimal n → (i ≡ j) × (m ≡ n)
+both_numbers i j m n most li lj small lm ln e =
+    let both = dashed (i + 1) m (j + 1) n (omega (arith, li, small)) lm (omega (arith, lj, small)) ln (sym (append_assoc (decimal (i + 1)) (45 ∷ []) (decimal m)) ∙ (e ∙ append_assoc (decimal (j + 1)) (45 ∷ []) (decimal n))) in
+    (omega (arith, both.0), both.1)
+
+-- an id of one to all is none of one to a group
+all_or_group : (group m n : ℕ) → group ≤ GROUPS → 45 ∷ decimal m ≡ (decimal (group + 1) ++ 45 ∷ []) ++ decimal n → ⊥
+all_or_group group m n l e = undashed (group + 1) (decimal m) (decimal n) (omega (arith, l)) (e ∙ append_assoc (decimal (group + 1)) (45 ∷ []) (decimal n))
+
 -- an id tells the addressee and the number
-pub one_id : (f : FixedPart) (p q : Addressee) (m n : ℕ) → length f.settings.teams ≤ TEAMS → is_an_addressee f p ≡ true → is_an_addressee f q ≡ true
+pub one_id : (f : FixedPart) (p q : Addressee) (m n : ℕ) → HasFew f → is_an_addressee f p ≡ true → is_an_addressee f q ≡ true
     → m < 2 ^ 64 → n < 2 ^ 64 → clarification_id p m ≡ clarification_id q n → (same_addressee p q ≡ true) × (m ≡ n)
 one_id f ToAll ToAll m n few hp hq lm ln e = (refl, decimal_injective m n lm ln (cc e))
+one_id f ToAll (ToGroup h) m n few hp hq lm ln e = (let there = below h (length f.settings.groups) hq in absurd (all_or_group h m n (omega (arith, few.groups, there)) (cc e)))
+one_id f (ToGroup g) ToAll m n few hp hq lm ln e = (let there = below g (length f.settings.groups) hp in absurd (all_or_group g n m (omega (arith, few.groups, there)) (cc e)))
+one_id f (ToGroup g) (ToGroup h) m n few hp hq lm ln e =
+    let there_g = below g (length f.settings.groups) hp in
+    let there_h = below h (length f.settings.groups) hq in
+    let both = both_numbers g h m n GROUPS (omega (arith, few.groups, there_g)) (omega (arith, few.groups, there_h)) (omega arith) lm ln (cc e) in
+    (subst (λ z. same_addressee (ToGroup g) (ToGroup z) ≡ true) both.0 (addressed_itself (ToGroup g)), both.1)
+one_id f (ToGroup g) (ToTeam u) m n few hp hq lm ln e = (let heads : jury_letter ≡ team_letter = cc e in absurd (omega (arith, heads)))
+one_id f (ToTeam t) (ToGroup h) m n few hp hq lm ln e = (let heads : team_letter ≡ jury_letter = cc e in absurd (omega (arith, heads)))
 one_id f ToAll (ToTeam u) m n few hp hq lm ln e = (let heads : jury_letter ≡ team_letter = cc e in absurd (omega (arith, heads)))
 one_id f (ToTeam t) ToAll m n few hp hq lm ln e = (let heads : team_letter ≡ jury_letter = cc e in absurd (omega (arith, heads)))
 one_id f (ToTeam t) (ToTeam u) m n few hp hq lm ln e =
-    let tail : (decimal (t + 1) ++ 45 ∷ []) ++ decimal m ≡ (decimal (u + 1) ++ 45 ∷ []) ++ decimal n = cc e in
     let there_t = below t (length f.settings.teams) hp in
     let there_u = below u (length f.settings.teams) hq in
-    let both = dashed (t + 1) m (u + 1) n (omega (arith, few, there_t)) lm (omega (arith, few, there_u)) ln (sym (append_assoc (decimal (t + 1)) (45 ∷ []) (decimal m)) ∙ (tail ∙ append_assoc (decimal (u + 1)) (45 ∷ []) (decimal n))) in
-    let team : t ≡ u = omega (arith, both.0) in
-    (subst (λ z. same_addressee (ToTeam t) (ToTeam z) ≡ true) team (addressed_itself (ToTeam t)), both.1)
+    let both = both_numbers t u m n TEAMS (omega (arith, few.teams, there_t)) (omega (arith, few.teams, there_u)) (omega arith) lm ln (cc e) in
+    (subst (λ z. same_addressee (ToTeam t) (ToTeam z) ≡ true) both.0 (addressed_itself (ToTeam t)), both.1)
 
 -- one addressee has one clarification with a number
 pub one_clarification : (x : ContestState) (c d : Clarification) → is_valid x ≡ true → Has x.clarifications c → Has x.clarifications d → same_addressee c.addressee d.addressee ≡ true → c.number ≡ d.number → c ≡ d
@@ -162,8 +193,7 @@ no_ties a x valid v w iv iw e =
     let small_d : d.number < 2 ^ 64 = omega (arith, own_number x d valid iv.there) in
     let e' : clarification_cmp (seen_clarification a x.fixed.settings c) (seen_clarification a x.fixed.settings d) ≡ Equal = ap (λ z. clarification_cmp z (seen_clarification a x.fixed.settings d)) (sym iw.told) ∙ (ap (clarification_cmp w) (sym iv.told) ∙ e) in
     let ids : clarification_id c.addressee c.number ≡ clarification_id d.addressee d.number = exact_bytes _ _ (both_equal _ _ e').1 in
-    let few : length x.fixed.settings.teams ≤ TEAMS = at_most _ TEAMS (tests_of x (parts x valid).settings).few_teams in
-    let both = one_id x.fixed c.addressee d.addressee c.number d.number few (goes_to x c valid iw.there) (goes_to x d valid iv.there) small_c small_d ids in
+    let both = one_id x.fixed c.addressee d.addressee c.number d.number (has_few x valid) (goes_to x c valid iw.there) (goes_to x d valid iv.there) small_c small_d ids in
     iw.told ∙ (ap (seen_clarification a x.fixed.settings) (one_clarification x c d valid iw.there iv.there both.0 both.1) ∙ sym iv.told)
 
 pub heard_listed : (a : Audience) (x : ContestState) → is_valid x ≡ true → (v : SeenClarification) → IsHeard a x v → Has (seen_clarifications a x) v

@@ -18,9 +18,11 @@ pub mod OrderLemmas
 pub mod SightLemmas
 pub mod ExampleContest
 mod ExamplesSight
+pub mod GroupLemmas
 pub mod AlikeLemmas
 pub mod ExampleTalk
 mod ExamplesAlike
+mod ExamplesGroups
 mod ExamplesUnlike
 pub mod SeriesLemmas
 pub mod ValidParts

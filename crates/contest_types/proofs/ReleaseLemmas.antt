@@ -1,16 +1,22 @@
 -- What a change leaves of what is seen and heard.
-use Rattle.std.proofs.Common.{◌≡◌, ℕ, true, false, List, [], ◌∷◌, map, Option, refl, sym, ap, ◌∙◌}
+use Rattle.std.proofs.Common.{◌≡◌, ℕ, Bool, true, false, List, [], ◌∷◌, map, Option, Some, None, refl, sym, ap, ◌∙◌}
 use Rattle.std.specs.Prelude.{if◌then◌else◌}
 use Rattle.std.specs.List.{list_all, flat_map}
+use Rattle.std.specs.Option.{option_and_then}
 use Rattle.std.proofs.Math.Path.{fun_ext}
 use Rattle.std.proofs.lemmas.Bool.{false≢true}
-use Rattle.contest_types.specs.State.{ContestState, Entry, NewSubmission, NewProposal, NewRelease, NewClarification, NewRejudging, SetMember, SetRejudging, SetStart, SetThaw, SetFinalized, NewType, NewLanguage, NewProblem, NewGroup, NewTeam, NewAccount, submissions_of, add, add_all}
+use Rattle.contest_types.specs.State.{ContestState, Entry, NewSubmission, NewProposal, NewRelease, NewClarification, NewRejudging, SetMember, SetRejudging, SetStart, SetThaw, SetFinalized, NewType, NewLanguage, NewProblem, NewGroup, NewTeam, NewAccount, submissions_of, clarifications_to, add, add_all}
 use Rattle.contest_types.specs.Order.{in_order}
+use Rattle.contest_types.specs.Setup.{Setup}
 use Rattle.contest_types.specs.TeamPlaces.{team_places}
-use Rattle.contest_types.specs.Sight.{Judgement, SeenSubmission, sees_team, program_for, seen_judgement, submission_cmp, seen_submissions, seen_clarifications}
+use Rattle.contest_types.specs.Sight.{Judgement, SeenSubmission, sees_team, program_for, seen_judgement, submission_cmp, seen_submissions, hears, SeenClarification, clarification_cmp, addressees, seen_clarifications}
 use Rattle.contest_types.specs.SightLaws.{is_before_release, may_show_submissions, may_show_clarifications}
 use Rattle.contest_types.specs.declared.audience.Audience.{Audience}
+use Rattle.contest_types.specs.declared.clarification.Addressee.{Addressee}
+use Rattle.contest_types.specs.declared.clarification.Clarification.{Clarification}
+use Rattle.contest_types.specs.declared.clarification.Reference.{Reference}
 use Rattle.contest_types.specs.declared.submission.Submission.{Submission}
+use Rattle.contest_types.proofs.GroupLemmas.{hears_by_teams}
 use Rattle.contest_types.proofs.PlaceLemmas.{and_left, and_right}
 use Rattle.contest_types.proofs.ShownVerdicts.{is_shown}
 
@@ -22,6 +28,17 @@ seen_with a x judgement =
 
 by_verdicts : (a : Audience) (x : ContestState) (f g : Submission → Option Judgement) → ((s : Submission) → f s ≡ g s) → seen_with a x f ≡ seen_with a x g
 by_verdicts a x f g h = ap (seen_with a x) (fun_ext h)
+
+-- what is heard, by whom who looks hears
+abbrev heard_with : ContestState → (Addressee → Bool) → List SeenClarification
+heard_with x hears =
+    let heard : Reference → Option Reference = λ r. if hears r.addressee then Some r else None in
+    let seen : Clarification → SeenClarification = λ c. record { addressee = c.addressee; number = c.number; from_jury = c.from_jury; problem = c.problem; reply = option_and_then heard c.reply; text = c.text; time = c.time } in
+    in_order clarification_cmp (flat_map (λ to. if hears to then map seen (clarifications_to to x.clarifications) else []) (addressees x.fixed.settings))
+
+-- other rows of the settings than teams change nothing of what is heard
+by_hearing : (a : Audience) (x : ContestState) (n : Setup) → n.teams ≡ x.fixed.settings.teams → heard_with x (hears a n) ≡ heard_with x (hears a x.fixed.settings)
+by_hearing a x n e = ap (heard_with x) (fun_ext (hears_by_teams a n x.fixed.settings e))
 
 -- what may show no submission shows none
 pub shows_no_submission : (a : Audience) (now : ℕ) (x : ContestState) (e : Entry) → may_show_submissions e ≡ false → seen_submissions a now (add x e) ≡ seen_submissions a now x
@@ -53,10 +70,10 @@ shows_no_clarification a x (SetRejudging n state) h = refl
 shows_no_clarification a x (SetStart start) h = refl
 shows_no_clarification a x (SetThaw thaw) h = refl
 shows_no_clarification a x (SetFinalized finalized) h = refl
-shows_no_clarification a x (NewType t) h = refl
-shows_no_clarification a x (NewLanguage l) h = refl
-shows_no_clarification a x (NewProblem p) h = refl
-shows_no_clarification a x (NewGroup g) h = refl
+shows_no_clarification a x (NewType t) h = by_hearing a x (add x (NewType t)).fixed.settings refl
+shows_no_clarification a x (NewLanguage l) h = by_hearing a x (add x (NewLanguage l)).fixed.settings refl
+shows_no_clarification a x (NewProblem p) h = by_hearing a x (add x (NewProblem p)).fixed.settings refl
+shows_no_clarification a x (NewGroup g) h = absurd (false≢true (sym h))
 shows_no_clarification a x (NewTeam t) h = absurd (false≢true (sym h))
 shows_no_clarification a x (NewAccount b) h = refl
 

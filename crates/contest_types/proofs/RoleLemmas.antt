@@ -32,6 +32,10 @@ sees_no_less a b r x s h = either_more (knows_all_of a s.team) (knows_all_of b s
 
 hears_of : (a b : Audience) → SeesNoLess a b → (s : Setup) (to : Addressee) → hears a s to ≡ true → hears b s to ≡ true
 hears_of a b r s addressee.All h = refl
+hears_of a b r s (addressee.Group group) h = elim r [
+  | inl public ↦ absurd (false≢true (sym (ap (λ c. hears c s (addressee.Group group)) public) ∙ h))
+  | inr other ↦ elim other [ inl jury ↦ ap (λ c. hears c s (addressee.Group group)) jury | inr same ↦ subst (λ c. hears c s (addressee.Group group) ≡ true) same h ]
+]
 hears_of a b r s (addressee.Team team) h = knows_no_less a b r team h
 
 pub hears_no_less : (a b : Audience) → SeesNoLess a b → (x : ContestState) (c : Clarification) → sees_clarification a x.fixed.settings c ≡ true → sees_clarification b x.fixed.settings c ≡ true

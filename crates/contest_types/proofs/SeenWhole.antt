@@ -56,8 +56,12 @@ has_place first (suc n) (suc k) l =
     let e : (first + 1) + k ≡ first + suc k = omega arith in
     inr (subst (λ m. Has (range_with_len (first + 1) n) m) e (has_place (first + 1) n k (omega (arith, l))))
 
+-- the places of n rows have each place below n
+pub has_below : (n place : ℕ) → place < n → Has (range_with_len 0 n) place
+has_below n place l = let e : 0 + place ≡ place = omega arith in subst (λ m. Has (range_with_len 0 n) m) e (has_place 0 n place l)
+
 pub has_team : (s : Setup) (team : ℕ) → team < length s.teams → Has (team_places s) team
-has_team s team l = let e : 0 + team ≡ team = omega arith in subst (λ m. Has (range_with_len 0 (length s.teams)) m) e (has_place 0 (length s.teams) team l)
+has_team s team l = has_below (length s.teams) team l
 
 pub all_has : {X : Type 0} (p : X → Bool) (xs : List X) (x : X) → list_all p xs ≡ true → Has xs x → p x ≡ true
 all_has p [] x a h = absurd h

@@ -113,8 +113,13 @@ without_key addressee c = record { addressee = addressee; number = c.number; fro
 
 pub same_is_one : (addressee other : Addressee) → same_addressee addressee other ≡ true → addressee ≡ other
 same_is_one addressee.All addressee.All e = refl
+same_is_one addressee.All (addressee.Group g) e = absurd (cc)
 same_is_one addressee.All (addressee.Team t) e = absurd (cc)
+same_is_one (addressee.Group g) addressee.All e = absurd (cc)
+same_is_one (addressee.Group g) (addressee.Group h) e = ap addressee.Group (eqb-true g h e)
+same_is_one (addressee.Group g) (addressee.Team t) e = absurd (cc)
 same_is_one (addressee.Team t) addressee.All e = absurd (cc)
+same_is_one (addressee.Team t) (addressee.Group g) e = absurd (cc)
 same_is_one (addressee.Team t) (addressee.Team u) e = ap addressee.Team (eqb-true t u e)
 
 shown_clarification : (a : Audience) (s : Setup) (addressee : Addressee) (c : Clarification) → same_addressee c.addressee addressee ≡ true → seen_clarification a s c ≡ without_key addressee (open_clarification a s c)

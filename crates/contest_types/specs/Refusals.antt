@@ -52,6 +52,7 @@ row_of (refusal.ImportRow n c) = refusal_facts 22 (codes "ImportRow") 409
 row_of refusal.SettingsClosed = refusal_facts 23 (codes "SettingsClosed") 409
 row_of refusal.StoreFault = refusal_facts 24 (codes "StoreFault") 503
 row_of refusal.Memory = refusal_facts 25 (codes "Memory") 503
+row_of refusal.OldSchema = refusal_facts 26 (codes "OldSchema") 503
 
 abbrev pub number_of : Refusal → ℕ
 number_of r = (row_of r).number

@@ -1,22 +1,23 @@
 -- What an audience sees of a contest (Contest API 2023-06, submissions, judgements and
 -- clarifications; DOMjudge manual, "Scoreboard" and "Clarifications").
-use Rattle.std.specs.Prelude.{ℕ, Bool, true, ◌||◌, List, [], ◌∷◌, map, Option, Some, None, if◌then◌else◌}
+use Rattle.std.specs.Prelude.{ℕ, ◌-◌, Bool, true, false, ◌&&◌, ◌||◌, nat_lt, List, [], ◌∷◌, ◌++◌, map, Option, Some, None, if◌then◌else◌}
 use Rattle.std.specs.List.{flat_map, last_or}
 use Rattle.std.specs.Option.{option_map, option_and_then}
 use Rattle.std.specs.declared.cmp.Ordering.{Ordering}
 use Rattle.contest_types.specs.Setup.{Setup}
-use Rattle.contest_types.specs.TeamPlaces.{team_places, team_id_at, is_public}
+use Rattle.contest_types.specs.TeamPlaces.{team_places, group_places, team_id_at, is_of_group, is_public}
 use Rattle.contest_types.specs.Order.{by_number, by_text, by_each, in_order}
 use Rattle.contest_types.specs.VisibleIds.{clarification_id}
 use Rattle.contest_types.specs.Clock.{is_frozen}
 use Rattle.contest_types.specs.Masks.{knows_all_of, mask_for, verdict_under}
 use Rattle.contest_types.specs.State.{ContestState, submissions_of, releases_on, clarifications_to}
 use Rattle.contest_types.specs.declared.audience.Audience.{Audience}
+use Rattle.contest_types.specs.declared.audience.Audience.TheVariants as audience
 use Rattle.contest_types.specs.declared.submission.Submission.{Submission}
 use Rattle.contest_types.specs.declared.submission.Release.{Release}
 use Rattle.contest_types.specs.declared.clarification.Clarification.{Clarification}
 use Rattle.contest_types.specs.declared.clarification.Addressee.{Addressee}
-use Rattle.contest_types.specs.declared.clarification.Addressee.TheVariants.{All as ToAll, Team as ToTeam}
+use Rattle.contest_types.specs.declared.clarification.Addressee.TheVariants.{All as ToAll, Group as ToGroup, Team as ToTeam}
 use Rattle.contest_types.specs.declared.clarification.Reference.{Reference}
 
 -- what a release says of the submission that it is on
@@ -109,9 +110,16 @@ submission_cmp s = by_each (by_number (λ v. v.time) ∷ by_text (λ v. team_id_
 abbrev pub seen_submissions : Audience → ℕ → ContestState → List SeenSubmission
 seen_submissions a now x = in_order (submission_cmp x.fixed.settings) (flat_map (seen_of_team a now x) (team_places x.fixed.settings))
 
+-- what goes to a group is heard by the jury and by each team that is in it; the number of a team counts from 1
+abbrev pub hears_group : Audience → Setup → ℕ → Bool
+hears_group audience.Public s group = false
+hears_group (audience.Team number) s group = nat_lt 0 number && is_of_group s group (number - 1)
+hears_group audience.Jury s group = true
+
 -- what belongs to an addressee is heard: by the jury and by all to whom it goes
 abbrev pub hears : Audience → Setup → Addressee → Bool
 hears a s ToAll = true
+hears a s (ToGroup group) = hears_group a s group
 hears a s (ToTeam team) = knows_all_of a team
 
 abbrev pub sees_clarification : Audience → Setup → Clarification → Bool
@@ -151,7 +159,7 @@ abbrev pub clarification_cmp : SeenClarification → SeenClarification → Order
 clarification_cmp = by_each (by_number (λ c. c.time) ∷ by_text (λ c. clarification_id c.addressee c.number) ∷ [])
 
 abbrev pub addressees : Setup → List Addressee
-addressees s = ToAll ∷ map ToTeam (team_places s)
+addressees s = ToAll ∷ (map ToGroup (group_places s) ++ map ToTeam (team_places s))
 
 -- all that an audience hears
 abbrev pub seen_clarifications : Audience → ContestState → List SeenClarification

@@ -3,10 +3,11 @@
 use Rattle.std.specs.Prelude.{◌≡◌, ◌⊎◌, ◌↔◌, ℕ, Bool, true, false, ◌&&◌, ◌||◌, ◌==◌, nat_le, nat_lt, List, map, Some, None, is_some, if◌then◌else◌}
 use Rattle.std.specs.List.{list_all}
 use Rattle.contest_types.specs.Setup.{Setup}
+use Rattle.contest_types.specs.TeamPlaces.{is_of_group}
 use Rattle.contest_types.specs.Order.{Has, IsInOrder}
 use Rattle.contest_types.specs.Clock.{freeze_of, is_thawed}
 use Rattle.contest_types.specs.Masks.{audience_at, knows_all_of}
-use Rattle.contest_types.specs.State.{ContestState, submissions_of, Entry, NewSubmission, NewProposal, NewRelease, NewClarification, NewRejudging, SetMember, SetRejudging, SetStart, SetThaw, NewTeam, add, add_all}
+use Rattle.contest_types.specs.State.{ContestState, submissions_of, Entry, NewSubmission, NewProposal, NewRelease, NewClarification, NewRejudging, SetMember, SetRejudging, SetStart, SetThaw, NewGroup, NewTeam, add, add_all}
 use Rattle.contest_types.specs.Sight.{Judgement, sees_submission, sees_clarification, hears, last_judgement, seen_judgement, full_verdict, held_verdict, seen_verdict, SeenSubmission, seen_submission, seen_submissions, seen_clarifications}
 use Rattle.contest_types.specs.Judging.{SeenJudgement, judged, seen_judgements}
 use Rattle.contest_types.specs.Alike.{Alike, MayBeHeld}
@@ -14,7 +15,7 @@ use Rattle.contest_types.specs.Valid.{is_valid}
 use Rattle.contest_types.specs.declared.audience.Audience.{Audience}
 use Rattle.contest_types.specs.declared.audience.Audience.TheVariants.{Public, Jury}
 use Rattle.contest_types.specs.declared.submission.Submission.{Submission}
-use Rattle.contest_types.specs.declared.clarification.Addressee.TheVariants.{Team as ToTeam}
+use Rattle.contest_types.specs.declared.clarification.Addressee.TheVariants.{Group as ToGroup, Team as ToTeam}
 use Rattle.contest_types.specs.declared.clarification.Clarification.{Clarification}
 
 -- the second may see no less than the first: anyone no less than the public, the jury no less than anyone
@@ -106,6 +107,7 @@ OnlyTheseShowSubmissions =
 -- these may change what is heard of clarifications
 abbrev pub may_show_clarifications : Entry → Bool
 may_show_clarifications (NewClarification c) = true
+may_show_clarifications (NewGroup g) = true
 may_show_clarifications (NewTeam t) = true
 may_show_clarifications _ = false
 
@@ -132,6 +134,22 @@ ListedProgramIsForItsTeam =
 -- what a team asks, and what the jury answers it, those hear who know all of the team
 abbrev pub AskedIsHeardByItsTeam : Type 0
 AskedIsHeardByItsTeam = (a : Audience) (s : Setup) (team : ℕ) → hears a s (ToTeam team) ≡ knows_all_of a team
+
+-- the audience is a team that is in the group
+pub record IsTeamOf (s : Setup) (group : ℕ) (a : Audience) : Type 0 where
+  pub team : ℕ
+  pub speaks : a ≡ audience_at team
+  pub there : is_of_group s group team ≡ true
+
+-- what the jury tells a group is heard by the jury and by the teams that are in it, and by nobody else
+abbrev pub GroupIsHeardByItsTeams : Type 0
+GroupIsHeardByItsTeams =
+    (a : Audience) (s : Setup) (group : ℕ) → (hears a s (ToGroup group) ≡ true) ↔ ((a ≡ Jury) ⊎ IsTeamOf s group a)
+
+-- the public hears what goes to no group
+
+abbrev pub PublicHearsNoGroup : Type 0
+PublicHearsNoGroup = (s : Setup) (group : ℕ) → hears Public s (ToGroup group) ≡ false
 
 -- earlier, or of one time and with a smaller number
 abbrev pub is_earlier : Submission → Submission → Bool

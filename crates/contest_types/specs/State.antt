@@ -14,7 +14,7 @@ use Rattle.contest_types.specs.declared.submission.Release.{Release}
 use Rattle.contest_types.specs.declared.proposal.Proposal.{Proposal}
 use Rattle.contest_types.specs.declared.clarification.Clarification.{Clarification}
 use Rattle.contest_types.specs.declared.clarification.Addressee.{Addressee}
-use Rattle.contest_types.specs.declared.clarification.Addressee.TheVariants.{All as ToAll, Team as ToTeam}
+use Rattle.contest_types.specs.declared.clarification.Addressee.TheVariants.{All as ToAll, Group as ToGroup, Team as ToTeam}
 use Rattle.contest_types.specs.declared.rejudging.Rejudging.{Rejudging}
 use Rattle.contest_types.specs.declared.rejudging.Member.{Member}
 use Rattle.contest_types.specs.declared.rejudging.MemberState.{MemberState}
@@ -82,6 +82,7 @@ proposals_for team number = filter (λ p. names team number (of_proposal p))
 
 abbrev pub same_addressee : Addressee → Addressee → Bool
 same_addressee ToAll ToAll = true
+same_addressee (ToGroup g) (ToGroup h) = g == h
 same_addressee (ToTeam t) (ToTeam u) = t == u
 same_addressee _ _ = false
 

@@ -1,4 +1,4 @@
--- Teams by their places in the settings, from 0.
+-- Teams by their places in the settings, from 0, and the groups that they are in.
 use Rattle.std.specs.Prelude.{ℕ, ◌==◌, Bool, false, not, List, [], length, slice_get}
 use Rattle.std.specs.List.{list_any, range_with_len}
 use Rattle.std.specs.Option.{option_map_or}
@@ -7,6 +7,10 @@ use Rattle.contest_types.specs.Setup.{Setup}
 -- the places of all teams
 abbrev pub team_places : Setup → List ℕ
 team_places s = range_with_len 0 (length s.teams)
+
+-- the places of all groups
+abbrev pub group_places : Setup → List ℕ
+group_places s = range_with_len 0 (length s.groups)
 
 abbrev pub name_at : Setup → ℕ → List ℕ
 name_at s u = option_map_or (λ t. t.name) (slice_get s.teams u) []

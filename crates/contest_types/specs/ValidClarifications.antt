@@ -19,6 +19,7 @@ use Rattle.contest_types.specs.declared.clarification.Reference.{Reference}
 
 abbrev pub is_an_addressee : FixedPart → Addressee → Bool
 is_an_addressee f addressee.All = true
+is_an_addressee f (addressee.Group group) = nat_lt group (length f.settings.groups)
 is_an_addressee f (addressee.Team team) = nat_lt team (length f.settings.teams)
 
 abbrev pub has_clarification : ContestState → Reference → Bool

@@ -1,12 +1,14 @@
 //! Clarifications: what teams ask, and what the jury answers and announces.
 use crate::{Id, Moment, Text};
 
-/// Whose clarifications one belongs to. A team's are those between that team and the jury, in either
-/// direction.
+/// Whose clarifications one belongs to. A group's are those that the jury tells its teams; a team's those
+/// between that team and the jury, in either direction.
 #[derive(Clone, Copy, PartialEq, Eq, Hash)]
 pub enum Addressee {
     /// All: the jury tells everyone.
     All,
+    /// The group at this place in the settings, from 0: the jury tells each team that is in it.
+    Group(usize),
     /// The team at this place in the settings, from 0: it asks the jury, or the jury tells it.
     Team(usize),
 }

@@ -61,7 +61,7 @@ pub use rel_time::{RelTime, one_time, print_reltime, printed_reads};
 pub use rows::Rows;
 pub use settings::Settings;
 pub use sight::{
-    Mask, hears, is_public, knows_all_of, mask_for, seen_verdict, sees_clarification,
+    Mask, hears, is_of_group, is_public, knows_all_of, mask_for, seen_verdict, sees_clarification,
     sees_submission, sees_team, verdict_under,
 };
 pub use submission::{Release, Submission};

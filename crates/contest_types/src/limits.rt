@@ -39,13 +39,13 @@ pub const SHORTEST_TOKEN: usize = 8;
 pub const LONGEST_TOKEN: usize = 128;
 
 /// Bytes of a posted file.
-pub const POSTED_FILE: usize = 262_144;
+pub const POSTED_FILE: usize = 1_048_576;
 /// Bytes of a file that is imported, replayed or read as a contest.
 pub const IMPORTED_FILE: usize = 16_777_216;
 /// Bytes of a request's head.
 pub const REQUEST_HEAD: usize = 16_384;
 /// Bytes of a request's body.
-pub const REQUEST_BODY: usize = 524_288;
+pub const REQUEST_BODY: usize = 2_097_152;
 
 /// The last moment, in milliseconds since 1970: the end of the year 9998. It is also the greatest
 /// distance of a relative time from zero.

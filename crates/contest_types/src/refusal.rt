@@ -58,6 +58,8 @@ pub enum Refusal {
     StoreFault,
     /// A growth of memory was refused.
     Memory,
+    /// The tables are those of an older schema. Only opening them answers it, no request.
+    OldSchema,
 }
 
 /// Why a record of a file is at fault.
@@ -89,7 +91,7 @@ pub enum RowFault {
 /// What is told of a refusal, wherever it is told.
 #[derive(Clone, Copy)]
 pub struct RefusalRow {
-    /// The refusal's number, from 1 to 25.
+    /// The refusal's number, from 1 to 26.
     pub number: u8,
     /// The refusal's name, one word.
     pub name: &'static str,
@@ -142,6 +144,7 @@ impl Refusal {
             Refusal::SettingsClosed => row!(23, "SettingsClosed", 409),
             Refusal::StoreFault => row!(24, "StoreFault", 503),
             Refusal::Memory => row!(25, "Memory", 503),
+            Refusal::OldSchema => row!(26, "OldSchema", 503),
         }
     }
 }

@@ -1,7 +1,7 @@
 //! What stands at a place of the settings, by its id, name or label.
 ghost use Rattle.std.specs.Prelude.{◌≡◌};
 ghost use Rattle.contest_types.specs.ProblemPlaces.{label_at, problem_id_at};
-ghost use Rattle.contest_types.specs.SettingsNames.{group_id_at, language_id_at, type_id_at};
+ghost use Rattle.contest_types.specs.SettingsNames.{group_id_at, group_name_at, language_id_at, type_id_at};
 ghost use Rattle.contest_types.specs.TeamPlaces.{name_at, team_id_at};
 
 use crate::Settings;
@@ -53,6 +53,16 @@ impl Settings {
     {
         match self.groups().get(place) {
             Some(group) => group.id.as_str(),
+            None => "",
+        }
+    }
+
+    /// The name of the group at a place, from 0; empty where there is none.
+    pub fn group_name(&self, place: usize) -> &str
+        ensures { result.now ≡ group_name_at self.now place }
+    {
+        match self.groups().get(place) {
+            Some(group) => group.name.as_str(),
             None => "",
         }
     }

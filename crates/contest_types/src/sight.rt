@@ -1,9 +1,9 @@
 //! Who sees what: teams, submissions and their verdicts.
 ghost use Rattle.std.specs.Prelude.{◌≡◌};
 ghost use Rattle.contest_types.specs.Masks.{knows_all_of, mask_for, verdict_under};
-ghost use Rattle.contest_types.specs.Sight.{hears, last_judgement, seen_verdict, sees_clarification, sees_submission, sees_team, type_of};
+ghost use Rattle.contest_types.specs.Sight.{hears, hears_group, last_judgement, seen_verdict, sees_clarification, sees_submission, sees_team, type_of};
 ghost use Rattle.contest_types.specs.State.{ContestState};
-ghost use Rattle.contest_types.specs.TeamPlaces.{is_public};
+ghost use Rattle.contest_types.specs.TeamPlaces.{is_of_group, is_public};
 
 use crate::{
     Addressee, Audience, Clarification, Marks, Moment, Settings, Submission, is_frozen, is_thawed,
@@ -15,6 +15,16 @@ pub fn is_public(settings: &Settings, team: usize) -> bool
 {
     match settings.teams().get(team) {
         Some(team) => !team.hidden,
+        None => false,
+    }
+}
+
+/// Whether the team at a place, from 0, is in the group at a place, from 0. It takes no memory.
+pub fn is_of_group(settings: &Settings, group: usize, team: usize) -> bool
+    ensures { result ≡ is_of_group settings.now group team }
+{
+    match settings.teams().get(team) {
+        Some(team) => team.groups.as_slice().contains(&group),
         None => false,
     }
 }
@@ -48,13 +58,27 @@ pub fn sees_submission(audience: Audience, settings: &Settings, submission: &Sub
     sees_team(audience, settings, submission.team)
 }
 
-/// Whether a caller hears what belongs to an addressee: what is to all, and all of a team that it knows
-/// all of. It takes no memory.
-pub fn hears(audience: Audience, _settings: &Settings, addressee: Addressee) -> bool
-    ensures { result ≡ hears audience _settings.now addressee }
+/// Whether a caller hears what goes to the group at a place, from 0: the jury and each team that is in it
+/// do. It takes no memory.
+fn hears_group(audience: Audience, settings: &Settings, group: usize) -> bool
+    ensures { result ≡ hears_group audience settings.now group }
+{
+    match audience {
+        Audience::Public => false,
+        // Numbers of teams count from 1.
+        Audience::Team(number) => number > 0 && is_of_group(settings, group, number - 1),
+        Audience::Jury => true,
+    }
+}
+
+/// Whether a caller hears what belongs to an addressee: what is to all, what is to a group that it is in,
+/// and all of a team that it knows all of; the jury hears all. It takes no memory.
+pub fn hears(audience: Audience, settings: &Settings, addressee: Addressee) -> bool
+    ensures { result ≡ hears audience settings.now addressee }
 {
     match addressee {
         Addressee::All => true,
+        Addressee::Group(group) => hears_group(audience, settings, group),
         Addressee::Team(team) => knows_all_of(audience, team),
     }
 }

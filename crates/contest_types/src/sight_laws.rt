@@ -1,6 +1,6 @@
 //! Laws of who sees what of a contest, as a contest director asks for them: functions that do nothing,
 //! and whose contracts say what holds of every contest.
-ghost use Rattle.contest_types.specs.SightLaws.{RolesSeeNoLess, RolesHearNoLess, RolesKeepVerdicts, ThawOnlyAdds, ThawingOnlyAdds, MomentChangesVerdictsOnly, ThawedSeeAsJury, JurySeesLast, SeenVerdictIsOneOfTwo, JudgingShowsNothing, OnlyTheseShowSubmissions, OnlyTheseShowClarifications, TeamAndJuryKnowAll, ProgramIsForItsTeam, ListedProgramIsForItsTeam, AskedIsHeardByItsTeam, SubmissionsStandByTime, SeenJudgementsAreListed, AlikeShowTheSameJudgements};
+ghost use Rattle.contest_types.specs.SightLaws.{RolesSeeNoLess, RolesHearNoLess, RolesKeepVerdicts, ThawOnlyAdds, ThawingOnlyAdds, MomentChangesVerdictsOnly, ThawedSeeAsJury, JurySeesLast, SeenVerdictIsOneOfTwo, JudgingShowsNothing, OnlyTheseShowSubmissions, OnlyTheseShowClarifications, TeamAndJuryKnowAll, ProgramIsForItsTeam, ListedProgramIsForItsTeam, AskedIsHeardByItsTeam, GroupIsHeardByItsTeams, PublicHearsNoGroup, SubmissionsStandByTime, SeenJudgementsAreListed, AlikeShowTheSameJudgements};
 
 /// Nobody loses sight of a submission, of a verdict or of a clarification by a role: what the public
 /// sees and hears every team does, and what a team does the jury does.
@@ -53,7 +53,7 @@ pub fn only_these_show_submissions()
     ensures { OnlyTheseShowSubmissions }
 {}
 
-/// Only a clarification and a new team may change what anyone hears of clarifications.
+/// Only a clarification, a new group and a new team may change what anyone hears of clarifications.
 pub fn only_these_show_clarifications()
     ensures { OnlyTheseShowClarifications }
 {}
@@ -73,6 +73,13 @@ pub fn program_is_for_its_team()
 /// What a team asks, and what the jury answers it, those hear who know all of the team.
 pub fn asked_is_heard_by_its_team()
     ensures { AskedIsHeardByItsTeam }
+{}
+
+/// What the jury tells a group is heard by each team that is in it and by the jury, and by nobody else: the
+/// public hears what goes to no group.
+pub fn group_is_heard_by_its_teams()
+    ensures teams { GroupIsHeardByItsTeams }
+    ensures public { PublicHearsNoGroup }
 {}
 
 /// In a valid contest a team's submissions stand by time, those of one time by number.

@@ -1,5 +1,5 @@
 -- An award's id tells the award.
-use Rattle.std.proofs.Common.{◌≡◌, ◌⊎◌, ℕ, zero, suc, ◌<◌, Bool, true, false, List, [], ◌∷◌, ◌++◌, length, map, drop, get_or, Some, refl, sym, ap, subst, inl, inr, ◌∙◌}
+use Rattle.std.proofs.Common.{◌≡◌, ◌⊎◌, ℕ, zero, suc, ◌<◌, Bool, true, false, List, [], ◌∷◌, ◌++◌, length, map, drop, get_or, Some, refl, sym, ap, subst, inl, inr, ◌∙◌, None}
 use Rattle.std.specs.Prelude.{◌==◌, find, nat_lt, if◌then◌else◌}
 use Rattle.std.specs.Option.{option_map}
 use Rattle.std.specs.Str.{bytes_eq}
@@ -127,7 +127,7 @@ found s (u ∷ ws) w one h =
 pub shown_is_found : ShownAwardIsFound
 shown_is_found a now x valid w h =
     let s = x.fixed.settings in
-    let rows = board_for Jury now x in
+    let rows = board_for Jury now None x in
     let solves = solves_of x in
     let v : IsValid s = is_settings x (parts x valid).settings in
     let of_shown : (b : Bool) → Has (if b then awards_of s rows solves else []) w → found_in (map (item_of s) (if b then awards_of s rows solves else [])) w.id ≡ Some (award_data s w.id w.citation w.teams) = elim [

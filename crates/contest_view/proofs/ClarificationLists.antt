@@ -15,13 +15,9 @@ use Rattle.contest_types.specs.Valid.{is_valid}
 use Rattle.contest_types.specs.VisibleIds.{clarification_id}
 use Rattle.contest_types.specs.declared.audience.Audience.{Audience}
 use Rattle.contest_types.specs.declared.clarification.Clarification.{Clarification}
-use Rattle.contest_types.specs.declared.limits.TheConstants.{TEAMS}
 use Rattle.contest_types.proofs.AddClarification.{addressed_itself}
-use Rattle.contest_types.proofs.AddSettings.{tests_of}
-use Rattle.contest_types.proofs.HeardWhole.{goes_to, heard_listed, listed_heard, one_clarification, one_id, one_list, own_number, tests}
+use Rattle.contest_types.proofs.HeardWhole.{goes_to, has_few, heard_listed, listed_heard, one_clarification, one_id, one_list, own_number, tests}
 use Rattle.contest_types.proofs.SeenWhole.{both_equal}
-use Rattle.contest_types.proofs.SettingsTest.{at_most}
-use Rattle.contest_types.proofs.ValidParts.{parts}
 use Rattle.contest_view.specs.Clarifications.{clarification_found, clarifications_data, heard_cmp, heard_row, heard_total, heard_where}
 use Rattle.contest_objects.specs.ClarificationObjects.{clarification_item}
 use Rattle.contest_objects.specs.Items.{Item, IsListed, array_of, found_in}
@@ -33,10 +29,9 @@ use Rattle.contest_view.proofs.SeriesApart.{apart}
 told_apart : (x : ContestState) → is_valid x ≡ true → (c d : Clarification) → Has x.clarifications c → Has x.clarifications d → clarification_id c.addressee c.number ≡ clarification_id d.addressee d.number
     → (same_addressee c.addressee d.addressee ≡ true) × (c.number ≡ d.number)
 told_apart x valid c d hc hd same =
-    let few : length x.fixed.settings.teams ≤ TEAMS = at_most _ TEAMS (tests_of x (parts x valid).settings).few_teams in
     let small_c : c.number < 2 ^ 64 = omega (arith, own_number x c valid hc) in
     let small_d : d.number < 2 ^ 64 = omega (arith, own_number x d valid hd) in
-    one_id x.fixed c.addressee d.addressee c.number d.number few (goes_to x c valid hc) (goes_to x d valid hd) small_c small_d same
+    one_id x.fixed c.addressee d.addressee c.number d.number (has_few x valid) (goes_to x c valid hc) (goes_to x d valid hd) small_c small_d same
 
 heard_of : (a : Audience) (x : ContestState) → is_valid x ≡ true → IsSeenOf x.clarifications (heard_where a x.fixed.settings) heard_cmp clarification_cmp (seen_clarifications a x)
 heard_of a x valid =

@@ -1,5 +1,5 @@
 -- Worked examples: the rows of a scoreboard as they are written.
-use Rattle.std.proofs.Common.{◌≡◌, ℕ, List, refl}
+use Rattle.std.proofs.Common.{◌≡◌, ℕ, List, None, refl}
 use Rattle.std.specs.Prelude.{codes, take}
 use Rattle.std.specs.Fmt.{digits}
 use Rattle.serde_json.proofs.OnLiterals.{serde_json_on_literals}
@@ -15,7 +15,7 @@ abbrev with_teams : ℕ → ContestState
 with_teams teams = record empty { fixed = record empty.fixed { settings = record empty.fixed.settings { teams = take teams empty.fixed.settings.teams } } }
 
 abbrev rows_text : ContestState → List ℕ
-rows_text x = let b = seen_board Public (hours 1) x in compact_text (rows_data x.fixed.settings b.columns b.rows)
+rows_text x = let b = seen_board Public (hours 1) None x in compact_text (rows_data x.fixed.settings b.columns b.rows)
 
 no_teams : rows_text (with_teams 0) ≡ codes "[]"
 unfolding serde_json_on_literals digits

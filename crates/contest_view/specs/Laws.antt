@@ -1,5 +1,5 @@
 -- What holds of all that is read, in the subject's words. Each is the contract of a function of src/laws.rt.
-use Rattle.std.specs.Prelude.{◌≡◌, ◌≢◌, ℕ, true, List, [], Some, None, if◌then◌else◌}
+use Rattle.std.specs.Prelude.{◌≡◌, ◌≢◌, ℕ, true, List, [], Option, Some, None, if◌then◌else◌}
 use Rattle.std.specs.Option.{option_and_then}
 use Rattle.contest_types.specs.Alike.{Alike, MayBeHeld}
 use Rattle.contest_types.specs.Clock.{freeze_of}
@@ -25,7 +25,7 @@ use Rattle.contest_view.specs.Reads.{submissions_data, submission_found}
 use Rattle.contest_view.specs.Judgements.{judgements_data, judgement_found}
 use Rattle.contest_view.specs.Proposals.{proposals_data}
 use Rattle.contest_view.specs.Rejudgings.{rejudgings_data, rejudging_found}
-use Rattle.contest_view.specs.Scoreboards.{scoreboard_data}
+use Rattle.contest_view.specs.Scoreboards.{scoreboard_data, group_scoreboard_found}
 
 -- until the thaw, alike contests give an audience the same submissions to read, all of them and by any id
 abbrev pub AlikeReadTheSame : Type 0
@@ -84,10 +84,12 @@ AlikeReadTheSameClarifications =
     (a : Audience) (x y : ContestState) → Alike a x y
     → (clarifications_data a x ≡ clarifications_data a y) × ((id : List ℕ) → clarification_found a x id ≡ clarification_found a y id)
 
--- until the thaw, alike contests show an audience the same scoreboard
+-- until the thaw, alike contests show an audience the same scoreboard, the whole one and each group's, by any id
 abbrev pub AlikeShowTheSameScoreboard : Type 0
 AlikeShowTheSameScoreboard =
-    (a : Audience) (now : ℕ) (x y : ContestState) → MayBeHeld a now x → Alike a x y → scoreboard_data a now x ≡ scoreboard_data a now y
+    (a : Audience) (now : ℕ) (x y : ContestState) → MayBeHeld a now x → Alike a x y
+    → ((group : Option ℕ) → scoreboard_data a now group x ≡ scoreboard_data a now group y)
+    × ((id : List ℕ) → group_scoreboard_found a now x id ≡ group_scoreboard_found a now y id)
 
 -- and the same awards, all of them and by any id
 abbrev pub AlikeReadTheSameAwards : Type 0

@@ -1,12 +1,13 @@
 -- The scoreboard as it is served (Contest API 2023-06, scoreboard; which members each object has is this desk's
 -- choice).
-use Rattle.std.specs.Prelude.{ℕ, List, Option, Some, None, if◌then◌else◌, codes, map}
+use Rattle.std.specs.Prelude.{ℕ, Bool, true, ◌&&◌, nat_lt, length, List, Option, Some, None, if◌then◌else◌, codes, map}
 use Rattle.std.specs.List.{zip}
 use Rattle.std.specs.Option.{option_map}
 use Rattle.serde_json.specs.Data.{Data, array, boolean, number, unsigned, string, object, member, no_members}
 use Rattle.serde_json.specs.View.{items_of}
 use Rattle.contest_types.specs.Masks.{is_audience}
 use Rattle.contest_types.specs.MomentText.{moment_text}
+use Rattle.contest_types.specs.Places.{place_of}
 use Rattle.contest_types.specs.ProblemPlaces.{problem_id_at}
 use Rattle.contest_types.specs.Setup.{Setup}
 use Rattle.contest_types.specs.State.{FixedPart, ContestState}
@@ -70,10 +71,19 @@ board_data f now b =
     (member (codes "state") (whole_data State f now)
     (member (codes "time") (string (moment_text now)) no_members))))
 
--- the board that an audience sees
-abbrev pub scoreboard_data : Audience → (now : ℕ) → ContestState → Data
-scoreboard_data a now x = board_data x.fixed now (seen_board a now x)
+-- the board that an audience sees, of a group where one is given
+abbrev pub scoreboard_data : Audience → (now : ℕ) → (group : Option ℕ) → ContestState → Data
+scoreboard_data a now group x = board_data x.fixed now (seen_board a now group x)
 
--- the board that an audience sees, if it is there: a team may not be
-abbrev pub board_found : Audience → (now : ℕ) → ContestState → Option Scoreboard
-board_found a now x = if is_audience x.fixed.settings a then Some (seen_board a now x) else None
+-- the same of the group with an id, if there is one
+abbrev pub group_scoreboard_found : Audience → (now : ℕ) → ContestState → (id : List ℕ) → Option Data
+group_scoreboard_found a now x id = option_map (λ group. scoreboard_data a now (Some group) x) (place_of id (map (λ g. g.id) x.fixed.settings.groups))
+
+-- the group is one of the settings, or there is none to be
+abbrev pub has_group : Setup → Option ℕ → Bool
+has_group s None = true
+has_group s (Some group) = nat_lt group (length s.groups)
+
+-- the board that an audience sees, if it is there: a team may not be, nor the group
+abbrev pub board_found : Audience → (now : ℕ) → (group : Option ℕ) → ContestState → Option Scoreboard
+board_found a now group x = if is_audience x.fixed.settings a && has_group x.fixed.settings group then Some (seen_board a now group x) else None

@@ -36,7 +36,7 @@ pub fn awards_for(alloc: Global, seen: &Seen<'_>) -> Result<Awards, AllocError>
 
 // The awards of the jury's board, whoever looks.
 fn final_awards(alloc: Global, seen: &Seen<'_>) -> Result<Awards, AllocError>
-    ensures { (x : ContestState) → Shows seen.entry.now x → IfOk result (λ w. w ≡ awards_of x.fixed.settings (board_for Jury seen.entry.now.now x) (solves_of x)) }
+    ensures { (x : ContestState) → Shows seen.entry.now x → IfOk result (λ w. w ≡ awards_of x.fixed.settings (board_for Jury seen.entry.now.now None x) (solves_of x)) }
 {
     let jury = Seen {
         lists: seen.lists,
@@ -44,7 +44,7 @@ fn final_awards(alloc: Global, seen: &Seen<'_>) -> Result<Awards, AllocError>
         audience: Audience::Jury,
         now: seen.now,
     };
-    let board = board_for(alloc, &jury)?;
+    let board = board_for(alloc, &jury, None)?;
     let solves = solves_for(alloc, seen)?;
     match awards(alloc, &seen.lists.fixed().settings, &board, &solves) {
         Ok(awards) => Ok(awards),

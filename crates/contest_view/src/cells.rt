@@ -4,7 +4,7 @@ ghost use Rattle.contest_types.specs.Masks.{is_audience};
 ghost use Rattle.contest_types.specs.State.{ContestState};
 ghost use Rattle.contest_score.specs.CachedCells.{cells_seen};
 ghost use Rattle.contest_score.specs.Contest.{seen_board, seen_cell};
-ghost use Rattle.contest_view.specs.Scoreboards.{board_found};
+ghost use Rattle.contest_view.specs.Scoreboards.{board_found, has_group};
 ghost use Rattle.contest_view.specs.SeenLists.{Shows};
 
 use crate::Seen;
@@ -24,33 +24,39 @@ pub fn cells_for<'a>(seen: &Seen<'a>) -> SeenCells<'a>
     }
 }
 
-/// The board that an audience sees.
+/// The board that an audience sees: the whole one, or that of the group at a place in the settings, from 0.
 ///
 /// # Errors
 ///
 /// Want of memory alone.
-pub fn board_for(alloc: Global, seen: &Seen<'_>) -> Result<Board, AllocError>
-    ensures { (x : ContestState) → Shows seen.entry.now x → IfOk result (λ b. b ≡ seen_board seen.entry.now.audience seen.entry.now.now x) }
+pub fn board_for(alloc: Global, seen: &Seen<'_>, group: Option<usize>) -> Result<Board, AllocError>
+    ensures { (x : ContestState) → Shows seen.entry.now x → IfOk result (λ b. b ≡ seen_board seen.entry.now.audience seen.entry.now.now group x) }
 {
     let cells = cells_for(seen);
     let settings = &seen.lists.fixed().settings;
-    match board(alloc, settings, &cells) {
+    match board(alloc, settings, group, &cells) {
         Ok(board) => Ok(board),
         Err(Refusal::Memory) => Err(AllocError),
         Err(_) => unreachable!(),
     }
 }
 
-/// The board that an audience sees, if there is such an audience: a team may not be there.
+/// The board that an audience sees, the whole one or that of the group at a place, from 0, if it is there: a
+/// team may not be, nor the group.
 ///
 /// # Errors
 ///
 /// Want of memory alone.
-pub fn board_found(alloc: Global, seen: &Seen<'_>) -> Result<Option<Board>, AllocError>
-    ensures { (x : ContestState) → Shows seen.entry.now x → IfOk result (λ o. o ≡ board_found seen.entry.now.audience seen.entry.now.now x) }
+pub fn board_found(
+    alloc: Global,
+    seen: &Seen<'_>,
+    group: Option<usize>,
+) -> Result<Option<Board>, AllocError>
+    ensures { (x : ContestState) → Shows seen.entry.now x → IfOk result (λ o. o ≡ board_found seen.entry.now.audience seen.entry.now.now group x) }
 {
-    if is_audience(&seen.lists.fixed().settings, seen.audience) {
-        let board = board_for(alloc, seen)?;
+    let settings = &seen.lists.fixed().settings;
+    if is_audience(settings, seen.audience) && has_group(settings, group) {
+        let board = board_for(alloc, seen, group)?;
         Ok(Some(board))
     } else {
         Ok(None)
@@ -63,5 +69,15 @@ fn is_audience(settings: &Settings, audience: Audience) -> bool
     match audience {
         Audience::Public | Audience::Jury => true,
         Audience::Team(number) => 0 < number && number <= settings.teams().len(),
+    }
+}
+
+// Whether a group is there, where one is given.
+fn has_group(settings: &Settings, group: Option<usize>) -> bool
+    ensures { result ≡ has_group settings.now group }
+{
+    match group {
+        Some(group) => group < settings.groups().len(),
+        None => true,
     }
 }

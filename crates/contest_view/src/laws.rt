@@ -58,7 +58,8 @@ pub fn clarifications_alike()
     ensures { AlikeReadTheSameClarifications }
 {}
 
-/// Until the thaw, contests that are alike for an audience show it the same scoreboard.
+/// Until the thaw, contests that are alike for an audience show it the same scoreboard, the whole one and
+/// each group's.
 pub fn scoreboard_alike()
     ensures { AlikeShowTheSameScoreboard }
 {}

@@ -22,6 +22,6 @@ pub use judgements::{judgement_by_id, judgements_value};
 pub use named::{NumberedRejudging, named_rejudging, named_submission};
 pub use proposals::proposals_value;
 pub use rejudgings::{rejudging_by_id, rejudgings_value};
-pub use scoreboard::scoreboard_text;
+pub use scoreboard::{group_scoreboard_text, scoreboard_text};
 pub use seen::Seen;
 pub use submissions::{compare_submissions, file_place, submission_by_id, submissions_value};

@@ -1,5 +1,6 @@
 //! The scoreboard object, written straight from a board into its text: a board has many cells.
 ghost use Rattle.std.specs.Prelude.{◌≡◌, ◌++◌, ℕ, false, IfOk, OnOk};
+ghost use Rattle.std.specs.Option.{option_map};
 ghost use Rattle.std.specs.List.{flat_map, zip};
 ghost use Rattle.serde_json.specs.View.{view};
 ghost use Rattle.serde_json.specs.Written.{compact_text, has_float};
@@ -7,7 +8,7 @@ ghost use Rattle.contest_types.specs.State.{ContestState};
 ghost use Rattle.contest_score.specs.declared.cell.Cell.{Cell as TheCell};
 ghost use Rattle.contest_view.specs.JsonTokens.{Wrote, data_tokens};
 ghost use Rattle.contest_view.specs.SeenLists.{Shows};
-ghost use Rattle.contest_view.specs.Scoreboards.{board_data, cell_data, cells_data, row_data, rows_data, score_data, scoreboard_data};
+ghost use Rattle.contest_view.specs.Scoreboards.{board_data, cell_data, cells_data, row_data, rows_data, score_data, group_scoreboard_found, scoreboard_data};
 
 use crate::Seen;
 use crate::cells::board_for;
@@ -23,17 +24,43 @@ use serde_json::Value;
 use std::alloc::{AllocError, Global};
 
 /// The text of the scoreboard as an audience is served it at a moment (Contest API 2023-06, scoreboard):
-/// an object of `contest_time`, `rows`, `state` and `time`.
+/// an object of `contest_time`, `rows`, `state` and `time`. It is the whole one, or that of the group at a
+/// place in the settings, from 0.
 ///
 /// # Errors
 ///
 /// Want of memory alone.
-pub fn scoreboard_text(alloc: Global, seen: &Seen<'_>) -> Result<Vec<u8>, AllocError>
-    ensures { (x : ContestState) → Shows seen.entry.now x → IfOk result (λ text. text.items ≡ compact_text (scoreboard_data seen.entry.now.audience seen.entry.now.now x)) }
+pub fn scoreboard_text(
+    alloc: Global,
+    seen: &Seen<'_>,
+    group: Option<usize>,
+) -> Result<Vec<u8>, AllocError>
+    ensures { (x : ContestState) → Shows seen.entry.now x → IfOk result (λ text. text.items ≡ compact_text (scoreboard_data seen.entry.now.audience seen.entry.now.now group x)) }
 {
-    let board = board_for(alloc, seen)?;
+    let board = board_for(alloc, seen, group)?;
     let text = object_text(alloc, seen.lists.fixed(), seen.now, &board)?;
     Ok(text)
+}
+
+/// The text of the scoreboard of the group with an id, if there is one (own).
+///
+/// # Errors
+///
+/// Want of memory alone.
+pub fn group_scoreboard_text(
+    alloc: Global,
+    seen: &Seen<'_>,
+    id: &[u8],
+) -> Result<Option<Vec<u8>>, AllocError>
+    ensures { (x : ContestState) → Shows seen.entry.now x → IfOk result (λ found. option_map (λ text. text.items) found ≡ option_map compact_text (group_scoreboard_found seen.entry.now.audience seen.entry.now.now x id.now)) }
+{
+    match seen.lists.fixed().settings.group_place(id) {
+        Some(group) => {
+            let text = scoreboard_text(alloc, seen, Some(group))?;
+            Ok(Some(text))
+        }
+        None => Ok(None),
+    }
 }
 
 // The text of a board of a contest as it is served at a moment.

@@ -2,7 +2,7 @@
 
 use contest_types::{Cause, Refusal};
 
-static REFUSALS: [(Refusal, u8, &str, u16); 4] = [
+static REFUSALS: [(Refusal, u8, &str, u16); 5] = [
     (Refusal::Malformed, 1, "Malformed", 400),
     (Refusal::HeadTooLarge, 7, "HeadTooLarge", 431),
     (
@@ -12,6 +12,7 @@ static REFUSALS: [(Refusal, u8, &str, u16); 4] = [
         409,
     ),
     (Refusal::Memory, 25, "Memory", 503),
+    (Refusal::OldSchema, 26, "OldSchema", 503),
 ];
 
 #[test]

@@ -9,7 +9,7 @@ ghost use Rattle.contest_store_sqlite.specs.Value.{shown_in, stored};
 ghost use Rattle.contest_cli_machine.specs.Unopened.{IsNoStore};
 ghost use Rattle.probe.specs.Found.{OpensOver};
 
-use contest_cli_machine::Machine;
+use contest_cli_machine::{Machine, Opening};
 use contest_cli_words::CommandError;
 use contest_store_sqlite::Store;
 use contest_store_tables::{Standing, Tables};
@@ -21,24 +21,24 @@ use std::alloc::Global;
 ///
 /// # Errors
 ///
-/// `StoreFault` where the file holds no valid contest or can't be read; `Memory` where a growth was
-/// refused.
+/// `StoreFault` where the file holds no valid contest or can't be read; `OldSchema` where it has the
+/// tables of the first schema; `Memory` where a growth was refused.
 pub(crate) fn open_store<M: Machine>(
     alloc: Global,
     machine: M,
     path: &str,
 ) -> Result<Store<M::Disk>, Refusal>
-    ensures found { IfOk result (λ store. HasCleanDisk (shown_in M.Disk.Store store) → OpensOver M.Disk.Store M.found (stored M.Disk.Store store)) }
+    ensures found { IfOk result (λ store. HasCleanDisk (shown_in M.Disk.Store store) → OpensOver M.Disk.Store (M.found Opening.Existing) (stored M.Disk.Store store)) }
     ensures new { IfOk result IsNew }
 {
-    let conn = open_file(machine, path)?;
+    let conn = open_file(machine, path, Opening::Existing)?;
     match Store::open(alloc, conn) {
         Ok(store) => Ok(store),
         Err((error, _)) => Err(error.refusal()),
     }
 }
 
-/// A connection to a file that holds no table.
+/// A connection to a file that holds no table, and is made where there is none.
 ///
 /// # Errors
 ///
@@ -46,7 +46,7 @@ pub(crate) fn open_store<M: Machine>(
 pub(crate) fn open_bare<M: Machine>(machine: M, path: &str) -> Result<Connection<M::Disk>, Refusal>
     ensures { IfOk result (λ conn. IsBare (state M.Disk.Store conn)) }
 {
-    bare(open_file(machine, path)?)
+    bare(open_file(machine, path, Opening::New)?)
 }
 
 // A connection on which no table stands.
@@ -57,16 +57,20 @@ fn bare<S: Alter + Drop>(conn: Connection<S>) -> Result<Connection<S>, Refusal>
     let tables = Tables::new(conn);
     match tables.standing() {
         Standing::Bare => Ok(tables.into_connection()),
-        Standing::Desk | Standing::Older | Standing::Foreign => Err(Refusal::KeyReused),
+        Standing::Desk | Standing::Lacking(_) | Standing::Foreign => Err(Refusal::KeyReused),
     }
 }
 
-fn open_file<M: Machine>(machine: M, path: &str) -> Result<Connection<M::Disk>, Refusal>
-    ensures found { IfOk result M.found }
+fn open_file<M: Machine>(
+    machine: M,
+    path: &str,
+    opening: Opening,
+) -> Result<Connection<M::Disk>, Refusal>
+    ensures found { IfOk result (M.found opening) }
     ensures numbered { IfOk result (λ conn. IsNumbered (state M.Disk.Store conn)) }
 {
-    match machine.open(path) {
-        Ok(opened) => Ok(opened.conn),
+    match machine.open(path, opening) {
+        Ok(conn) => Ok(conn),
         Err(stop) => Err(refusal_of(&stop)),
     }
 }

@@ -116,6 +116,6 @@ fn each_change_is_its_rows(rt: HostRuntime) -> Result<(), Fail> {
         faults: 0,
         refusals: 0,
     };
-    assert_eq!(rt; shown_after(rt.alloc())?, (10, none_failed));
+    assert_eq!(rt; shown_after(rt.alloc())?, (11, none_failed));
     Ok(())
 }

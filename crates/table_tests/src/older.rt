@@ -1,31 +1,25 @@
-//! A desk that was made before there was a table of the cells is given it.
+//! A desk of the first schema is given the tables that it lacks, one after the other.
+use contest_demo::first_schema::FIRST_TABLES;
 use contest_store::StoreError;
-use contest_store_tables::{Standing, TableName, Tables};
+use contest_store_tables::{LaterTable, Standing, TableName, Tables};
 use sqlite::{Connection, MemStore};
 use std::alloc::Global;
 
-/// The statements that made such a desk, with one row.
-static OLDER: [&str; 11] = [
-    "CREATE TABLE desk (one INTEGER PRIMARY KEY, version INTEGER NOT NULL) STRICT",
-    "CREATE TABLE contest (one INTEGER PRIMARY KEY, id TEXT NOT NULL, name TEXT NOT NULL, duration INTEGER NOT NULL, freeze INTEGER, penalty INTEGER NOT NULL, verification INTEGER NOT NULL, gold INTEGER NOT NULL, silver INTEGER NOT NULL, bronze INTEGER NOT NULL, start INTEGER, thaw INTEGER, finalized INTEGER) STRICT",
-    "CREATE TABLE items (kind INTEGER NOT NULL, place INTEGER NOT NULL, id TEXT NOT NULL, name TEXT NOT NULL, label TEXT NOT NULL, ordinal INTEGER NOT NULL, flag_a INTEGER NOT NULL, flag_b INTEGER NOT NULL, group_ids TEXT NOT NULL, PRIMARY KEY (kind, place), UNIQUE (kind, id)) STRICT",
-    "CREATE TABLE accounts (id TEXT NOT NULL PRIMARY KEY, role INTEGER NOT NULL, team TEXT, token BLOB NOT NULL UNIQUE) STRICT",
-    "CREATE TABLE submissions (seq INTEGER PRIMARY KEY, team INTEGER NOT NULL, k INTEGER NOT NULL, time INTEGER NOT NULL, problem TEXT NOT NULL, language TEXT NOT NULL, entry TEXT, file BLOB NOT NULL, key TEXT, UNIQUE (team, k), UNIQUE (team, key)) STRICT",
-    "CREATE TABLE proposals (seq INTEGER PRIMARY KEY, team INTEGER NOT NULL, k INTEGER NOT NULL, type TEXT NOT NULL, account TEXT NOT NULL, time INTEGER NOT NULL) STRICT",
-    "CREATE TABLE releases (seq INTEGER PRIMARY KEY, team INTEGER NOT NULL, k INTEGER NOT NULL, n INTEGER NOT NULL, type TEXT NOT NULL, time INTEGER NOT NULL, UNIQUE (team, k, n)) STRICT",
-    "CREATE TABLE rejudgings (n INTEGER PRIMARY KEY, reason TEXT NOT NULL, state INTEGER NOT NULL) STRICT",
-    "CREATE TABLE members (rejudging INTEGER NOT NULL, place INTEGER NOT NULL, team INTEGER NOT NULL, k INTEGER NOT NULL, type TEXT, account TEXT, ready INTEGER NOT NULL, PRIMARY KEY (rejudging, place)) STRICT",
-    "CREATE TABLE clarifications (seq INTEGER PRIMARY KEY, audience INTEGER NOT NULL, k INTEGER NOT NULL, from_jury INTEGER NOT NULL, account TEXT NOT NULL, problem TEXT, reply TEXT, text TEXT NOT NULL, time INTEGER NOT NULL, key TEXT, UNIQUE (audience, k)) STRICT",
-    "INSERT INTO desk (one, version) VALUES (1, 1)",
-];
+/// How many of them the first desks had.
+const OLDEST: usize = 10;
 
-fn make_older(conn: &mut Connection<MemStore>) -> Result<(), StoreError> {
-    for statement in &OLDER {
-        if conn.execute(statement, &[]).is_err() {
-            return Err(StoreError::Fault);
-        }
+fn execute(conn: &mut Connection<MemStore>, statement: &str) -> Result<(), StoreError> {
+    if conn.execute(statement, &[]).is_err() {
+        return Err(StoreError::Fault);
     }
     Ok(())
+}
+
+fn make_older(conn: &mut Connection<MemStore>) -> Result<(), StoreError> {
+    for statement in FIRST_TABLES.iter().take(OLDEST) {
+        execute(conn, statement)?;
+    }
+    execute(conn, "INSERT INTO desk (one, version) VALUES (1, 1)")
 }
 
 fn older(alloc: Global) -> Result<Tables<MemStore>, StoreError> {
@@ -45,9 +39,9 @@ fn value_if<T: Drop>(done: Result<(), StoreError>, value: T) -> Result<T, StoreE
     }
 }
 
-fn make_cells(tables: &mut Tables<MemStore>) -> Result<(), StoreError> {
+fn make_later(tables: &mut Tables<MemStore>, table: LaterTable) -> Result<(), StoreError> {
     tables.begin()?;
-    tables.make_cells()?;
+    tables.make_later(table)?;
     tables.commit()
 }
 
@@ -56,31 +50,51 @@ fn count(tables: &mut Tables<MemStore>, table: TableName) -> Result<usize, Store
     Ok(tables.load(table)?.len())
 }
 
-/// What stood before the table of the cells was made and what stands after it, and how many rows that
-/// table and the first one show.
-fn given_cells(alloc: Global) -> Result<(Standing, Standing, usize, usize), StoreError> {
+/// What stood before the later tables were made, and after each of them.
+fn standings(alloc: Global) -> Result<[Standing; 3], StoreError> {
     let mut tables = older(alloc)?;
-    let before = tables.standing();
-    make_cells(&mut tables)?;
-    let after = tables.standing();
-    tables.begin()?;
-    let cells = count(&mut tables, TableName::Cells)?;
-    Ok((before, after, cells, count(&mut tables, TableName::Desk)?))
+    let oldest = tables.standing();
+    make_later(&mut tables, LaterTable::Cells)?;
+    let older = tables.standing();
+    make_later(&mut tables, LaterTable::Notices)?;
+    Ok([oldest, older, tables.standing()])
 }
 
-/// An older desk has the tables of a desk after it, and its rows.
+/// The first desks have the tables of a desk once the later ones are made.
 #[test]
-fn an_older_desk_is_given_cells(rt: HostRuntime) {
-    let given = given_cells(rt.alloc());
-    assert!(rt; given == Ok((Standing::Older, Standing::Desk, 0, 1)));
+fn later_tables_are_made(rt: HostRuntime) {
+    let standings = standings(rt.alloc());
+    let cells = Standing::Lacking(LaterTable::Cells);
+    let notices = Standing::Lacking(LaterTable::Notices);
+    assert!(rt; standings == Ok([cells, notices, Standing::Desk]));
+}
+
+/// How many rows the first table and the two later ones show once those are made.
+fn rows(alloc: Global) -> Result<[usize; 3], StoreError> {
+    let mut tables = older(alloc)?;
+    make_later(&mut tables, LaterTable::Cells)?;
+    make_later(&mut tables, LaterTable::Notices)?;
+    tables.begin()?;
+    Ok([
+        count(&mut tables, TableName::Desk)?,
+        count(&mut tables, TableName::Cells)?,
+        count(&mut tables, TableName::Notices)?,
+    ])
+}
+
+/// They are empty, and the rows of the others stay.
+#[test]
+fn later_tables_are_empty(rt: HostRuntime) {
+    let rows = rows(rt.alloc());
+    assert!(rt; rows == Ok([1, 0, 0]));
 }
 
 /// What stands after a second table of the cells was refused.
 fn refused(alloc: Global) -> Result<(bool, Standing), StoreError> {
     let mut tables = older(alloc)?;
-    make_cells(&mut tables)?;
+    make_later(&mut tables, LaterTable::Cells)?;
     tables.begin()?;
-    let again = tables.make_cells();
+    let again = tables.make_later(LaterTable::Cells);
     Ok((again == Err(StoreError::Fault), tables.standing()))
 }
 
@@ -88,5 +102,6 @@ fn refused(alloc: Global) -> Result<(bool, Standing), StoreError> {
 #[test]
 fn cells_are_made_once(rt: HostRuntime) {
     let refused = refused(rt.alloc());
-    assert!(rt; refused == Ok((true, Standing::Desk)));
+    let notices = Standing::Lacking(LaterTable::Notices);
+    assert!(rt; refused == Ok((true, notices)));
 }

@@ -6,8 +6,8 @@ use sqlite::types::ValueRef::{Blob, Int, Null, Text};
 /// The rows of one table, in the order of its key; of a file its type and its length.
 pub type Shown = (TableName, &'static [&'static [ValueRef<'static>]]);
 
-pub static SHOWN: [Shown; 10] = [
-    (TableName::Desk, &[&[Int(1), Int(1)]]),
+pub static SHOWN: [Shown; 11] = [
+    (TableName::Desk, &[&[Int(1), Int(2)]]),
     (
         TableName::Contest,
         &[&[
@@ -136,9 +136,10 @@ pub static SHOWN: [Shown; 10] = [
         &[&[Int(1), Int(1), Int(1), Int(1), Text(b"AC"), Null, Int(1)]],
     ),
     (
-        TableName::Clarifications,
+        TableName::Notices,
         &[&[
             Int(1),
+            Int(0),
             Int(0),
             Int(1),
             Int(1),
@@ -150,4 +151,5 @@ pub static SHOWN: [Shown; 10] = [
             Null,
         ]],
     ),
+    (TableName::Clarifications, &[]),
 ];

@@ -1,6 +1,6 @@
 //! What stands in a database is told apart: nothing, the tables of a desk, others.
 use contest_store::StoreError;
-use contest_store_tables::{Standing, Tables};
+use contest_store_tables::{LaterTable, Standing, Tables};
 use sqlite::{Connection, MemStore};
 use std::alloc::Global;
 
@@ -11,9 +11,9 @@ struct Case {
     standing: Standing,
 }
 
-const DROP: &str = "DROP TABLE cells";
+const DROP: &str = "DROP TABLE notices";
 
-static CASES: [Case; 11] = [
+static CASES: [Case; 13] = [
     Case {
         is_made: false,
         statements: &[],
@@ -46,16 +46,28 @@ static CASES: [Case; 11] = [
         statements: &["CREATE VIEW versions AS SELECT version FROM desk"],
         standing: Standing::Foreign,
     },
-    // without the cells
+    // without the clarifications of today
     Case {
         is_made: true,
         statements: &[DROP],
-        standing: Standing::Older,
+        standing: Standing::Lacking(LaterTable::Notices),
     },
-    // and without the clarifications
+    // and without the cells
     Case {
         is_made: true,
-        statements: &[DROP, "DROP TABLE clarifications"],
+        statements: &[DROP, "DROP TABLE cells"],
+        standing: Standing::Lacking(LaterTable::Cells),
+    },
+    // without the cells alone
+    Case {
+        is_made: true,
+        statements: &["DROP TABLE cells"],
+        standing: Standing::Foreign,
+    },
+    // and without the clarifications of the first schema
+    Case {
+        is_made: true,
+        statements: &[DROP, "DROP TABLE cells", "DROP TABLE clarifications"],
         standing: Standing::Foreign,
     },
     // as it was
@@ -63,7 +75,7 @@ static CASES: [Case; 11] = [
         is_made: true,
         statements: &[
             DROP,
-            "CREATE TABLE cells (audience INTEGER NOT NULL, team INTEGER NOT NULL, problem TEXT NOT NULL, judged INTEGER NOT NULL, pending INTEGER NOT NULL, solved INTEGER, penalties INTEGER NOT NULL, PRIMARY KEY (audience, team, problem)) STRICT",
+            "CREATE TABLE notices (seq INTEGER PRIMARY KEY, kind INTEGER NOT NULL, number INTEGER NOT NULL, k INTEGER NOT NULL, from_jury INTEGER NOT NULL, account TEXT NOT NULL, problem TEXT, reply TEXT, text TEXT NOT NULL, time INTEGER NOT NULL, key TEXT, UNIQUE (kind, number, k)) STRICT",
         ],
         standing: Standing::Desk,
     },
@@ -72,16 +84,16 @@ static CASES: [Case; 11] = [
         is_made: true,
         statements: &[
             DROP,
-            "CREATE TABLE cells (audience INTEGER NOT NULL, team INTEGER NOT NULL, problem TEXT NOT NULL, judged INTEGER NOT NULL, pending INTEGER NOT NULL, solved INTEGER, penalties INTEGER NOT NULL, more TEXT, PRIMARY KEY (audience, team, problem)) STRICT",
+            "CREATE TABLE notices (seq INTEGER PRIMARY KEY, kind INTEGER NOT NULL, number INTEGER NOT NULL, k INTEGER NOT NULL, from_jury INTEGER NOT NULL, account TEXT NOT NULL, problem TEXT, reply TEXT, text TEXT NOT NULL, time INTEGER NOT NULL, key TEXT, more TEXT, UNIQUE (kind, number, k)) STRICT",
         ],
         standing: Standing::Foreign,
     },
-    // with a count that may be missing
+    // with a kind that may be missing
     Case {
         is_made: true,
         statements: &[
             DROP,
-            "CREATE TABLE cells (audience INTEGER NOT NULL, team INTEGER NOT NULL, problem TEXT NOT NULL, judged INTEGER, pending INTEGER NOT NULL, solved INTEGER, penalties INTEGER NOT NULL, PRIMARY KEY (audience, team, problem)) STRICT",
+            "CREATE TABLE notices (seq INTEGER PRIMARY KEY, kind INTEGER, number INTEGER NOT NULL, k INTEGER NOT NULL, from_jury INTEGER NOT NULL, account TEXT NOT NULL, problem TEXT, reply TEXT, text TEXT NOT NULL, time INTEGER NOT NULL, key TEXT, UNIQUE (kind, number, k)) STRICT",
         ],
         standing: Standing::Foreign,
     },

@@ -7,7 +7,7 @@ use sqlite::{Connection, MemStore, Row};
 use std::alloc::Global;
 
 /// A row of each table, in the order in which the tables are made.
-static ROWS: [(TableName, &[ValueRef<'static>]); 11] = [
+static ROWS: [(TableName, &[ValueRef<'static>]); 12] = [
     (TableName::Desk, &[Int(1), Int(1)]),
     (
         TableName::Contest,
@@ -105,6 +105,22 @@ static ROWS: [(TableName, &[ValueRef<'static>]); 11] = [
         TableName::Cells,
         &[Int(0), Int(1), Text(b"a"), Int(1), Int(0), Int(5), Int(0)],
     ),
+    (
+        TableName::Notices,
+        &[
+            Int(1),
+            Int(2),
+            Int(1),
+            Int(1),
+            Int(1),
+            Text(b"j1"),
+            Null,
+            Null,
+            Text(b"Welcome"),
+            Int(1_709_370_000_000),
+            Null,
+        ],
+    ),
 ];
 
 fn open(alloc: Global) -> Result<Tables<MemStore>, StoreError> {
@@ -198,7 +214,7 @@ const NONE_FAILED: Counts = Counts {
 #[test]
 fn each_table_takes_a_row(rt: HostRuntime) {
     let counted = count_filled(rt.alloc());
-    assert!(rt; counted == Ok((11, 11, NONE_FAILED)));
+    assert!(rt; counted == Ok((12, 12, NONE_FAILED)));
 }
 
 fn look_at_files(alloc: Global) -> Result<(usize, usize, i64), StoreError> {
@@ -219,8 +235,9 @@ fn a_file_is_found(rt: HostRuntime) {
     assert!(rt; found == Ok((1, 0, 8)));
 }
 
-fn changed(alloc: Global) -> Result<(i64, i64, i64, i64), StoreError> {
+fn changed(alloc: Global) -> Result<[i64; 5], StoreError> {
     let mut tables = filled(alloc)?;
+    change(&mut tables, RowChange::Version, &[Int(1), Int(2)])?;
     change(
         &mut tables,
         RowChange::Marks,
@@ -237,19 +254,20 @@ fn changed(alloc: Global) -> Result<(i64, i64, i64, i64), StoreError> {
         RowChange::Cell,
         &[Int(0), Int(1), Text(b"a"), Int(2), Int(3), Int(5), Int(1)],
     )?;
-    Ok((
+    Ok([
+        number(&mut tables, TableName::Desk, 1)?,
         number(&mut tables, TableName::Contest, 11)?,
         number(&mut tables, TableName::Rejudgings, 2)?,
         number(&mut tables, TableName::Members, 6)?,
         number(&mut tables, TableName::Cells, 4)?,
-    ))
+    ])
 }
 
-/// The marks, a rejudging's state, a member and a cell change where they stand.
+/// The version, the marks, a rejudging's state, a member and a cell change where they stand.
 #[test]
 fn rows_change(rt: HostRuntime) {
     let changed = changed(rt.alloc());
-    assert!(rt; changed == Ok((5, 2, 1, 3)));
+    assert!(rt; changed == Ok([2, 5, 2, 1, 3]));
 }
 
 fn refused(alloc: Global) -> Result<(bool, bool, Counts), StoreError> {
@@ -265,7 +283,7 @@ fn refused(alloc: Global) -> Result<(bool, bool, Counts), StoreError> {
     let stands = rows(&mut tables)?;
     Ok((
         again == Err(StoreError::Fault),
-        stands == 11,
+        stands == 12,
         tables.counts(),
     ))
 }

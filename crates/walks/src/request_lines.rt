@@ -92,7 +92,7 @@ fn rows_of(alloc: Global, text: &str) -> Result<Rows<u8>, AllocError> {
     Ok(Rows::from_vec(Vec::from_slice(alloc, text.as_bytes())?))
 }
 
-/// The body, in which `<262144 zeros>` stands for the base64 of so many bytes.
+/// The body, in which `<1048576 zeros>` stands for the base64 of so many bytes.
 fn body_of(alloc: Global, text: &str) -> Result<Rows<u8>, AllocError> {
     match zeros_in(text) {
         Some((front, count, back)) => with_zeros(alloc, front, count, back),

@@ -1,4 +1,4 @@
-//! The steps at one contest's desk, and what is told of each.
+//! The steps at the desk of a contest, and what is told of each.
 //!
 //! Of a connection that is a line `HOW STATUS READS LEFT SIZE`, the bytes that were taken, and a line end: HOW is
 //! `answered` (with a status), `nothing`, `read` or `write`, by the stream that failed; then come how often the
@@ -10,14 +10,14 @@ use crate::script::{Script, Step};
 use crate::streams::{Room, Source, Streams};
 use contest_desk::Desk;
 use contest_http::{ServeFault, Served, serve_one};
-use contest_store::MemoryStore;
+use contest_store::{ContestStore, MemoryStore};
 use contest_streams::Counted;
 use contest_types::{ImportKind, Moment, Refusal};
 use std::io;
 use std::io::Write;
 use std::test::Fail;
 
-/// Goes the steps of a contest, up to the next.
+/// Goes the steps of a contest in memory, up to the next beginning.
 pub fn session(
     rt: &HostRuntime,
     script: &mut Script<'_>,
@@ -27,19 +27,24 @@ pub fn session(
     let mut desk = desk_of(rt.alloc(), file)?;
     let gone = go(rt, &mut desk, script, taken);
     let store = desk.into_store();
-    tell_end(rt, &store, gone)
+    tell_store(rt, &store, gone)
 }
 
-fn tell_end(rt: &HostRuntime, store: &MemoryStore, gone: io::Result<()>) -> Result<(), Fail> {
+fn tell_store(rt: &HostRuntime, store: &MemoryStore, gone: io::Result<()>) -> Result<(), Fail> {
     gone?;
-    let (faults, refusals, commits) = (store.faults(), store.refusals(), store.commits());
-    println!(rt; "ended {faults} {refusals} {commits}")?;
+    tell_end(rt, store.faults(), store.refusals(), store.commits())?;
     Ok(())
 }
 
-fn go(
+/// Tells the end of a contest, with what its store counted.
+pub fn tell_end(rt: &HostRuntime, faults: u64, refusals: u64, commits: u64) -> io::Result<()> {
+    println!(rt; "ended {faults} {refusals} {commits}")
+}
+
+/// Goes the steps at a desk, up to the next beginning.
+pub fn go<S: ContestStore>(
     rt: &HostRuntime,
-    desk: &mut Desk<MemoryStore>,
+    desk: &mut Desk<S>,
     script: &mut Script<'_>,
     taken: &mut Vec<u8>,
 ) -> io::Result<()> {
@@ -47,8 +52,8 @@ fn go(
         match script.step() {
             Some(Step::Serve(now, streams, bytes)) => serve(rt, desk, now, streams, bytes, taken)?,
             Some(Step::Import(now, kind, file)) => import(rt, desk, now, kind, file)?,
-            Some(Step::Contest(file)) => {
-                script.contest = Some(file);
+            Some(Step::Begin(beginning)) => {
+                script.beginning = Some(beginning);
                 return Ok(());
             }
             None => return Ok(()),
@@ -64,9 +69,9 @@ fn moment(milliseconds: u64) -> io::Result<Moment> {
     }
 }
 
-fn serve(
+fn serve<S: ContestStore>(
     rt: &HostRuntime,
-    desk: &mut Desk<MemoryStore>,
+    desk: &mut Desk<S>,
     milliseconds: u64,
     streams: Streams,
     input: &[u8],
@@ -78,6 +83,8 @@ fn serve(
         input,
         piece: streams.piece,
         interrupts: streams.interrupts,
+        calm: streams.first,
+        apart: streams.apart,
         fails: streams.reader_fails,
         reads: 0,
     });
@@ -111,9 +118,9 @@ fn tell_served(
     println!(rt; "")
 }
 
-fn import(
+fn import<S: ContestStore>(
     rt: &HostRuntime,
-    desk: &mut Desk<MemoryStore>,
+    desk: &mut Desk<S>,
     milliseconds: u64,
     kind: ImportKind,
     file: &[u8],
@@ -125,7 +132,8 @@ fn import(
     }
 }
 
-fn tell_refusal(rt: &HostRuntime, refusal: Refusal) -> io::Result<()> {
+/// Tells a refusal, as the program does.
+pub fn tell_refusal(rt: &HostRuntime, refusal: Refusal) -> io::Result<()> {
     let row = refusal.row();
     let (number, name) = (row.number, row.name);
     match refusal {

@@ -10,17 +10,22 @@ use std::io::{Read, Write};
 pub struct Streams {
     pub piece: usize,
     pub interrupts: u32,
+    pub first: u32,
+    pub apart: u32,
     pub reader_fails: bool,
     pub room: usize,
     pub writer_fails: bool,
 }
 
-/// Is interrupted so many times, gives its input in pieces, and then ends or fails. It counts its calls.
+/// Gives its input in pieces, and then ends or fails. So many of its reads are interrupted, the next one after
+/// `calm` others, and each further one after `apart`. It counts its calls.
 #[derive(Drop)]
 pub struct Source<'a> {
     pub input: &'a [u8],
     pub piece: usize,
     pub interrupts: u32,
+    pub calm: u32,
+    pub apart: u32,
     pub fails: bool,
     pub reads: u64,
 }
@@ -35,11 +40,26 @@ fn take_piece(input: &mut &[u8], buf: &mut [u8], piece: usize) -> usize
     count
 }
 
+impl Source<'_> {
+    /// Whether the next read is interrupted.
+    fn is_interrupted(&mut self) -> bool {
+        if self.interrupts == 0 {
+            return false;
+        }
+        if self.calm > 0 {
+            self.calm -= 1;
+            return false;
+        }
+        self.interrupts -= 1;
+        self.calm = self.apart;
+        true
+    }
+}
+
 impl Read for Source<'_> {
     fn read(&mut self, buf: &mut [u8]) -> io::Result<usize> {
         self.reads = self.reads.saturating_add(1);
-        if self.interrupts > 0 {
-            self.interrupts -= 1;
+        if self.is_interrupted() {
             return Err(io::Error::from(io::ErrorKind::Interrupted));
         }
         if self.input.is_empty() && self.fails {

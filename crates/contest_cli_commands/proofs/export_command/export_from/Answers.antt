@@ -13,7 +13,7 @@ returns-in-Err-Store-clause-told g c =
     let error = c.in-Err-Store.error in
     let why : IsStoreStop (Refused c.refusal.result) = subst (λ (r : Refusal). IsStoreStop (Refused r)) (sym c.refusal.ensures) (by_error error) in
     record {
-      told = cut_off new.is_clean (λ x. x ≡ old.contest) _ _ _ _ (Refused c.refusal.result) c.refuse-in-Err-Store.result (inl why) refl
+      told = cut_off new.is_clean (λ x. x ≡ old.contest) IsStoreStop _ _ _ _ (Refused c.refusal.result) c.refuse-in-Err-Store.result (inl why) refl
           (inr (λ clean. (old.contest, refl, c.in-Err-Store.ensures.written clean))) c.refuse-in-Err-Store.ensures.status c.refuse-in-Err-Store.ensures.told;
       crash = leaves_by_look _ old new c.in-Err-Store.ensures.leaves;
       clean = c.in-Err-Store.ensures.leaves.clean;

@@ -1,10 +1,9 @@
 use Rattle.std.proofs.Common.{Err, ap, subst}
 use Rattle.sqlite.specs.Held.{state}
-use Rattle.sqlite.specs.State.{HasCleanDisk}
 use Rattle.contest_streams.specs.Streams.{stream}
 use Rattle.contest_desk.specs.Items.{HasStoreError}
-use Rattle.contest_cli_commands.specs.Import.{Steps}
-use Rattle.contest_cli_commands.proofs.ImportLemmas.{fault_stops, refuses}
+use Rattle.contest_cli_commands.specs.Import.{StepsOrFinds}
+use Rattle.contest_cli_commands.proofs.ImportLemmas.{added_steps, fault_stops, no_error, refuses}
 use Rattle.contest_cli_commands.proofs.InputLemmas.{was_read}
 use Rattle.contest_cli_commands.proofs.import_command.import.Goals as goal
 
@@ -25,7 +24,16 @@ returns-clause-err g c =
     let new = state g.S.Store c.import_bytes-added.result.1 in
     let steps = c.import_bytes-added.ensures.steps input (was_read input c.in-Ok.ensures.ok c.deref.ensures.value) in
     refuses c.args.now c.args.kind input old new c.in-Err-added.refusal
-    (subst (λ answer. ¬ HasStoreError answer → HasCleanDisk new → Steps c.args.now c.args.kind input old new answer) c.in-Err-added.is steps)
+    (subst (λ answer. ¬ HasStoreError answer → StepsOrFinds c.args.now c.args.kind input old new answer) c.in-Err-added.is steps)
+
+pub returns-in-Ok-added-clause-ok : goal.returns-in-Ok-added-clause-ok
+returns-in-Ok-added-clause-ok g c =
+    let input = stream g.R.Read.remaining c.args.reader.now in
+    let old = state g.S.Store c.args.conn in
+    let new = state g.S.Store c.import_bytes-added.result.1 in
+    let steps = c.import_bytes-added.ensures.steps input (was_read input c.in-Ok.ensures.ok c.deref.ensures.value) in
+    added_steps c.args.now c.args.kind input old new c.in-Ok-added.added
+    (subst (λ answer. ¬ HasStoreError answer → StepsOrFinds c.args.now c.args.kind input old new answer) c.in-Ok-added.is steps (λ failed. no_error c.in-Ok-added.added failed))
 
 pub returns-clause-leaves : goal.returns-clause-leaves
 returns-clause-leaves g c =

@@ -20,7 +20,8 @@ returns-in-Ok-clause-ok g c =
 pub returns-in-Err-clause-err : goal.returns-in-Err-clause-err
 returns-in-Err-clause-err g c =
     refused_stops c.args.contest (state g.S.Store c.args.conn) (state g.S.Store c.in-Err.conn) _ c.in-Err.refusal c.requires.valid
-    c.in-Err.ensures.kinds c.in-Err.ensures.malformed c.in-Err.ensures.differs
+    c.in-Err.ensures.kinds c.in-Err.ensures.malformed c.in-Err.ensures.differs c.in-Err.ensures.unchanged
+    (λ is. ((λ clean up. c.in-Err.ensures.first clean is up), c.in-Err.ensures.old is))
 
 pub returns-in-Ok-clause-leaves : goal.returns-in-Ok-clause-leaves
 returns-in-Ok-clause-leaves g c =

@@ -2,6 +2,7 @@ use Rattle.std.proofs.Common.{subst, sym}
 use Rattle.sqlite.specs.Held.{state}
 use Rattle.contest_store_sqlite.specs.Keeping.{IsTrusted}
 use Rattle.contest_cli_commands.specs.Serve.{ServesTables}
+use Rattle.contest_cli_commands.proofs.PrintLemmas.{stops_opening}
 use Rattle.contest_cli_commands.proofs.ServeEndings.{opened, unopened}
 use Rattle.contest_cli_commands.proofs.TableLemmas.{served}
 use Rattle.contest_cli_commands.proofs.serve_command.run_serve.Goals as goal
@@ -29,4 +30,6 @@ returns-in-Ok-clause-clients g c zero = record {
 
 pub returns-in-Err-clause-serves : goal.returns-in-Err-clause-serves
 returns-in-Err-clause-serves g c =
-    unopened _ _ _ _ _ _ _ _ c.refusal.result c.refusal.ensures.kinds c.refuse.ensures.status c.refuse.ensures.told c.in-Err.ensures.refused
+    let old = state g.S.Store c.args.conn in
+    let new = state g.S.Store c.in-Err.conn in
+    unopened _ _ _ _ _ old new _ c.refusal.result (stops_opening old new c.in-Err.error c.refusal.result c.refusal.ensures.value (λ is clean up. c.in-Err.ensures.first clean is up)) c.refuse.ensures.status c.refuse.ensures.told c.in-Err.ensures.refused

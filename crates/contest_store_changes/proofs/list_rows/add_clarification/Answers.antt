@@ -3,7 +3,7 @@ use Rattle.contest_types.specs.declared.entry.Entry.TheVariants.{NewClarificatio
 use Rattle.contest_types.specs.declared.fixed.Fixed.{Fixed}
 use Rattle.contest_store_tables.specs.Connected.{counts_of, shown_by}
 use Rattle.contest_store_changes.specs.Additions.{HasListed}
-use Rattle.contest_store_tables.specs.declared.table_name.TableName.TheVariants.{Clarifications}
+use Rattle.contest_store_tables.specs.declared.table_name.TableName.TheVariants.{Notices}
 use Rattle.contest_store_changes.proofs.AppendLemmas.{adds_row, never_admitted, unfit}
 use Rattle.contest_store_changes.proofs.AppendedRows.{adds_clarification}
 use Rattle.contest_store_changes.proofs.BoundRows.{bound_as, clarification_unreal}
@@ -15,7 +15,7 @@ returns g c =
     let lists = c.args.lists.now in
     let row = c.args.clarification.now in
     let s = c.fixed.result.now.settings in
-    adds_row c.insert-2.result (shown_by g.S.Store c.args.tables.now) (shown_by g.S.Store c.insert-2.new.self) _ _ lists (NewClarification row) (NewClarification row) Clarifications _ _
+    adds_row c.insert-2.result (shown_by g.S.Store c.args.tables.now) (shown_by g.S.Store c.insert-2.new.self) _ _ lists (NewClarification row) (NewClarification row) Notices _ _
     (bound_as c.clarification_cells.result _ (clarification_unreal s _ row) c.clarification_cells.ensures)
     (adds_clarification lists s (ap (λ (f : Fixed). f.settings) c.fixed.ensures) c.clarifications-row.result.now row c.clarifications-row.ensures) c.insert-2.ensures
 

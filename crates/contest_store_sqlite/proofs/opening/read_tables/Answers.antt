@@ -1,6 +1,7 @@
 use Rattle.std.proofs.Common.{◌≡◌, Some, subst}
 use Rattle.std.specs.Prelude.{IfSome}
-use Rattle.contest_store_fixed_rows.specs.Spelling.{lists_in}
+use Rattle.contest_store_fixed_rows.specs.Spelling.{lists_in_version}
+use Rattle.contest_store_rows.specs.declared.versions.TheConstants.{VERSION}
 use Rattle.contest_store_tables.specs.Connected.{shown_by}
 use Rattle.contest_store_changes.specs.ContestTables.{loaded_tables}
 use Rattle.contest_store_sqlite.proofs.OpenedContests.{are_valid, makes_none, makes_none_then, makes_right, reads_tables}
@@ -10,22 +11,22 @@ pub returns-in-Some-clause-read : goal.returns-in-Some-clause-read
 returns-in-Some-clause-read g c =
     let found = c.in-Ok.ensures in
     let kept = c.keep_settled.ensures in
-    reads_tables _ c.args.is_older (shown_by g.S.Store c.args.tables.now) (shown_by g.S.Store c.find_valid.new.tables) (shown_by g.S.Store c.keep_settled.new.tables) _ _ c.in-Some.lists found.call
-    (λ clean rows last holds up. subst (λ o. IfSome o (λ lists. lists_in (loaded_tables rows) ≡ Some lists)) c.in-Some.is (found.lists clean rows last holds up))
+    reads_tables _ (shown_by g.S.Store c.args.tables.now) (shown_by g.S.Store c.find_valid.new.tables) (shown_by g.S.Store c.keep_settled.new.tables) _ _ c.in-Some.lists found.call
+    (λ clean rows last holds up. subst (λ o. IfSome o (λ lists. lists_in_version VERSION (loaded_tables rows) ≡ Some lists)) c.in-Some.is (found.lists clean rows last holds up))
     (are_valid c.in-Ok.found c.in-Some.lists c.in-Some.is found.valid) kept.survives c.keep_settled.result kept.lists kept.keeps
 
 pub returns-in-Some-clause-survives : goal.returns-in-Some-clause-survives
 returns-in-Some-clause-survives g c =
     let found = c.in-Ok.ensures in
-    makes_right _ c.args.is_older (shown_by g.S.Store c.args.tables.now) (shown_by g.S.Store c.find_valid.new.tables) (shown_by g.S.Store c.keep_settled.new.tables) _ _ c.in-Some.lists found.call
-    (λ clean rows last holds up. subst (λ o. IfSome o (λ lists. lists_in (loaded_tables rows) ≡ Some lists)) c.in-Some.is (found.lists clean rows last holds up))
+    makes_right _ (shown_by g.S.Store c.args.tables.now) (shown_by g.S.Store c.find_valid.new.tables) (shown_by g.S.Store c.keep_settled.new.tables) _ _ c.in-Some.lists found.call
+    (λ clean rows last holds up. subst (λ o. IfSome o (λ lists. lists_in_version VERSION (loaded_tables rows) ≡ Some lists)) c.in-Some.is (found.lists clean rows last holds up))
     (are_valid c.in-Ok.found c.in-Some.lists c.in-Some.is found.valid) c.keep_settled.ensures.survives
 
 pub returns-in-None-clause-survives : goal.returns-in-None-clause-survives
 returns-in-None-clause-survives g c =
-    makes_none_then c.args.is_older (shown_by g.S.Store c.args.tables.now) (shown_by g.S.Store c.find_valid.new.tables) (shown_by g.S.Store c.roll_back.new.self)
+    makes_none_then (shown_by g.S.Store c.args.tables.now) (shown_by g.S.Store c.find_valid.new.tables) (shown_by g.S.Store c.roll_back.new.self)
     c.find_valid.ensures.call.step.survives c.roll_back.ensures.survives
 
 pub returns-in-Err-clause-survives : goal.returns-in-Err-clause-survives
 returns-in-Err-clause-survives g c =
-    makes_none c.args.is_older (shown_by g.S.Store c.args.tables.now) (shown_by g.S.Store c.find_valid.new.tables) c.find_valid.ensures.call.step.survives
+    makes_none (shown_by g.S.Store c.args.tables.now) (shown_by g.S.Store c.find_valid.new.tables) c.find_valid.ensures.call.step.survives

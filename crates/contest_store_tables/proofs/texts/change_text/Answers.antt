@@ -1,5 +1,8 @@
-use Rattle.contest_store_tables.proofs.TextMeanings.{marks_changed, rejudging_state_changed, member_state_changed, cell_changed}
+use Rattle.contest_store_tables.proofs.TextMeanings.{version_changed, marks_changed, rejudging_state_changed, member_state_changed, cell_changed}
 use Rattle.contest_store_tables.proofs.texts.change_text.Goals as goal
+
+pub returns-in-Version : goal.returns-in-Version
+returns-in-Version c = rw c.in-Version.is version_changed
 
 pub returns-in-Marks : goal.returns-in-Marks
 returns-in-Marks c = rw c.in-Marks.is marks_changed

@@ -1,4 +1,4 @@
-use Rattle.contest_store_tables.proofs.TextMeanings.{desk_created, contest_created, items_created, accounts_created, submissions_created, proposals_created, releases_created, rejudgings_created, members_created, clarifications_created, cells_created}
+use Rattle.contest_store_tables.proofs.TextMeanings.{desk_created, contest_created, items_created, accounts_created, submissions_created, proposals_created, releases_created, rejudgings_created, members_created, clarifications_created, cells_created, notices_created}
 use Rattle.contest_store_tables.proofs.texts.create_text.Goals as goal
 
 pub returns-in-Desk : goal.returns-in-Desk
@@ -33,3 +33,6 @@ returns-in-Clarifications c = rw c.in-Clarifications.is clarifications_created
 
 pub returns-in-Cells : goal.returns-in-Cells
 returns-in-Cells c = rw c.in-Cells.is cells_created
+
+pub returns-in-Notices : goal.returns-in-Notices
+returns-in-Notices c = rw c.in-Notices.is notices_created

@@ -1,4 +1,4 @@
-use Rattle.contest_store_tables.proofs.TextMeanings.{desk_inserted, contest_inserted, items_inserted, accounts_inserted, submissions_inserted, proposals_inserted, releases_inserted, rejudgings_inserted, members_inserted, clarifications_inserted, cells_inserted}
+use Rattle.contest_store_tables.proofs.TextMeanings.{desk_inserted, contest_inserted, items_inserted, accounts_inserted, submissions_inserted, proposals_inserted, releases_inserted, rejudgings_inserted, members_inserted, clarifications_inserted, cells_inserted, notices_inserted}
 use Rattle.contest_store_tables.proofs.texts.insert_text.Goals as goal
 
 pub returns-in-Desk : goal.returns-in-Desk
@@ -33,3 +33,6 @@ returns-in-Clarifications c = rw c.in-Clarifications.is clarifications_inserted
 
 pub returns-in-Cells : goal.returns-in-Cells
 returns-in-Cells c = rw c.in-Cells.is cells_inserted
+
+pub returns-in-Notices : goal.returns-in-Notices
+returns-in-Notices c = rw c.in-Notices.is notices_inserted

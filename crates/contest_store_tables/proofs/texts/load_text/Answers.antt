@@ -1,4 +1,4 @@
-use Rattle.contest_store_tables.proofs.TextMeanings.{desk_loaded, contest_loaded, items_loaded, accounts_loaded, submissions_loaded, proposals_loaded, releases_loaded, rejudgings_loaded, members_loaded, clarifications_loaded, cells_loaded}
+use Rattle.contest_store_tables.proofs.TextMeanings.{desk_loaded, contest_loaded, items_loaded, accounts_loaded, submissions_loaded, proposals_loaded, releases_loaded, rejudgings_loaded, members_loaded, clarifications_loaded, cells_loaded, notices_loaded}
 use Rattle.contest_store_tables.proofs.texts.load_text.Goals as goal
 
 pub returns-in-Desk : goal.returns-in-Desk
@@ -33,3 +33,6 @@ returns-in-Clarifications c = rw c.in-Clarifications.is clarifications_loaded
 
 pub returns-in-Cells : goal.returns-in-Cells
 returns-in-Cells c = rw c.in-Cells.is cells_loaded
+
+pub returns-in-Notices : goal.returns-in-Notices
+returns-in-Notices c = rw c.in-Notices.is notices_loaded

@@ -1,4 +1,4 @@
-use Rattle.std.proofs.Common.{true, ap, subst, subst₂, sym}
+use Rattle.std.proofs.Common.{IsTrue, true, ap, subst, subst₂, sym}
 use Rattle.sqlite.specs.State.{HasCleanDisk}
 use Rattle.sqlite.specs.Held.{state}
 use Rattle.contest_types.specs.State.{ContestState}
@@ -6,6 +6,7 @@ use Rattle.contest_store_fixed_rows.specs.Spelling.{without_rows}
 use Rattle.contest_store_tables.specs.Connected.{IsBare, counts_of, shown_by}
 use Rattle.contest_store_sqlite.specs.Creation.{Created, KeepsLists, LeavesEither, StoodEqual, StoodOther}
 use Rattle.contest_store_sqlite.specs.Keeping.{kept_of}
+use Rattle.contest_store_sqlite.specs.Opening.{IsOfFirst}
 use Rattle.contest_store_sqlite.proofs.CreatedStores.{created, created_whole, either_desk, either_valid, keeps_lists, not_set_up, stood_equal, stood_other, told}
 use Rattle.contest_store_sqlite.proofs.store.Store.create.Goals as goal
 
@@ -64,6 +65,17 @@ returns-in-Err-make_or_read-clause-unchanged g c is =
     subst₂ (λ before after. KeepsLists (state g.S.Store before) (state g.S.Store after)) c.new-tables.ensures.connection (sym c.into_connection.ensures)
     (keeps_lists (shown_by g.S.Store c.new-tables.result) (shown_by g.S.Store c.make_or_read.new.tables) c.in-Err-make_or_read.refusal c.in-Err-make_or_read.ensures.kinds
     c.in-Err-make_or_read.ensures.reused is)
+
+pub returns-in-Err-make_or_read-clause-old : goal.returns-in-Err-make_or_read-clause-old
+returns-in-Err-make_or_read-clause-old g c is =
+    subst₂ (λ before after. KeepsLists (state g.S.Store before) (state g.S.Store after)) c.new-tables.ensures.connection (sym c.into_connection.ensures) (c.in-Err-make_or_read.ensures.old is)
+
+pub returns-in-Err-make_or_read-clause-first : goal.returns-in-Err-make_or_read-clause-first
+returns-in-Err-make_or_read-clause-first g c clean is up =
+    let same = c.new-tables.ensures.connection in
+    subst (λ conn. IsOfFirst (state g.S.Store conn)) same
+    (c.in-Err-make_or_read.ensures.first (subst (λ conn. HasCleanDisk (state g.S.Store conn)) c.into_connection.ensures clean) is
+    (subst (λ conn. IsTrue (state g.S.Store conn).is_open) (sym same) up))
 
 pub returns-in-Ok-make_or_read-clause-desk : goal.returns-in-Ok-make_or_read-clause-desk
 returns-in-Ok-make_or_read-clause-desk g c clean =
