@@ -4,9 +4,9 @@
     desk_boards.py [--program PATH] [--made N] [--seed N]
 
 The worked boards of tests/replay are asked of a file with the same contest, and then N made contests (300), for anyone, for
-the jury and for a team, as text and as CSV; these are lib/replay_opinion.py's. A contest is set up by `desk init` and `desk
+the jury and for a team, of all teams and of groups, as text and as CSV; these are lib/replay_opinion.py's. A contest is set up by `desk init` and `desk
 import`, and its submissions, with their verdicts released, are written by sqlite3: those up to the moment that is asked for,
-since a board counts all that stand. Then the first example's CSV, and what is refused.
+since a board counts all that stand. Then the first example's CSV, a worked board of a group, and what is refused.
 
 Takes faketime. Ends with the line `N passed, M failed`; the exit status is 0 if M is 0.
 """
@@ -27,6 +27,14 @@ LANGUAGES = '[{"id":"cpp","name":"C++","entry_point_required":false}]'
 FIRST_CSV = "rank,team_id,team,solved,time,last,A\n1,t1,Alpha,1,30,10,+3/10\n2,t2,Beta,1,30,30,+1/30\n"
 
 
+def groups_of(contest):
+    """The groups that a contest is given, by their ids: the name and the teams of each. One has each second team, one the hidden
+    ones, one all, and one none."""
+    teams = list(contest.teams)
+    hidden = [key for key in teams if contest.teams[key][1]]
+    return {"second": ("Zoë, 東京", teams[1::2]), "hidden": ("Hidden", hidden), "all": ("All \"of\" them", teams), "none": ("No team", [])}
+
+
 def files_of(contest):
     """The contest's files for `desk init` and `desk import`, by their names."""
     head = {"id": "c", "name": contest.name, "duration": reltime_text(contest.duration), "start_time": moment(START)}
@@ -34,9 +42,12 @@ def files_of(contest):
         head["scoreboard_freeze_duration"] = reltime_text(contest.duration - contest.freeze)
     types = [{"id": key, "name": row[0], "solved": row[1], "penalty": row[2]} for key, row in contest.types.items()]
     problems = [{"id": key, "label": row[0], "name": row[1], "ordinal": row[2]} for key, row in contest.problems.items()]
-    teams = [{"id": key, "name": row[0], "hidden": row[1], "group_ids": []} for key, row in contest.teams.items()]
-    files = {"judgement-types": compact(types), "languages": LANGUAGES, "problems": compact(problems), "teams": compact(teams)}
-    return {"init": compact(head), **files}
+    groups = groups_of(contest)
+    in_groups = {key: [group for group, (_, members) in groups.items() if key in members] for key in contest.teams}
+    teams = [{"id": key, "name": row[0], "hidden": row[1], "group_ids": in_groups[key]} for key, row in contest.teams.items()]
+    files = {"judgement-types": compact(types), "languages": LANGUAGES, "problems": compact(problems)}
+    named = [{"id": group, "name": name} for group, (name, _) in groups.items()]
+    return {"init": compact(head), **files, "groups": compact(named), "teams": compact(teams)}
 
 
 def submissions_of(contest, until):
@@ -68,7 +79,8 @@ def kept(desk, contest, shown, thawed):
 def same(desk, what, folder, contest, shown, wanted=None):
     """Both forms of the board, as somebody sees it at a moment."""
     who = "jury" if shown.jury else "public" if shown.team is None else shown.team
-    words = ("board", "cup.db", "--audience", who, "--at", moment(START + shown.now))
+    group = [key for key, (name, _) in groups_of(contest).items() if name == shown.group]
+    words = ("board", "cup.db", "--audience", who, "--at", moment(START + shown.now), *(("--group", *group) if group else ()))
     text = board_text(contest, shown) if wanted is None else wanted
     for form, right in (("text", text), ("csv", board_csv(contest, shown))):
         desk.answers(f"{what}, {' '.join(words)}", (0, right, ""), folder, *words, "--format", form)
@@ -105,6 +117,8 @@ def try_made(desk):
         own = teams[index % len(teams) :][:1] if teams else []
         for jury, team in [(False, None), (True, None), *((False, team) for team in own)]:
             same(desk, f"contest {index}", folder, contest, Shown(contest, jury, thawed, at, team))
+        for jury, group in [(index % 2 == 1, group) for group in groups_of(contest).values()]:
+            same(desk, f"contest {index}", folder, contest, Shown(contest, jury, thawed, at, None, group))
 
     with concurrent.futures.ThreadPoolExecutor(os.cpu_count() or 1) as pool:
         list(pool.map(one, range(desk.options.made)))
@@ -121,6 +135,8 @@ def try_first(desk):
     no_moment = "error: '9:30' of '--at' is no moment, as 2024-03-02T10:30:00Z\n"
     calls = [((), then, (0, board, "")), (("--at", end), (), (0, board, "")), (("--at", end, *csv), (), (0, FIRST_CSV, "")),
              (csv, then, (0, FIRST_CSV, "")), (("--audience", "public-"), then, (2, "", nobody)),
+             (("--group", "north"), then, (2, "", "error: 'north' of '--group' is no group's id\n")),
+             (("--audience", "public-", "--group", "north"), then, (2, "", nobody)),
              (("--at", "9:30"), (), (2, "", no_moment)),
              (("--format", "json"), (), (2, "", "error: '--format <FORMAT>' is text or csv\n"))]  # fmt: skip
     for words, before, wanted in calls:
@@ -131,5 +147,26 @@ def try_first(desk):
         desk.answers("an output that is full", FILE, folder, "board", "cup.db", "--at", end, stdout=full)
 
 
+def try_group(desk):
+    """A worked board of a group: on the whole board its last team has the third rank."""
+    teams = "id,name,group_ids,hidden\nt1,Alpha,,\nt2,Beta,north,\nt3,Gamma,north,\nt9,Staff,north,true\n"
+    problems = '[{"id":"a","label":"A","name":"Apples","ordinal":0}]'
+    folder = demo.made(desk, {**demo.FILES, "problems": problems, "groups": '[{"id":"north","name":"North"}]', "teams-csv": teams})
+    with opened(folder / "cup.db") as database:
+        for team, minute in enumerate((30, 30, 31, 1), 1):
+            time = START + 60_000 * minute
+            insert(database, "submissions", (team, team, 1, time, "a", "cpp", None, b"x", None))
+            insert(database, "proposals", (team, team, 1, "AC", "import", time))
+            insert(database, "releases", (team, team, 1, 1, "AC", time))
+    words = ("board", "cup.db", "--at", "2024-03-02T09:40:00.000+00:00")
+    title, heading = "Demo Cup\nPublic board{}, contest time 0:40:00.000, running\n", "Rank  Team   Solved    Time          A\n"
+    rows = ["   1  Beta        1      30      +1/30\n", "   {}  Gamma       1      31      +1/31\n"]
+    whole = title.format("") + heading + "   1  Alpha       1      30      +1/30\n" + rows[0] + rows[1].format(3)
+    group = title.format(" of North") + heading + rows[0] + rows[1].format(2)
+    csv = "rank,team_id,team,solved,time,last,A\n1,t2,Beta,1,30,30,+1/30\n2,t3,Gamma,1,31,31,+1/31\n"
+    for more, wanted in (((), whole), (("--group", "north"), group), (("--group", "north", "--format", "csv"), csv)):
+        desk.answers(f"board cup.db {more}", (0, wanted, ""), folder, *words, *more)
+
+
 if __name__ == "__main__":
-    sys.exit(program.main(__doc__, Program, (try_worked, try_made, try_first), program="desk", made=300, seed=20))
+    sys.exit(program.main(__doc__, Program, (try_worked, try_made, try_first, try_group), program="desk", made=300, seed=20))

@@ -6,8 +6,8 @@
 The cells are counted anew by lib/cells_opinion.py, under either mask, from what sqlite3 reads while the desk is stopped. First
 come two worked contests: attempts in the freeze, and a rejudging that takes a solved problem back. Then N days (4) of N stops
 each (60), made from a seed: between two stops some requests of every role are served, or verdicts are imported. Then cells that
-somebody changed: a wrong row, one too many, also of zeros, one missing among others are all refused, and leave the file's bytes
-as they were; a file without rows of cells, or made before there was such a table, is filled when it is opened. At last servers
+somebody changed: a wrong row, one too many, also of zeros, one missing among others and a missing table are all refused, and
+leave the file's bytes as they were; a file without rows of cells is filled when it is opened. At last servers
 that are killed while a team posts N times (40): what is left has right cells.
 
 Takes faketime. Ends with the line `N passed, M failed`; the exit status is 0 if M is 0.
@@ -24,7 +24,7 @@ from lib.clock import text_of
 from lib.demo import AT_REHEARSAL, START
 from lib.import_opinion import compact
 from lib.program import FAULT, Program
-from lib.rehearsal import contest_of, files_of, sent
+from lib.rehearsal import contest_of, files_of, judged, posted, sent
 from lib.requester import Requester
 from lib.server import Server
 from lib.sqlite import opened
@@ -54,14 +54,6 @@ def asked(server, at, who, path, body):
     """What is answered at minutes after nine."""
     server.at(text_of(START + at * 60_000))
     return server.ask(sent(who, None, "POST", path, body)).split(b" ", 2)[1].decode()
-
-
-def posted(problem="a"):
-    return compact({"problem_id": problem, "language_id": "cpp", "files": [{"data": "YWJj"}]})
-
-
-def judged(which, verdict):
-    return compact({"submission_id": which, "judgement_type_id": verdict})
 
 
 def after(desk, folder, what, calls):
@@ -161,8 +153,7 @@ def try_spoiled(desk):
     for what, sql in changes:
         spoiled(desk, base, what, sql, True)
     spoiled(desk, base, "no row", "DELETE FROM cells", False)
-    spoiled(desk, base, "no table", "DROP TABLE cells", False)
-    spoiled(desk, made(desk, False), "no table and no submission", "DROP TABLE cells", False)
+    spoiled(desk, base, "no table", "DROP TABLE cells", True)
     spoiled(desk, base, "no table, and another's", "DROP TABLE cells; CREATE TABLE other (n INTEGER) STRICT", True)
 
 

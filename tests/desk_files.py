@@ -3,15 +3,15 @@
 
     desk_files.py [--program PATH] [--probe PATH] [--kills N]
 
-tables/desk_commands.txt has calls with their files and answers. Then come files that are too large, another's, no files or
-on a full disk, a clock that is set back or shows no moment, the demo contest, whose rows are held beside those of
-tables/store_demo.sql, the calls of README.md, and N imports of 500 teams (200) that are killed at a random moment: whoever
-opens the file next finds all of them or none. What is in a file afterwards is asked of sqlite3, and of probe, which opens a
-file as the desk does. A call that is refused leaves what the file shows as it was, and one that is done leaves all of it in
-the file alone, without its log.
+tables/desk_commands.txt has calls with their files and answers. Then come files that are too large, another's, no
+files or not there, a clock that is set back or shows no moment, the demo contest, whose rows are held beside those of
+tables/store_demo.sql, the calls of README.md, and N imports of 500 teams (200) that are killed at a random moment:
+whoever opens the file next finds all of them or none. What is in a file afterwards is asked of sqlite3, and of probe,
+which opens a file as the desk does. A call that is refused leaves what the file shows as it was, and one that is done
+leaves all of it in the file alone, without its log.
 
-Takes sqlite3, faketime and setpriv, and runs as root, which may mount a disk of 1 MB and be another user. Ends with the line
-`N passed, M failed`; the exit status is 0 if M is 0.
+Takes sqlite3, faketime and setpriv, and runs as root, which may be another user. Ends with the line `N passed, M
+failed`; the exit status is 0 if M is 0.
 """
 
 import concurrent.futures
@@ -171,6 +171,28 @@ def try_paths(desk):
     desk.opens("after all of these", folder, "0 0 0 0 0 0 0 0 0 0 0")
 
 
+def try_absent(desk):
+    """A FILE that isn't there is made by `init` alone, once it has read CONTEST. All else leaves none, nor anything beside it."""
+    folder = desk.new_folder()
+    (folder / "own.json").write_text(CONTEST, encoding="utf-8")
+    (folder / "own.json").chmod(0o600)
+    (folder / "large.json").write_text(CONTEST.ljust(LIMIT + 1), encoding="utf-8")
+    (folder / "link.db").symlink_to("none.db")
+    folder.chmod(0o777)
+    stand = sorted(folder.iterdir())
+    calls = [("board",), ("awards", "--jury"), ("export",), ("upgrade",), ("serve", "--requests", "1"), ("serve", "--requests", "0"),
+             ("import", "teams-csv", "teams.csv"), ("import", "teams-csv", "none.csv"), ("import", "verdicts-csv", "teams.csv")]  # fmt: skip
+    tried = [((command, file, *words), FAULT, ()) for command, *words in calls for file in ("none.db", "link.db", "none/cup.db", "")]
+    tried += [(("init", "none.db", path), FILE, ()) for path in ("none.json", ".", "teams.csv/x", "")]
+    tried += [(("init", "none.db", "own.json"), FILE, NOBODY), (("init", "none.db", "large.json"), refused("E6 BodyTooLarge"), ())]
+    tried += [(("init", "link.db", "contest.json"), FAULT, ()), (("init", "none/cup.db", "contest.json"), FAULT, ())]
+    for words, wanted, before in tried:
+        desk.same(f"{words} of no file", desk.run(folder, *words, before=before), wanted)
+        desk.same(f"what {words} leaves", sorted(folder.iterdir()), stand)
+    desk.same("a contest that is read", desk.run(folder, "init", "none.db", "contest.json"), DONE)
+    desk.same("what stands then", sorted(folder.iterdir()), sorted([*stand, folder / "none.db", folder / "none.db-wal"]))
+
+
 def try_alone(desk):
     """A file that is copied alone is the contest."""
     folder, other = desk.new_folder(), desk.new_folder()
@@ -189,26 +211,6 @@ def try_streams(desk):
         given = desk.run(folder, "import", "cup.db", "teams-csv", "teams.csv", stdout=full)
     desk.note(given == FILE, f"a full standard output: {given}")
     desk.opens("a full standard output", folder, "0 0 0 0 500 0 0 0 0 0 0")
-
-
-def try_full_disk(desk):
-    """On a disk that is full nothing is made, and a contest stays as it was."""
-    disk = desk.new_folder() / "disk"
-    disk.mkdir()
-    folder = disk.parent
-    subprocess.run(["mount", "-t", "tmpfs", "-o", "size=1m", "none", disk], check=True)
-    try:
-        (disk / "filler").write_bytes(bytes(1020 * 1024))
-        desk.answers("no room for a contest", FAULT, folder, "init", "disk/cup.db", "contest.json")
-        (disk / "filler").unlink()
-        desk.answers("room for a contest", DONE, folder, "init", "disk/cup.db", "contest.json")
-        room = os.statvfs(disk).f_bavail * os.statvfs(disk).f_frsize
-        (disk / "filler").write_bytes(bytes(max(0, room - 8192)))
-        desk.answers("no room for teams", FAULT, folder, "import", "disk/cup.db", "teams-csv", "teams.csv")
-        (disk / "filler").unlink()
-        desk.answers("room again", (0, "added 500\n", ""), folder, "import", "disk/cup.db", "teams-csv", "teams.csv")
-    finally:
-        subprocess.run(["umount", disk], check=True)
 
 
 def try_clock(desk):
@@ -319,6 +321,5 @@ def try_kills(desk):
 
 
 if __name__ == "__main__":
-    PARTS = (try_commands, try_limits, try_bytes, try_paths, try_alone, try_streams, try_full_disk, try_clock, try_rows, try_readme,
-             try_kills)  # fmt: skip
+    PARTS = try_commands, try_limits, try_bytes, try_paths, try_absent, try_alone, try_streams, try_clock, try_rows, try_readme, try_kills
     sys.exit(program.main(__doc__, Desk, PARTS, program="desk", probe="probe", kills=200))

@@ -15,6 +15,7 @@ Takes curl and faketime. Ends with the line `N passed, M failed`; the exit statu
 import base64
 import http.client
 import json
+import pathlib
 import re
 import signal
 import sys
@@ -30,6 +31,7 @@ STATE = (
     b'{"end_of_updates":null,"ended":null,"finalized":null,"frozen":null,'
     b'"started":"2024-03-02T09:00:00.000+00:00","thawed":null}'
 )
+LARGEST_BODY = 2_097_152
 POSTED = b'{"problem_id":"a","language_id":"cpp","files":[{"data":"YWJj"}]}'
 FIRST = (
     b'{"contest_time":"0:05:00.000","files":[{"href":"contests/demo/submissions/s1-1/files","mime":"application/zip"}],'
@@ -79,13 +81,13 @@ REPLIES = [
      refusal(405, b"Method", b"Method Not Allowed", extra=b"Allow: GET, HEAD\r\n")),
     ("a query", get(b"/contests/demo/state?x=/y"), reply(b"200 OK", STATE)),
     ("an absolute target", get(b"http://x/contests/demo/state"), reply(b"200 OK", STATE)),
-    ("an encoding", get(b"/contests/demo/state", b"Transfer-Encoding: chunked\r\nContent-Length: 999999\r\n"),
+    ("an encoding", get(b"/contests/demo/state", b"Transfer-Encoding: chunked\r\nContent-Length: 9999999\r\n"),
      refusal(501, b"Encoding", b"Not Implemented")),
     ("no host", b"GET /contests/demo/state HTTP/1.1\r\n\r\n", refusal(400, b"Malformed", b"Bad Request")),
     ("two hosts", get(b"/contests/demo/state", b"Host: y\r\n"), refusal(400, b"Malformed", b"Bad Request")),
     ("HTTP/1.0", b"GET /contests/demo/state HTTP/1.0\n\n", reply(b"200 OK", STATE)),
     ("two lengths", get(b"/contests/demo/state", b"Content-Length: 0\r\nContent-Length: 0\r\n"), refusal(400, b"Malformed", b"Bad Request")),
-    ("a body that is too long", get(b"/contests/demo/state", b"Content-Length: 524289\r\n"), refusal(413, b"BodyTooLarge", b"Payload Too Large")),
+    ("a body that is too long", get(b"/contests/demo/state", b"Content-Length: 2097153\r\n"), refusal(413, b"BodyTooLarge", b"Payload Too Large")),
     ("no target", get(b"*", method=b"OPTIONS"), refusal(400, b"Malformed", b"Bad Request")),
     ("bytes that are no head", b"\x00\xff\r\n\r\n", refusal(400, b"Malformed", b"Bad Request")),
     ("a head without an end", b"G" * 16_384, refusal(431, b"HeadTooLarge", b"Request Header Fields Too Large")),
@@ -118,7 +120,7 @@ def try_replies(desk):
     for what, data, wanted in REPLIES:
         desk.same(what, server.ask(data), wanted)
     desk.same("one that waits for its reply", server.ask(get(b"/contests/demo/state"), ends=False), reply(b"200 OK", STATE))
-    desk.same("a long body that nobody reads", server.ask(post(body=b"x" * 524_289)), refusal(413, b"BodyTooLarge", b"Payload Too Large"))
+    desk.same("a long body that nobody reads", server.ask(post(body=b"x" * 2_097_153)), refusal(413, b"BodyTooLarge", b"Payload Too Large"))
     server.at("2024-03-02 14:00:00")
     desk.same("after the end", server.ask(post(b"Idempotency-Key: k2\r\n")), refusal(409, b"NotOpen", b"Conflict", date="Sat, 02 Mar 2024 14:00:00 GMT"))
     desk.same("a repeat after the end", server.ask(post(b"Idempotency-Key: k1\r\n")), reply(b"200 OK", FIRST, date="Sat, 02 Mar 2024 14:00:00 GMT"))
@@ -128,9 +130,37 @@ def try_replies(desk):
 def try_sizes(desk):
     """The largest file, and one that has a byte more."""
     _, server = served(desk)
-    for size, wanted in ((262_144, b"HTTP/1.1 200 OK"), (262_145, b"HTTP/1.1 413 Payload Too Large")):
+    for size, wanted in ((1_048_576, b"HTTP/1.1 200 OK"), (1_048_577, b"HTTP/1.1 413 Payload Too Large")):
         body = POSTED.replace(b"YWJj", base64.b64encode(b"x" * size))
         desk.same(f"a file of {size} bytes", server.ask(post(body=body)).split(b"\r\n")[0], wanted)
+    server.stop()
+
+
+def memory_of(process):
+    """The bytes of memory that a process holds."""
+    found = re.search(r"VmRSS:\s+(\d+) kB", pathlib.Path(f"/proc/{process.pid}/status").read_text(encoding="utf-8"))
+    return int(found[1]) * 1024
+
+
+def try_slow_body(desk):
+    """A body of the largest size that comes slowly takes memory as it comes, and none for what is only announced."""
+    _, server = served(desk)
+    server.ask(get(b"/contests/demo/state"))
+    body = POSTED.replace(b"YWJj", base64.b64encode(b"x" * 1_048_576))
+    body += b" " * (LARGEST_BODY - len(body))
+    data = post(body=body)
+    before, held = memory_of(server.process), []
+    with server.connected() as client:
+        at = 0
+        for end in (len(data) - len(body) + 1_000, len(data) // 2, len(data) - 1):
+            client.sendall(data[at:end])
+            time.sleep(0.3)
+            held.append(memory_of(server.process) - before)
+            at = end
+        client.sendall(data[at:])
+        desk.same("the reply", read_all(client).split(b"\r\n")[0], b"HTTP/1.1 200 OK")
+    desk.note(held[0] < LARGEST_BODY // 4, f"a thousand bytes of a body took {held[0]:,} bytes")
+    desk.note(held[0] < held[1] < held[2], f"memory as it comes: {held}")
     server.stop()
 
 
@@ -293,5 +323,5 @@ def try_curl(desk):
 
 
 if __name__ == "__main__":
-    PARTS = try_replies, try_sizes, try_clarifications, try_texts, try_cuts, try_many, try_clients, try_ends, try_words, try_curl
+    PARTS = try_replies, try_sizes, try_slow_body, try_clarifications, try_texts, try_cuts, try_many, try_clients, try_ends, try_words, try_curl
     sys.exit(program.main(__doc__, Program, PARTS, program="desk", requests=1000))

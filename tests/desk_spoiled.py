@@ -1,11 +1,12 @@
 #!/usr/bin/env -S python3 -B
 """Changes bytes of a contest's file, and holds what the desk then shows beside what sqlite3 reads from the same bytes.
 
-    desk_spoiled.py [--program PATH] [--every N] [--random N] [--seed N]
+    desk_spoiled.py [--program PATH] [--every N] [--random N] [--submissions N] [--seed N]
 
 First each Nth byte (each) of a small file is changed, by another bit each time. Then N times (2,000), by the seed, one to
-three bytes of a larger file. `desk export` and `desk board --audience jury` refuse the file with E24, and its bytes stay as they were; or
-they answer as over a new file of the rows that sqlite3 reads. Nothing else comes, in two minutes.
+three bytes of a larger file, with N submissions more (400). `desk export` and `desk board --audience jury` refuse the file with
+E24, and its bytes stay as they were; or they answer as over a new file of the rows that sqlite3 reads. Nothing else comes, in
+two minutes.
 
 Takes sqlite3. Ends with the line `N passed, M failed`; the exit status is 0 if M is 0.
 """
@@ -87,10 +88,10 @@ def try_bytes(desk):
 
 
 def try_random(desk):
-    chance, whole = random.Random(desk.options.seed), kept(desk, 4096, 400)
+    chance, whole = random.Random(desk.options.seed), kept(desk, 4096, desk.options.submissions)
     some = [[(chance.randrange(len(whole)), chance.randint(1, 255)) for _ in range(chance.randint(1, 3))] for _ in range(desk.options.random)]
     desk.spoil_all(whole, some)
 
 
 if __name__ == "__main__":
-    sys.exit(program.main(__doc__, Spoiler, (try_bytes, try_random), program="desk", every=1, random=2000, seed=1))
+    sys.exit(program.main(__doc__, Spoiler, (try_bytes, try_random), program="desk", every=1, random=2000, submissions=400, seed=1))

@@ -24,20 +24,22 @@ import re
 import shutil
 import sys
 
-from lib import demo, desk_opinion, program
+from lib import clarification_opinion, demo, desk_opinion, program
 from lib.clarifier import AT_ALL, TEXTS
 from lib.clock import text_of
 from lib.demo import AT_REHEARSAL, START
 from lib.desk_opinion import moment
 from lib.import_opinion import compact
 from lib.program import ROOT, Program
-from lib.rehearsal import ACCOUNTS, END, FREEZE, PROBLEMS, TEAMS, TYPES, contest_of, files_of, sent
+from lib.rehearsal import ACCOUNTS, END, FREEZE, GROUPS, PROBLEMS, TEAMS, TYPES, contest_of, files_of, sent
 from lib.requester import Requester
 from lib.rejudger import AT_REJUDGINGS, JURY, NUMBERS, REASONS
 from lib.server import Server
 from lib.sqlite import insert, opened
 
 OPEN, APPLIED, CANCELLED = 0, 1, 2
+# To whom a clarification goes: all, the one group, or the team at a place.
+ALL, NORTH = None, "north"
 WALKS = ["Judgements, where nobody verifies", "Verdicts are verified", "The scoreboard in the freeze", "Ranks",
          "A team asks, and the jury answers", "When clarifications are taken", "No clarifications beside final results",
          "What a clarification says", "What refuses a clarification first", "Keys of clarifications", "How many requests a team makes",
@@ -117,10 +119,10 @@ def milliseconds_of(text):
 
 def try_limits(desk):
     """The last clarification that the jury may write to one team, and one more."""
-    folder, room = made(desk, False), desk_opinion.JURY_LIMIT - 1
+    folder, room = made(desk, False), clarification_opinion.JURY_LIMIT - 1
     with opened(folder / "cup.db") as database:
-        rows = ((number, 1, number, 1, "j1", None, None, "So.", START, None) for number in range(1, room + 1))
-        database.executemany(f"INSERT INTO clarifications VALUES ({', '.join('?' * 10)})", rows)
+        rows = ((number, 1, 1, number, 1, "j1", None, None, "So.", START, None) for number in range(1, room + 1))
+        database.executemany(f"INSERT INTO notices VALUES ({', '.join('?' * 11)})", rows)
     server = Server(desk, folder)
     for who, team, wanted in (("adm", "t1", f'"id":"c1-{room + 1}"'), ("j1", "t1", '"message":"TeamLimit"'), ("j1", "t2", '"id":"c2-1"'),
                               ("j1", None, '"id":"g-1"'), ("a1", None, f'"id":"c1-{room + 2}"')):  # fmt: skip
@@ -191,31 +193,33 @@ def partner(chance, rows, own):
     return mixed(chance, others)
 
 
-def mixed(chance, rows):
+def mixed(chance, rows, whose="team"):
     """The rows in another order of acceptance, which keeps that of each team's own."""
-    order = [row["team"] for row in rows]
+    order = [row[whose] for row in rows]
     chance.random.shuffle(order)
-    own = {team: iter(sorted((row for row in rows if row["team"] == team), key=lambda row: row["number"])) for team in order}
-    return [next(own[team]) for team in order]
+    own = {one: iter(sorted((row for row in rows if row[whose] == one), key=lambda row: row["number"])) for one in order}
+    return [next(own[one]) for one in order]
 
 
 def id_of(row):
     """A clarification's id."""
-    return f"g-{row['number']}" if row["team"] is None else f"c{row['team'] + 1}-{row['number']}"
+    front = {ALL: "g", NORTH: "g1"}.get(row["to"]) or f"c{row['to'] + 1}"
+    return f"{front}-{row['number']}"
 
 
 def hears(team, row):
-    """Whether the team at a place hears a clarification; the public is at none."""
-    return row["team"] in (None, team)
+    """Whether the team at a place hears a clarification; the public is behind the last."""
+    is_of_north = team < len(TEAMS) and NORTH in TEAMS[team][3]
+    return row["to"] in (ALL, team) or (row["to"] == NORTH and is_of_north)
 
 
-def words(chance, teams):
-    """Clarifications of the teams at these places, and of all (None): number, who wrote it, time, problem, text and, of a team's
+def words(chance, receivers):
+    """Clarifications to all, to the group and of the teams at places: number, who wrote it, time, problem, text and, of a team's
     own, the key."""
     rows = []
-    for team in teams:
+    for to in receivers:
         for number in range(1, chance.random.randint(0, 4) + 1):
-            row = {"team": team, "number": number, "is_by_jury": team is None or chance.one([True, False])}
+            row = {"to": to, "number": number, "is_by_jury": to in (ALL, NORTH) or chance.one([True, False])}
             row["time"] = START + 60_000 * chance.random.randint(0, 20)
             row |= {"problem": chance.one([None, None, "a", "b"]), "text": chance.one(TEXTS), "reply": None}
             rows.append({**row, "key": None if row["is_by_jury"] else chance.often(f"k{number}", [None], 0.7)})
@@ -224,7 +228,7 @@ def words(chance, teams):
 
 def answering(chance, row, rows):
     """A clarification that answers one of these which its writer hears, or none."""
-    ids = [id_of(one) for one in rows if row["is_by_jury"] or hears(row["team"], one)]
+    ids = [id_of(one) for one in rows if row["is_by_jury"] or hears(row["to"], one)]
     return {**row, "reply": chance.often(None, ids or [None], 0.4)}
 
 
@@ -232,7 +236,7 @@ def signed(chance, rows):
     """Clarifications with an account that wrote each, and with keys of the jury's accounts."""
     used, made = set(), []
     for row in rows:
-        team = "" if row["is_by_jury"] else TEAMS[row["team"]][0]
+        team = "" if row["is_by_jury"] else TEAMS[row["to"]][0]
         account, key = chance.one([one for one, _, of in ACCOUNTS if of == team]), row["key"]
         if row["is_by_jury"]:
             wanted = account, chance.one(["k1", "k2", "k3", "k4"])
@@ -244,19 +248,20 @@ def signed(chance, rows):
 
 def told_words(chance):
     """Clarifications of one world."""
-    rows = words(chance, [None, *range(len(TEAMS))])
+    rows = words(chance, [ALL, NORTH, *range(len(TEAMS))])
     return signed(chance, [answering(chance, row, rows) for row in rows])
 
 
 def partner_words(chance, rows, own):
     """Those of another world, of which the team at a place hears the same: what it doesn't hear is another, and so are who wrote
     for the jury, under which key, and which of the unheard ones that answers."""
-    heard, others = [row for row in rows if hears(own, row)], words(chance, [team for team in range(len(TEAMS)) if team != own])
+    unheard = [to for to in (NORTH, *range(len(TEAMS))) if not hears(own, {"to": to})]
+    heard, others = [row for row in rows if hears(own, row)], words(chance, unheard)
     ids = [id_of(row) for row in heard]
     free = [row for row in heard if row["is_by_jury"] and row["reply"] not in ids]
     made = [row for row in heard if row not in free] + [answering(chance, row, others) for row in free]
     made += [answering(chance, row, heard + others) for row in others]
-    return mixed(chance, signed(chance, made))
+    return mixed(chance, signed(chance, made), "to")
 
 
 def is_held_back(own, row):
@@ -292,7 +297,7 @@ def judged_again(chance, rows, own):
 def write(database, rows, told, again):
     """Puts the rows of a world, its clarifications and its rejudgings into the tables in place of those that stand. The program
     fills the cells."""
-    for table in ("submissions", "proposals", "releases", "clarifications", "rejudgings", "members", "cells"):
+    for table in ("submissions", "proposals", "releases", "notices", "rejudgings", "members", "cells"):
         database.execute(f"DELETE FROM {table}")
     for seq, row in enumerate(rows, 1):
         file = bytes(row["number"] % 5)
@@ -306,9 +311,9 @@ def write(database, rows, told, again):
             insert(database, "proposals", (*which, verdict, "import" if n == 1 else "j1", END))
             insert(database, "releases", (*which, n, verdict, row["time"]))
     for seq, row in enumerate(told, 1):
-        whose = 0 if row["team"] is None else row["team"] + 1
+        whose = {ALL: (0, 0), NORTH: (2, 1)}.get(row["to"]) or (1, row["to"] + 1)
         parts = ("account", "problem", "reply", "text", "time", "key")
-        insert(database, "clarifications", (seq, whose, row["number"], int(row["is_by_jury"]), *(row[part] for part in parts)))
+        insert(database, "notices", (seq, *whose, row["number"], int(row["is_by_jury"]), *(row[part] for part in parts)))
     for number, rejudging in enumerate(again, 1):
         insert(database, "rejudgings", (number, rejudging["reason"], rejudging["state"]))
         for place, one in enumerate(rejudging["members"], 1):
@@ -318,7 +323,7 @@ def write(database, rows, told, again):
 def questions(rows, told, own, chance):
     """What the team asks in both worlds: a key, a method, a path and a body each. It posts between what it reads."""
     ids = [f"s{row['team'] + 1}-{row['number']}" for row in rows] or ["s1-1"]
-    paths = ["scoreboard", "judgements", "submissions", f"judgements/{chance.one(ids)}.1", f"submissions/{chance.one(ids)}/files"]
+    paths = ["scoreboard", *(f"groups/{group['id']}/scoreboard" for group in GROUPS), "judgements", "submissions", f"judgements/{chance.one(ids)}.1", f"submissions/{chance.one(ids)}/files"]
     paths += ["clarifications", *(f"clarifications/{chance.one(told)}" for _ in range(3))]
     paths += ["awards", f"awards/{chance.one(['winner', 'gold-medal', 'first-to-solve-a'])}", "state"]
     paths += [f"judgements/{chance.one(ids)}.{chance.one('23')}"]
@@ -339,7 +344,7 @@ def questions(rows, told, own, chance):
 def repeats(told, own):
     """The posts of what the team at a place asked under keys, once more."""
     names = {"text": "text", "problem_id": "problem", "reply_to_id": "reply"}
-    asked = [row for row in told if row["team"] == own and not row["is_by_jury"] and row["key"]]
+    asked = [row for row in told if row["to"] == own and not row["is_by_jury"] and row["key"]]
     return [(row["key"], AT_ALL, compact({name: row[part] for name, part in names.items()})) for row in asked]
 
 

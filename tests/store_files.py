@@ -7,8 +7,8 @@ The program is probe, which opens a file as the store does, sets the thaw or wal
 file afterwards is asked of sqlite3. tables/store_demo.sql is a contest. Each row of tables/store_rows.tsv changes it: most
 break one rule of what a contest is, and the others go up to a limit or look odd and are valid. tables/store_files.tsv has
 other databases: tables like those of a contest, but for a column, a key or a word, and a contest's tables made in other ways.
-Then come files that are no database, damaged ones, paths, links, and a file that sqlite3 is writing. What is refused is E24
-and keeps its bytes; a thaw changes one cell or nothing. The table of cells has no row at first: the first open fills it, with
+Then come files that are no database, damaged ones, paths, links, and a file that sqlite3 is writing. What is refused is E24,
+or E26 if the first schema stands in it, and keeps its bytes; a thaw changes one cell or nothing. The table of cells has no row at first: the first open fills it, with
 the cells that lib/cells_opinion.py counts.
 
 Then probe walks through loads, appends, commits and reads of a file while one of its calls on the files fails, each in turn,
@@ -32,12 +32,13 @@ import tempfile
 
 from lib import cells_opinion, demo, program, sqlite
 from lib.program import TESTS, Program, compiled, ran, ran_refused
-from lib.sqlite import TABLES, dump
+from lib.sqlite import FIRST_TABLES, TABLES, dump
 
 COUNTS = "3 2 3 2 4 7 5 4 4 3 4"
 OPEN = (0, f"open: {COUNTS}\n", "")
 DONE = (0, "done\n", "")
 FAULT = (1, "refused: E24 StoreFault\n", "")
+OLD = (1, "refused: E26 OldSchema\n", "")
 MEMORY = (1, "refused: E25 Memory\n", "")
 THAW = 1709388000000
 LAST_MOMENT = 253370764799999
@@ -85,7 +86,8 @@ def filled(sql):
             sys.exit(f"{named[1]!r} stands {TABLES.count(named[1])} times in the tables")
         return TABLES.replace(named[1], named[2])
 
-    return re.sub(r"\{TABLES(?:\|([^|}]*)\|([^|}]*))?\}", tables, sql).replace("{ROWS}", demo.ROWS)
+    now = re.sub(r"\{TABLES(?:\|([^|}]*)\|([^|}]*))?\}", tables, sql).replace("{ROWS}", demo.ROWS)
+    return now.replace("{FIRST}", FIRST_TABLES).replace("{FIRST ROWS}", demo.FIRST_ROWS)
 
 
 def thawed(text, moment):
@@ -104,7 +106,7 @@ def cells_in(shown):
 
 
 def answer_of(cell):
-    return FAULT if cell == "E24" else (0, f"open: {cell}\n", "")
+    return {"E24": FAULT, "E26": OLD}.get(cell, (0, f"open: {cell}\n", ""))
 
 
 class Probe(Program):
@@ -138,7 +140,7 @@ class Probe(Program):
         """An open gives this answer, and the file keeps its bytes and all that it shows, but for cells that are filled."""
         was, shown = path.read_bytes(), dump(path)
         given = self.run("open", path)
-        same = self.fills(path, shown) if wanted != FAULT else path.read_bytes() == was and dump(path) == shown
+        same = self.fills(path, shown) if wanted[0] == 0 else path.read_bytes() == was and dump(path) == shown
         self.note(given == wanted and same, f"{what}: {given}, wanted {wanted}, {'as before' if same else 'changed'}")
 
     def thaws(self, what, path, wanted):
@@ -178,8 +180,9 @@ def try_rows(probe):
     for cell, what, sql in rows("store_rows.tsv"):
         path = probe.copy()
         sqlite.asked(path, sql)
-        probe.holds(what, path, answer_of(cell))
-        probe.thaws(what, path, FAULT if cell == "E24" else DONE)
+        given = answer_of(cell)
+        probe.holds(what, path, given)
+        probe.thaws(what, path, DONE if given[0] == 0 else given)
         path.unlink()
 
 
@@ -187,8 +190,9 @@ def try_databases(probe):
     for cell, what, sql in rows("store_files.tsv"):
         path = probe.new_file()
         sqlite.asked(path, filled(sql))
-        probe.holds(what, path, answer_of(cell))
-        probe.thaws(what, path, FAULT if cell == "E24" else DONE)
+        given = answer_of(cell)
+        probe.holds(what, path, given)
+        probe.thaws(what, path, DONE if given[0] == 0 else given)
 
 
 def keeps(probe, what, path, data):
@@ -220,6 +224,7 @@ def try_no_databases(probe):
             path.write_bytes(data)
         probe.answers(what, FAULT, "open", path)
         probe.answers(f"thaw of {what}", FAULT, "thaw", path, THAW)
+        probe.note(data is not None or not path.exists(), f"{what} left one")
         left = sqlite.asked(path, "SELECT count(*) FROM sqlite_schema; PRAGMA integrity_check")
         probe.note(left == "0\nok\n", f"{what} left more than an empty database: {left}")
 

@@ -54,7 +54,7 @@ class Asker(Clarifier, Director, Rejudger, Timekeeper):
             path = self.often("/jury/proposals", ["/jury/verifications"], 0.6)
             return self.often("POST", ["GET", "HEAD", "PATCH"], 0.9), path, self.proposal(contest)
         if self.random.random() < 0.4:
-            path = self.often(f"{AT_REHEARSAL}/scoreboard", [f"{AT_REHEARSAL}/judgements", f"{AT_REHEARSAL}/awards"], 0.4)
+            path = self.often(f"{AT_REHEARSAL}/scoreboard", [f"{AT_REHEARSAL}/judgements", f"{AT_REHEARSAL}/awards", f"{AT_REHEARSAL}/groups/north/scoreboard"], 0.4)
             ids = [f"/s{team}-{number}.{n}" for team in (1, 2, 3) for number in (1, 2) for n in (1, 1, 2)]
             if path.endswith("awards"):
                 ids = ["/winner", "/gold-medal", "/first-to-solve-a", "/first-to-solve-b", "/group-winner-north", "/x"]

@@ -21,24 +21,20 @@ from lib.clarifier import AT_ALL
 from lib.demo import AT_REHEARSAL, START
 from lib.import_opinion import compact
 from lib.program import compiled, ran_refused
-from lib.rehearsal import END, contest_of, sent
+from lib.rehearsal import END, contest_of, judged, posted, sent
 from lib.rejudger import AT_REJUDGINGS
 from lib.requester import closing
 from lib.wire import MORNING, Wire
 
 NOW = START + 300_000
 SUBMISSIONS = f"{AT_REHEARSAL}/submissions"
-POST = compact({"problem_id": "a", "language_id": "cpp", "files": [{"data": "YWJj"}]})
+POST = posted()
 LARGE = compact({"problem_id": "a", "language_id": "cpp", "files": [{"data": "YWJj" * 60_000}]})
 JAVA = compact({"problem_id": "b", "language_id": "java", "entry_point": "Main", "files": [{"data": "YWJk"}]})
 QUESTION = compact({"text": "Is 0 allowed?", "problem_id": "a"})
 READS = [("token-j1", None, "GET", path, "") for path in (
     SUBMISSIONS, f"{AT_REHEARSAL}/judgements", AT_ALL, "/jury/proposals", AT_REJUDGINGS, f"{AT_REHEARSAL}/scoreboard", f"{AT_REHEARSAL}/teams",
     f"{AT_REHEARSAL}/languages", f"{AT_REHEARSAL}/problems", f"{AT_REHEARSAL}/groups", f"{AT_REHEARSAL}/judgement-types")]  # fmt: skip
-
-
-def judged(which, verdict):
-    return compact({"submission_id": which, "judgement_type_id": verdict})
 
 
 def by(who, path, body, key=None):

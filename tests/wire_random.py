@@ -70,7 +70,8 @@ class Asker(Requester, Spoiler, Director):
         return data
 
     def streams(self):
-        return Streams(piece=self.one(PIECES), interrupts=self.often(0, [1, 7, 1_000], 0.95))
+        interrupts, first, apart = self.often(0, [1, 7, 1_000], 0.95), self.one([0, 1, 60, 200]), self.one([0, 1, 2])
+        return Streams(self.one(PIECES), interrupts, first, apart)
 
 
 def at_the_end(contest, now):

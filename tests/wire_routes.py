@@ -41,7 +41,7 @@ OPENED = compact({"reason": "data", "submission_ids": ["s1-1"]})
 ROUTES = {
     **{f"{AT_REHEARSAL}/{name}": "" for name in COLLECTIONS}, **{f"{AT_REHEARSAL}/{name}/{one}": "" for name, one in COLLECTIONS.items()},
     SUBMISSIONS: POST, AT_ALL: QUESTION, f"{SUBMISSIONS}/s1-1/files": "", f"{AT_REHEARSAL}/scoreboard": "", f"{AT_REHEARSAL}/state": "",
-    "/contests": "", AT_REHEARSAL: compact({"scoreboard_thaw_time": moment(END)}), "/jury/proposals": JUDGED, "/jury/verifications": JUDGED,
+    f"{AT_REHEARSAL}/groups/north/scoreboard": "",     "/contests": "", AT_REHEARSAL: compact({"scoreboard_thaw_time": moment(END)}), "/jury/proposals": JUDGED, "/jury/verifications": JUDGED,
     AT_REJUDGINGS: OPENED, f"{AT_REJUDGINGS}/1": "", f"{AT_REJUDGINGS}/1/verdicts": JUDGED, f"{AT_REJUDGINGS}/1/apply": "",
     f"{AT_REJUDGINGS}/1/cancel": "", "/jury/finalize": "",
 }  # fmt: skip

@@ -8,14 +8,14 @@ The program is wire, which serves each connection over a contest in memory by it
 - A post in pieces of 1, 2, 3, 17 and 4,096 bytes, with a second request behind it: the same reply, and the second is never read. A
   reader that fills what it is asked for is asked at most h + 2 times for a head of h bytes and a body of 131,072 bytes, and once more
   for each 65,536 bytes more.
-- A post, sent at once or after the interim reply, cut after each byte. Reads that are interrupted 1,000 times, and once more. A reader
-  that fails at each byte, and a writer that fails or takes nothing at each byte: what went out is a front of the replies, and what was
-  asked for stands unless the interim reply broke off. The same of a rejudging that is applied and of a clarification.
+- A post, sent at once or after the interim reply, cut after each byte. Reads that are interrupted 1,000 times, and once more, at
+  many bytes, and spread over head and body. A reader that fails at each byte, and a writer that fails or takes nothing at each byte:
+  what went out is a front of the replies, and what was asked for stands unless the interim reply broke off. The same of a rejudging
+  that is applied and of a clarification.
 
 What stands is asked by a judge, of all lists, after each. Ends with the line `N passed, M failed`; the exit status is 0 if M is 0.
 """
 
-import base64
 import itertools
 import sys
 
@@ -23,7 +23,7 @@ from lib import program, wire, wire_opinion
 from lib.clarifier import AT_ALL
 from lib.demo import AT_REHEARSAL, START
 from lib.import_opinion import compact
-from lib.rehearsal import contest_of, sent
+from lib.rehearsal import contest_of, judged, posted, sent
 from lib.rejudger import AT_REJUDGINGS
 from lib.wire import Streams, Wire
 
@@ -35,22 +35,13 @@ LISTS += ["/jury/proposals", AT_REJUDGINGS]
 SECOND = sent("token-a2", None, "GET", "/contests", "")
 
 
-def post(size=3):
-    """A submission with a file of so many bytes."""
-    return compact({"problem_id": "a", "language_id": "cpp", "files": [{"data": base64.b64encode(b"abc".ljust(size, b"d")).decode()}]})
-
-
-def judged(which, verdict):
-    return compact({"submission_id": which, "judgement_type_id": verdict})
-
-
 # What is asked, and what was asked before it so that it is taken.
-SUBMISSION = ("token-a1", "k1", "POST", f"{AT_REHEARSAL}/submissions", post())
+SUBMISSION = ("token-a1", "k1", "POST", f"{AT_REHEARSAL}/submissions", posted())
 CLARIFICATION = ("token-a1", None, "POST", AT_ALL, compact({"text": "Is 0 allowed?", "problem_id": "a"}))
 APPLY = ("token-j1", None, "POST", f"{AT_REJUDGINGS}/1/apply", "{}")
 BEFORE_APPLY = [
-    ("token-a1", None, "POST", f"{AT_REHEARSAL}/submissions", post()),
-    ("token-a2", None, "POST", f"{AT_REHEARSAL}/submissions", post()),
+    ("token-a1", None, "POST", f"{AT_REHEARSAL}/submissions", posted()),
+    ("token-a2", None, "POST", f"{AT_REHEARSAL}/submissions", posted()),
     ("token-j1", None, "POST", "/jury/proposals", judged("s1-1", "WA")),
     ("token-j1", None, "POST", "/jury/proposals", judged("s2-1", "WA")),
     ("token-j1", None, "POST", AT_REJUDGINGS, compact({"reason": "data", "submission_ids": ["s1-1", "s2-1"]})),
@@ -112,7 +103,7 @@ def try_pieces(test):
     """In pieces, with a second request behind it."""
     case = Case([])
     for size in (3, 98_000):
-        data = waiting(sent("token-a1", "k1", "POST", f"{AT_REHEARSAL}/submissions", post(size)))
+        data = waiting(sent("token-a1", "k1", "POST", f"{AT_REHEARSAL}/submissions", posted(size=size)))
         count, status, written, contest = case.written(data)
         test.same(f"the bytes of a post of {size} bytes", (count, status), (len(data), 200))
         wanted = "answered", 200, len(SECOND), written
@@ -121,7 +112,7 @@ def try_pieces(test):
 
 def try_reads(test):
     """How often a reader is asked that fills what it is asked for: once for each byte of a head, and for each piece of a body."""
-    for size in (0, 1, PIECE, PIECE + 1, 2 * PIECE, 524_288):
+    for size in (0, 1, PIECE, PIECE + 1, 2 * PIECE, 2_097_152):
         data = sent("token-a1", None, "POST", AT_ALL, "x" * size)
         head = len(data) - size
         one = test.begins(test.answers_to([*wire.begun(), wire.served(NOW, data + SECOND, Streams(1_000_000))]))[0]
@@ -151,17 +142,41 @@ def try_cuts(test):
         case.try_all(test, cases)
 
 
+def interrupted(data, head, written, interim, streams):
+    """What must come of a post whose reads are interrupted: it is served if a thousand are at most."""
+    taken = streams.first + 1_000 * streams.apart
+    if streams.interrupts <= 1_000 or taken >= len(data):
+        return "answered", 200, 0, written
+    return "read", 0, len(data) - taken, interim if taken >= head else b""
+
+
 def try_interrupts(test):
-    """Reads that are interrupted a thousand times, and once more."""
-    for name, (before, request) in ASKED.items():
-        case = Case(before)
-        data = sent(*request)
-        _, _, written, contest = case.written(data)
+    """Reads that are interrupted a thousand times, and once more, at many bytes of head and body."""
+    for name, case, data, head, interim in each_way():
+        _, _, written, after = case.written(data)
         cases = []
-        for count in (1, 999, 1_000, 1_001, 5_000):
-            is_served = count <= 1_000
-            wanted = ("answered", 200, 0, written) if is_served else ("read", 0, len(data), b"")
-            cases.append((f"{name}, {count} times interrupted", data, Streams(interrupts=count), wanted, contest if is_served else case.contest))
+        places = sorted({*range(0, len(data), 5), head - 1, head, head + 1, len(data) - 1})
+        for count, first in itertools.product((1_000, 1_001), places):
+            streams = Streams(1, count, first)
+            wanted = interrupted(data, head, written, interim, streams)
+            what = f"{name}, {count} times interrupted after {first} bytes"
+            cases.append((what, data, streams, wanted, after if wanted[0] == "answered" else case.contest))
+        case.try_all(test, cases)
+
+
+def try_spread_interrupts(test):
+    """The same, spread over the head and a body of some thousand bytes."""
+    case, request = Case([]), (*SUBMISSION[:4], posted(size=3_000))
+    for way, data, interim in ways(request):
+        _, _, written, after = case.written(data)
+        head, cases = data.index(b"\r\n\r\n") + 4, []
+        for count, first, apart in itertools.product((999, 1_000, 1_001, 5_000), (0, 1, head - 1, head, head + 1), (1, 2, 3, 4, 5)):
+            streams = Streams(1, count, first, apart)
+            wanted = interrupted(data, head, written, interim, streams)
+            what = f"a submission {way}, {count} times interrupted, after {first} bytes and each {apart} more"
+            cases.append((what, data, streams, wanted, after if wanted[0] == "answered" else case.contest))
+        kinds = {wanted[0] for _, _, _, wanted, _ in cases}
+        test.same(f"what comes of a submission {way}", kinds, {"answered", "read"})
         case.try_all(test, cases)
 
 
@@ -192,5 +207,5 @@ def try_writers(test):
 
 
 if __name__ == "__main__":
-    PARTS = try_pieces, try_reads, try_cuts, try_interrupts, try_readers, try_writers
+    PARTS = try_pieces, try_reads, try_cuts, try_interrupts, try_spread_interrupts, try_readers, try_writers
     sys.exit(program.main(__doc__, Wire, PARTS, program="wire"))

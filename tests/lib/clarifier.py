@@ -1,6 +1,6 @@
 """What is asked of clarifications, by a seed."""
 
-from . import desk_opinion
+from . import clarification_opinion
 from .chance import Chance
 from .demo import AT_REHEARSAL
 from .import_opinion import compact
@@ -25,8 +25,8 @@ class Clarifier(Chance):
         self.posts = []
 
     def clarification_id(self, contest):
-        made = [desk_opinion.clarification_id(contest, one) for one in contest["clarifications"]] or ["g-1"]
-        return self.often(self.one(made), ["g-99", "c1-01", "c7-1", "G-1", "g"], 0.9)
+        made = [clarification_opinion.clarification_id(contest, one) for one in contest["clarifications"]] or ["g-1"]
+        return self.often(self.one(made), ["g-99", "g1-1", "g2-1", "g1-01", "c1-01", "c7-1", "G-1", "g"], 0.9)
 
     def clarification(self, contest, account):
         """The body of a post by an account."""
@@ -35,7 +35,10 @@ class Clarifier(Chance):
         row["problem_id"] = self.often(None, ["a", "b", "c", "a", "b", "c", "x", self.one(["", 7])], 0.7)
         row["reply_to_id"] = self.often(None, [*(self.clarification_id(contest) for _ in range(9)), self.one(["-", []])], 0.6)
         row["from_team_id"] = self.often(None, [own, own, "t1"], 0.8 if is_team else 0.97)
-        row["to_team_id"] = self.often(None, ["t1", "t2", "t3", "t9", "t7", own], 0.97 if is_team else 0.4)
+        goes_to_group = not is_team and self.random.random() < 0.35
+        row["to_team_id"] = self.often(None, ["t1", "t2", "t3", "t9", "t7", own], 0.97 if is_team or goes_to_group else 0.4)
+        groups = [one["id"] for one in contest["groups"]] or ["north"]
+        row["to_group_id"] = self.often(self.one(groups), ["east", 7], 0.95) if goes_to_group else self.often(None, groups, 0.98)
         row = {name: value for name, value in row.items() if value is not None or self.random.random() < 0.2}
         return self.often(compact(row), BODIES, 0.97)
 

@@ -1,6 +1,8 @@
 """The demo contest: its files for `desk init` and `desk import`, and its rows; and the head of the rehearsal, at whose desk the
 walks of crates/walks go."""
 
+import re
+
 from . import clock
 from .program import TESTS
 
@@ -25,6 +27,9 @@ FILES = {
 }
 # The same rows and others, in each table, as SQL.
 ROWS = (TESTS / "tables/store_demo.sql").read_text(encoding="utf-8")
+# And as they stood in the first schema, where a clarification went to a team or, if its number is 0, to all.
+FIRST_ROWS = re.sub(r"(?m)^  \((\d+), [01], (\d+, \d+, [01], ')", r"  (\1, \2", ROWS)
+FIRST_ROWS = FIRST_ROWS.replace("desk VALUES (1, 2)", "desk VALUES (1, 1)").replace("INTO notices", "INTO clarifications")
 
 
 def made(desk, files):

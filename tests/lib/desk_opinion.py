@@ -2,26 +2,24 @@
 
 docs/FORMATS.md says what is asked and answered. It is written to be read beside that page and to share nothing with the
 program: whole lists, filtered and counted for each answer, and nothing kept up to date along the way. What imports add to a
-contest is told by import_opinion.py, what is answered about rejudgings by rejudging_opinion.py, how the clock is set by
-clock_opinion.py, and who wins what by awards_opinion.py.
+contest is told by import_opinion.py, what is answered about clarifications by clarification_opinion.py and about rejudgings by
+rejudging_opinion.py, how the clock is set by clock_opinion.py, and who wins what by awards_opinion.py.
 """
 
 import base64
 import binascii
 import copy
-import datetime
 import hashlib
 
 from . import awards_opinion, clock_opinion, rejudging_opinion
+from .clarification_opinion import clarification_object, clarify, heard_clarifications
+from .contest_opinion import is_jury, moment, owns, place_of
 from .import_opinion import COLLECTIONS, Refused, compact, has_come, is_id, is_name, member, json_of
 from .replay_opinion import Fault, reltime_text
 
-FILE_LIMIT = 262_144
+FILE_LIMIT = 1_048_576
 TEAM_LIMIT = 500
 PROPOSAL_LIMIT = 1_000
-TEXT_LIMIT = 4_096
-REQUEST_LIMIT = 200
-JURY_LIMIT = 100_000
 STATUSES = {
     "Malformed": 400, "UnknownToken": 401, "RoleForbids": 403, "NotFound": 404, "Method": 405, "BodyTooLarge": 413,
     "NotOpen": 409, "UnknownReference": 400, "EntryPointMissing": 400, "TeamLimit": 409, "KeyReused": 409, "AlreadyReleased": 409,
@@ -68,19 +66,6 @@ def state_object(contest, now):
     return {name: moment(one) for name, one in state.items()}
 
 
-def is_jury(caller):
-    return caller is not None and caller["role"] != "team"
-
-
-def owns(caller, team):
-    return caller is not None and caller["role"] == "team" and caller["team"] == team
-
-
-def place_of(contest, team):
-    """A team's place, from 1."""
-    return [row["id"] for row in contest["teams"]].index(team) + 1
-
-
 def submission_id(contest, submission):
     return f"s{place_of(contest, submission['team'])}-{submission['number']}"
 
@@ -101,13 +86,6 @@ def submission_object(contest, submission, caller):
         if submission["entry"] is not None:
             shown["entry_point"] = submission["entry"]
     return shown
-
-
-def moment(milliseconds):
-    if milliseconds is None:
-        return None
-    day = datetime.datetime(1970, 1, 1) + datetime.timedelta(milliseconds=milliseconds)
-    return day.strftime("%Y-%m-%dT%H:%M:%S.") + f"{milliseconds % 1000:03}+00:00"
 
 
 def seen_submissions(contest, caller):
@@ -160,35 +138,6 @@ def open_proposals(contest, caller):
     return found
 
 
-def clarification_id(contest, clarification):
-    """One that belongs to no team is to all."""
-    team = clarification["team"]
-    series = "g" if team is None else f"c{place_of(contest, team)}"
-    return f"{series}-{clarification['number']}"
-
-
-def heard_clarifications(contest, caller):
-    """The clarifications that a caller hears, by time and the bytes of their ids."""
-    heard = [one for one in contest["clarifications"] if one["team"] is None or is_jury(caller) or owns(caller, one["team"])]
-    return sorted(heard, key=lambda one: (one["time"], clarification_id(contest, one).encode()))
-
-
-def clarification_object(contest, clarification, caller):
-    """A clarification as a caller who hears it is served it: what it answers is told to who hears that too."""
-    heard = [clarification_id(contest, one) for one in heard_clarifications(contest, caller)]
-    team, is_by_jury = clarification["team"], clarification["is_by_jury"]
-    return {
-        "contest_time": reltime_text(clarification["time"] - contest["start"]),
-        "from_team_id": None if is_by_jury else team,
-        "id": clarification_id(contest, clarification),
-        "problem_id": clarification["problem"],
-        "reply_to_id": clarification["reply"] if clarification["reply"] in heard else None,
-        "text": clarification["text"],
-        "time": moment(clarification["time"]),
-        "to_team_id": team if is_by_jury else None,
-    }
-
-
 def cell(contest, now, team, problem, caller):
     """What a team's attempts at a problem come to, under what the caller sees of it."""
     types, start = {row["id"]: row for row in contest["types"]}, contest["start"]
@@ -207,12 +156,13 @@ def cell(contest, now, team, problem, caller):
     return counted, penalties
 
 
-def scoreboard(contest, now, caller):
-    """The teams that aren't hidden: more solved first, then less time, then an earlier last minute; ranks count who is better."""
+def scoreboard(contest, now, caller, group=None):
+    """The teams that aren't hidden, or those of a group: more solved first, then less time, then an earlier last minute; ranks
+    count who of these is better."""
     rows = []
     problems = sorted(contest["problems"], key=lambda row: (row["ordinal"], row["id"].encode()))
     for team in contest["teams"]:
-        if team["hidden"]:
+        if team["hidden"] or group not in (None, *team["group_ids"]):
             continue
         cells = [cell(contest, now, team, problem, caller) for problem in problems]
         solved = [(one["time"], penalties) for one, penalties in cells if one["solved"]]
@@ -307,64 +257,6 @@ def submit(contest, now, caller, key, body):
     return new
 
 
-def is_text(value):
-    return isinstance(value, str) and 1 <= len(value.encode()) <= TEXT_LIMIT
-
-
-def said(body, caller):
-    """What a clarification's post says: whose it is, which is a team's or for all, and its problem, its reply and its text."""
-    try:
-        row = json_of(body)
-        text = member(row, "text", is_text)
-        names = ("problem_id", "reply_to_id", "from_team_id", "to_team_id")
-        problem, reply, sender, receiver = [member(row, name, is_id, "") or None for name in names]
-    except Fault:
-        raise Refused("Malformed")
-    if is_jury(caller) and sender is None:
-        return {"team": receiver, "problem": problem, "reply": reply, "text": text}
-    if not is_jury(caller) and sender in (None, caller["team"]) and receiver is None:
-        return {"team": caller["team"], "problem": problem, "reply": reply, "text": text}
-    raise Refused("Malformed")
-
-
-def may_write(contest, now, caller):
-    """Whether the clock lets a caller write: a team while the contest runs, the jury from the start on."""
-    start = contest["start"]
-    if start is None or now < start or contest["finalized"] is not None:
-        return False
-    return is_jury(caller) or now < start + contest["duration"]
-
-
-def clarify(contest, now, caller, key, body):
-    """The clarification that a post stands for, new or old."""
-    if caller is None:
-        raise Refused("RoleForbids")
-    if key is not None and not is_id(key):
-        raise Refused("Malformed")
-    wanted, stands = said(body, caller), contest["clarifications"]
-    heard = [clarification_id(contest, one) for one in heard_clarifications(contest, caller)]
-    for named, there in (("problem", contest["problems"]), ("team", contest["teams"])):
-        if wanted[named] is not None and all(row["id"] != wanted[named] for row in there):
-            raise Refused("UnknownReference")
-    if wanted["reply"] is not None and wanted["reply"] not in heard:
-        raise Refused("UnknownReference")
-    by_side = [one for one in stands if one["is_by_jury"] == is_jury(caller)]
-    sharing = [one for one in by_side if (one["account"] == caller["id"] if is_jury(caller) else one["team"] == caller["team"])]
-    for one in sharing:
-        if key is not None and one["key"] == key:
-            if any(one[part] != wanted[part] for part in wanted):
-                raise Refused("KeyReused")
-            return one
-    if not may_write(contest, now, caller):
-        raise Refused("NotOpen")
-    if sum(one["team"] == wanted["team"] for one in by_side) >= (JURY_LIMIT if is_jury(caller) else REQUEST_LIMIT):
-        raise Refused("TeamLimit")
-    number = 1 + sum(one["team"] == wanted["team"] for one in stands)
-    new = {**wanted, "number": number, "is_by_jury": is_jury(caller), "account": caller["id"], "time": now, "key": key}
-    stands.append(new)
-    return new
-
-
 def judged(contest, caller, body):
     """The submission and the judgement type that a judge's post names; what is released already is refused."""
     if not is_jury(caller):
@@ -430,6 +322,8 @@ def offered(contest, path):
         return ["GET", "HEAD", "PATCH"], "contest", None
     if len(pieces) == 6 and all(pieces[1:]) and pieces[:4] + pieces[5:] == ["", "contests", contest["id"], "submissions", "files"]:
         return ["GET", "HEAD"], "files", pieces[4]
+    if len(pieces) == 6 and all(pieces[1:]) and pieces[:4] + pieces[5:] == ["", "contests", contest["id"], "groups", "scoreboard"]:
+        return ["GET", "HEAD"], "group scoreboard", pieces[4]
     names = ["submissions", "judgements", "clarifications", "awards", *COLLECTIONS]
     if len(pieces) not in (4, 5) or pieces[:3] != ["", "contests", contest["id"]] or pieces[3] not in names or not all(pieces[1:]):
         raise Refused("NotFound")
@@ -492,6 +386,10 @@ def value_of(contest, now, who, key, method, path, body):
         return {"contests": [contest_object(contest)], "contest": contest_object(contest), "state": state_object(contest, now)}[name]
     if name == "scoreboard":
         return scoreboard(contest, now, caller)
+    if name == "group scoreboard":
+        if all(group["id"] != which for group in contest["groups"]):
+            raise Refused("NotFound")
+        return scoreboard(contest, now, caller, which)
     if name == "proposals":
         if not is_jury(caller):
             raise Refused("RoleForbids")

@@ -4,13 +4,22 @@ import re
 
 from . import desk_opinion
 from .chance import Chance
-from .import_opinion import HEADERS, compact
+from .clock_opinion import LAST_MOMENT
+from .desk_opinion import moment
+from .import_opinion import HEADERS, LONGEST_CONTEST, PLACES, compact
+from .replay_opinion import reltime_text
+from .timekeeper import TIMES, WRONG_TIMES
 
 SETTINGS = ["judgement-types", "languages", "groups", "problems", "teams"]
 NAMES = ["Alpha", "Beta", "Gamma, the third", 'The "Deltas"', "Łódź", "東京", ""]
 IDS = {"judgement-types": ["AC", "WA", "CE"], "languages": ["cpp", "java"], "groups": ["north", "south"],
        "problems": ["a", "b", "c"], "teams": ["t1", "t2", "t3", "t9"]}  # fmt: skip
 ACCOUNTS = ["a1", "b1", "a2", "a3", "a9", "j1", "j2", "adm"]
+
+# What may or may not stand for a duration, and for the minutes of a penalty.
+WRONG_SPANS = ["5:00", "05:00:00.0", "5:60:00", "-5:00:00", "-0:00:00", f"{'0' * 20}5:00:00", f"{'9' * 20}:00:00", 18000,
+               "", [], True]  # fmt: skip
+PENALTIES = [None, 0, 1000, 1001, -1, 20.0, "0:20:00", "-0:00:00", "0:20:30", "16:40:00", "16:41:00", "20", "", True, {}]
 
 
 class Director(Chance):
@@ -29,8 +38,27 @@ class Director(Chance):
             row["ordinal"] = self.often(len(str(row["id"])), [0, 65535, 65536, 1.5, None, "1"], 0.9)
         elif kind == "teams":
             row["hidden"] = self.often(row["id"] == "t9", [True, False, None, "false"], 0.95)
-            row["group_ids"] = self.often([], [["north"], ["north", "south"], ["south", "south"], ["east"], None, ["-"]], 0.7)
+            row["group_ids"] = self.often(["north"], [[], [], ["south"], ["north", "south"], ["south", "south"], ["east"], None, ["-"]], 0.5)
         return {name: value for name, value in row.items() if self.random.random() < 0.98}
+
+    def contest_file(self):
+        """The file of a contest, mostly one that is taken."""
+        duration = self.often(self.random.randint(1, 36_000_000), [1, LONGEST_CONTEST, LONGEST_CONTEST + 1, 0], 0.95)
+        freeze = self.often(self.random.randint(0, duration), [duration, duration + 1], 0.95)
+        places = {name: self.often(self.random.randint(0, 100), [None, None, 101, -1, 4.0], 0.95) for name in PLACES}
+        row = {
+            "id": self.often("cup", ["x" * 36, "x" * 37, "-cup", "", None, 7], 0.95),
+            "name": self.often("Cup", NAMES, 0.8),
+            "duration": self.often(reltime_text(duration), WRONG_SPANS, 0.93),
+            "scoreboard_freeze_duration": self.often(reltime_text(freeze), [None, *WRONG_SPANS], 0.95),
+            "start_time": self.often(moment(self.random.randint(0, LAST_MOMENT)), [None, *TIMES, *WRONG_TIMES], 0.9),
+            "scoreboard_type": self.often("pass-fail", [None, "score", 7], 0.95),
+            "penalty_time": self.often(self.random.randint(0, 1000), PENALTIES, 0.8),
+            "verification": self.often(self.one([True, False]), [None, "true"], 0.95),
+            "medals": self.often(places, [None, {}, [], 4], 0.95),
+        }  # fmt: skip
+        always = ("id", "name", "duration")
+        return compact({name: it for name, it in row.items() if self.random.random() < (0.99 if name in always else 0.8)})
 
     def quoted(self, field):
         """A field of a CSV file, with quotation marks if it needs them, and sometimes if it doesn't."""

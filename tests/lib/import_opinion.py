@@ -40,8 +40,11 @@ def is_truth(value):
     return isinstance(value, bool)
 
 
-def is_ordinal(value):
-    return isinstance(value, int) and not isinstance(value, bool) and 0 <= value <= 65_535
+def number_to(most):
+    return lambda value: isinstance(value, int) and not isinstance(value, bool) and 0 <= value <= most
+
+
+is_ordinal = number_to(65_535)
 
 
 def member(row, name, is_right, usual=None):
@@ -87,6 +90,48 @@ def has_come(one, now):
 
 def compact(value):
     return json.dumps(value, separators=(",", ":"), sort_keys=True, ensure_ascii=False)
+
+
+# --- The contest -------------------------------------------------------------------------------------
+
+LONGEST_CONTEST = 3_600_000_000
+PLACES = ("gold", "silver", "bronze")
+
+
+def span(value):
+    """The milliseconds of a relative time that isn't below zero."""
+    try:
+        time = replay_opinion.reltime(value.encode())
+    except AttributeError:
+        raise Fault("Malformed")
+    if time < 0:
+        raise Fault("Malformed")
+    return time
+
+
+def penalty_of(value):
+    """The minutes of a whole number, or of a relative time of whole minutes."""
+    if isinstance(value, str):
+        minutes, rest = divmod(span(value), 60_000)
+        value = -1 if rest else minutes
+    if not number_to(1000)(value):
+        raise Fault("Malformed")
+    return value
+
+
+def head_of(row):
+    """The row of a contest that an object says, up to its start."""
+    made = {"id": member(row, "id", is_id), "name": member(row, "name", is_name)}
+    made["duration"] = span(row.get("duration"))
+    freeze = row.get("scoreboard_freeze_duration")
+    made["freeze"] = None if freeze is None else span(freeze)
+    if not 0 < made["duration"] <= LONGEST_CONTEST or (made["freeze"] or 0) > made["duration"]:
+        raise Fault("Malformed")
+    member(row, "scoreboard_type", lambda value: value == "pass-fail", "pass-fail")
+    made["penalty"] = penalty_of(member(row, "penalty_time", lambda _: True, 20))
+    made["verification"] = member(row, "verification", is_truth, False)
+    medals = member(row, "medals", lambda value: isinstance(value, dict), {})
+    return {**made, **{name: member(medals, name, number_to(100), 4) for name in PLACES}}
 
 
 # --- Files -----------------------------------------------------------------------------------------

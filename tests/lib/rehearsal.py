@@ -1,6 +1,7 @@
 """The rehearsal with all that is set up at its desk: what its director's files say, and the same as the second opinion keeps it.
 The token of each account is `token-` and its id."""
 
+import base64
 import copy
 import hashlib
 
@@ -55,3 +56,14 @@ def sent(who, key, method, path, body):
     fields += f"Idempotency-Key: {key}\r\n" if key is not None else ""
     data = body.encode()
     return f"{method} {path} HTTP/1.1\r\nHost: x\r\n{fields}Content-Length: {len(data)}\r\n\r\n".encode() + data
+
+
+def posted(problem="a", size=3):
+    """The body of a submission with a file of so many bytes."""
+    data = base64.b64encode(b"abc".ljust(size, b"d")).decode()
+    return compact({"problem_id": problem, "language_id": "cpp", "files": [{"data": data}]})
+
+
+def judged(which, verdict):
+    """The body of a verdict that is proposed."""
+    return compact({"submission_id": which, "judgement_type_id": verdict})

@@ -270,10 +270,12 @@ def read_replay(data):
 
 
 class Shown:
-    """What is asked for: whose board, at which moment, and whether the freeze is lifted by then. A team sees its own whole."""
+    """What is asked for: whose board, at which moment, and whether the freeze is lifted by then. A team sees its own whole.
+    The board of a group, its name and the ids of its teams, has these alone."""
 
-    def __init__(self, contest, jury, thawed, at, team=None):
+    def __init__(self, contest, jury, thawed, at, team=None, group=None):
         self.jury, self.team = jury, team
+        self.group, self.members = group or (None, contest.teams)
         self.now = contest.duration if at is None else at
         self.thawed = thawed and contest.duration <= self.now  # the thaw is set to the end
 
@@ -337,7 +339,7 @@ class Row:
 
 def board_rows(contest, shown, problems):
     """The shown teams with their ranks, by rank, then name, then id, both by their bytes."""
-    rows = [Row(contest, shown, team, problems) for team, (_, hidden) in contest.teams.items() if not hidden]
+    rows = [Row(contest, shown, team, problems) for team, (_, hidden) in contest.teams.items() if not hidden and team in shown.members]
     for row in rows:
         row.rank = 1 + sum(other.beats(row) for other in rows)
     return sorted(rows, key=lambda row: (row.rank, row.name.encode(), row.team.encode()))
@@ -399,7 +401,8 @@ def board_text(contest, shown):
 
     audience = "Jury" if shown.jury else "Public" if shown.team is None else f"Team {shown.team}"
     text = contest.name + "\n"
-    text += f"{audience} board, contest time {reltime_text(shown.now)}, {word(contest, shown)}\n"
+    of_group = "" if shown.group is None else f" of {shown.group}"
+    text += f"{audience} board{of_group}, contest time {reltime_text(shown.now)}, {word(contest, shown)}\n"
     text += line("Rank", "Team", "Solved", "Time", [contest.problems[key][0] for key in problems])
     for row in rows:
         cells = [cell.text() for cell in row.cells]

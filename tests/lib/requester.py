@@ -47,7 +47,8 @@ class Requester(Clarifier, Rejudger, Timekeeper):
             return judge, None, "POST", self.one(["/jury/proposals", "/jury/verifications"]), compact(body)
         who = self.often(f"token-{self.one(ACCOUNTS)[0]}", ["public"], 0.75)
         which = self.submission(contest)
-        paths = ["scoreboard", "scoreboard", "judgements", f"judgements/{which}.{self.often('1', ['2', '2', '3', '01'], 0.7)}",
+        group = self.often(self.one([row["id"] for row in contest["groups"]] or ["north"]), ["east", ""], 0.9)
+        paths = ["scoreboard", f"groups/{group}/scoreboard", "judgements", f"judgements/{which}.{self.often('1', ['2', '2', '3', '01'], 0.7)}",
                  "submissions", f"submissions/{which}", f"submissions/{which}/files", "state", "awards", "awards/winner"]  # fmt: skip
         path = self.often(f"{AT_REHEARSAL}/{self.one(paths)}", ["/jury/proposals", "/jury/verifications"], 0.85)
         return who, None, self.often("GET", ["HEAD"], 0.95), path, ""

@@ -11,7 +11,7 @@ ODD_BYTES = [b"\xc3(", b"\xed\xa0\x80", b"\xc0\x80", b"\xff", b"\xf5\x80\x80\x80
              b"\t", b'"', b"\\", b"\\ud800", b"\\u0000", b" ", b":"]  # fmt: skip
 ODD_NUMBERS = [b"1e999", b"-1e999", b"1e-999", b"9" * 30, b"9" * 310, b"1" + b"0" * 308, b"-0", b"01", b"1.", b"+1", b"0x1", b"NaN",
                b"Infinity", b"-", b"18446744073709551616", b"1E400", b"0e99999", b"1.5"]  # fmt: skip
-ODD_LENGTHS = [b"", b"+5", b"-1", b"1, 1", b"0x10", b"1.0", b" 7 ", b"00", b"0007", b"524288", b"524289", b"9" * 40, b"0" * 40]
+ODD_LENGTHS = [b"", b"+5", b"-1", b"1, 1", b"0x10", b"1.0", b" 7 ", b"00", b"0007", b"2097152", b"2097153", b"9" * 40, b"0" * 40]
 ODD_FILES = ["[]", '[{"data":"YWJj"},{"data":"YWJj"}]', '[{"data":""}]', '[{"data":"YWI"}]', '[{"data":"YWJ="}]', '[{"data":"YW=="}]',
              '[{"data":"YX=="}]', '[{"data":"YWJj=="}]', '[{"data":"YWJj\\n"}]', '[{"data":"YWJ-"}]', '[{"data":"=="}]', '[{"data":null}]',
              '[{}]', '[[]]', '{"data":"YWJj"}', '["YWJj"]', '[{"data":"YWJj","data":"YWJk"}]', '[{"data":7,"data":"YWJj"}]', '[null]',
@@ -26,16 +26,18 @@ SMUGGLED = b"POST /jury/finalize HTTP/1.1\r\nHost: x\r\nAuthorization: Bearer to
 WHOLE_TIME = re.compile(r"\d{4}-\d\d-\d\dT\d\d:\d\d:[0-5]\d\.\d{3}(Z|[+-](0\d|1\d|2[0-3]):[0-5]\d)")
 
 
-def can_say(method, body):
-    """Whether the second opinion reads the times in a body as the desk does: of those that are spoiled it can't tell."""
-    if method != "PATCH":
-        return True
-    try:
-        row = json_of(body)
-    except Fault:
-        return True
+def times_known(row):
+    """Whether the second opinion reads the times in a value as the desk does: of those that are spoiled it can't tell."""
     named = [row.get(name) for name in ("start_time", "scoreboard_thaw_time")] if isinstance(row, dict) else []
     return all(not isinstance(one, str) or one in TIMES + WRONG_TIMES or WHOLE_TIME.fullmatch(one) for one in named)
+
+
+def can_say(method, body):
+    """The same of a request."""
+    try:
+        return method != "PATCH" or times_known(json_of(body))
+    except Fault:
+        return True
 
 
 def nested(depth):

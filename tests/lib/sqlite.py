@@ -11,7 +11,15 @@ import tempfile
 from .program import ROOT, ran
 
 TEXTS = (ROOT / "crates/contest_store_tables/src/texts.rt").read_text(encoding="utf-8")
-TABLES = "".join(text + ";\n" for text in re.findall(r'"(CREATE TABLE [^"]*)"', TEXTS))
+
+
+def tables_in(text):
+    """The statements that make tables."""
+    return "".join(statement + ";\n" for statement in re.findall(r'"(CREATE TABLE [^"]*)"', text))
+
+
+TABLES = tables_in(TEXTS)
+FIRST_TABLES = tables_in((ROOT / "crates/contest_demo/src/first_schema.rt").read_text(encoding="utf-8"))
 # Paths at which no file of a contest can be.
 NO_PATHS = [
     ("a folder", "{folder}"),

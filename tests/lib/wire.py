@@ -8,7 +8,8 @@ from .program import Program, ran
 from .rehearsal import files_of
 
 # How the streams of a connection behave, of which crates/wire/src/script.rt tells.
-Streams = collections.namedtuple("Streams", "piece interrupts end room stop", defaults=(65_536, 0, "ends", 1_000_000, "full"))
+USUAL = (65_536, 0, 0, 0, "ends", 1_000_000, "full")
+Streams = collections.namedtuple("Streams", "piece interrupts first apart end room stop", defaults=USUAL)
 Served = collections.namedtuple("Served", "how status reads left written")
 Ended = collections.namedtuple("Ended", "faults refusals commits")
 MORNING = START - 3_600_000

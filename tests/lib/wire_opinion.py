@@ -10,7 +10,7 @@ import re
 from . import desk_opinion
 from .import_opinion import compact
 
-HEAD_LIMIT, BODY_LIMIT = 16_384, 524_288
+HEAD_LIMIT, BODY_LIMIT = 16_384, 2_097_152
 INTERIM = b"HTTP/1.1 100 Continue\r\n\r\n"
 STATUSES = {**desk_opinion.STATUSES, "HeadTooLarge": 431, "Encoding": 501}
 PHRASES = {200: "OK", 400: "Bad Request", 401: "Unauthorized", 403: "Forbidden", 404: "Not Found", 405: "Method Not Allowed",
@@ -50,7 +50,7 @@ def size_of(values):
     if len(values) > 1 or not all(re.fullmatch(rb"[0-9]+", value) for value in values):
         raise Refusal("Malformed")
     digits = values[0].lstrip(b"0") if values else b""
-    if len(digits) > 6 or int(digits or b"0") > BODY_LIMIT:
+    if len(digits) > 7 or int(digits or b"0") > BODY_LIMIT:
         raise Refusal("BodyTooLarge")
     return int(digits or b"0")
 

@@ -1,6 +1,6 @@
 -- A contest for tests/store_files.py, with rows in each table and rejudgings in each state. Each case of
 -- store_rows.tsv changes it. The tables themselves are those of crates/contest_store_tables/src/texts.rt.
-INSERT INTO desk VALUES (1, 1);
+INSERT INTO desk VALUES (1, 2);
 INSERT INTO contest VALUES (1, 'demo', 'Demo Cup', 18000000, 3600000, 20, 0, 4, 4, 4, 1709370000000, NULL, NULL);
 INSERT INTO items VALUES
   (0, 1, 'AC', 'correct', '', 0, 1, 0, ''),
@@ -48,8 +48,8 @@ INSERT INTO members VALUES
   (2, 1, 2, 1, 'WA', 'j1', 0),
   (2, 2, 1, 1, NULL, NULL, 0),
   (3, 1, 2, 1, NULL, NULL, 0);
-INSERT INTO clarifications VALUES
-  (1, 0, 1, 1, 'j1', NULL, NULL, 'Welcome', 1709369940000, 'hello'),
-  (2, 1, 1, 0, 'a1', 'a', NULL, 'How many apples?', 1709370600000, 'ask'),
-  (3, 1, 2, 1, 'j2', 'a', 'c1-1', 'Read the statement.', 1709370700000, NULL),
-  (4, 2, 1, 0, 'a2', NULL, 'g-1', 'Thank you', 1709370800000, 'ask');
+INSERT INTO notices VALUES
+  (1, 0, 0, 1, 1, 'j1', NULL, NULL, 'Welcome', 1709369940000, 'hello'),
+  (2, 1, 1, 1, 0, 'a1', 'a', NULL, 'How many apples?', 1709370600000, 'ask'),
+  (3, 1, 1, 2, 1, 'j2', 'a', 'c1-1', 'Read the statement.', 1709370700000, NULL),
+  (4, 1, 2, 1, 0, 'a2', NULL, 'g-1', 'Thank you', 1709370800000, 'ask');

@@ -1,0 +1,323 @@
+#!/usr/bin/env -S python3 -B
+"""Goes through a contest on the pages of web/, in a browser, as teams, judges, a director and the public do.
+
+    desk_pages.py [--program PATH] [--shots PATH]
+
+The demo contest, with verification and with names that look like markup or run from right to left, is served by the
+program behind Debian's nginx; the clock is set by faketime. In one tab each: a director sets the start, a team
+submits and asks, one judge proposes and answers, another verifies, the public looks at the board before, in and after
+the freeze. A post whose desk is away is sent again by a page that was loaded anew. With --shots the pages are kept as
+pictures in that folder, wide and narrow.
+
+Takes nginx, openssl, chromium, chromium-driver and faketime. Ends with the line `N passed, M failed`; the exit status
+is 0 if M is 0.
+"""
+
+import json
+import pathlib
+import sys
+
+from lib import demo, program
+from lib.browser import Browser, BrowserError
+from lib.nginx import Client, Nginx, free_port
+from lib.program import Program
+from lib.server import Server
+
+MARKUP, IMAGE = "<script>alert(1)</script>", '<img src=x onerror="alert(2)">'
+RIGHT, TURNED = "فريق النيل", "\u202egnitros\u202c & Söhne"
+NAMES = {"t1,Alpha": f"t1,{MARKUP}", "t2,Beta": f"t2,{RIGHT}", "t3,Gamma": f"t3,{TURNED}"}
+SIZES = {"wide": (1600, 900), "narrow": (390, 844)}
+
+
+def files():
+    """The demo contest's, with these names, a second judge's eye, and no start yet."""
+    teams, problems = demo.FILES["teams-csv"], demo.FILES["problems"].replace("Apples", IMAGE.replace('"', '\\"'))
+    for old, new in NAMES.items():
+        teams = teams.replace(old, new)
+    contest = demo.CONTEST.replace('"duration"', '"verification":true,"duration"').replace(
+        "Demo Cup", f"Demo {MARKUP} Cup"
+    )
+    return {**demo.FILES, "init": contest, "teams-csv": teams, "problems": problems}
+
+
+class Pages(Program):
+    """The program behind nginx, and a browser."""
+
+    def __init__(self, options, folder):
+        super().__init__(options, folder)
+        self.place, self.port = demo.made(self, files()), free_port()
+        self.begin("2024-03-02 08:30:00")
+        self.nginx = Nginx(self.new_folder(), {"demo": self.port})
+        self.browser = Browser(self.new_folder())
+        self.program_file = folder / "main.cpp"
+        self.program_file.write_text("int main() { /* é <b>bold</b> */ }\n", encoding="utf-8")
+
+    def begin(self, moment):
+        """Starts the desk at a moment."""
+        self.server = Server(self, self.place, port=str(self.port))
+        self.at(moment)
+
+    def at(self, moment):
+        self.moment = moment
+        self.server.at(moment)
+
+    def page(self, who, name):
+        self.browser.look_at(who, f"https://127.0.0.1:{self.nginx.port}/demo/{name}.html")
+
+    def sees(self, what, css, text):
+        self.note(self.browser.shows(css, text), f"{what}: {css} shows {self.browser.text(css)!r}, wanted {text!r}")
+
+    def lacks(self, what, css):
+        self.note(self.browser.comes(lambda: self.browser.text(css) is None), f"{what}: {css} stays")
+
+    def shoot(self, name):
+        """Keeps pictures of the page that is looked at."""
+        if self.options.shots == pathlib.Path():
+            return
+        self.options.shots.mkdir(parents=True, exist_ok=True)
+        for kind, size in SIZES.items():
+            self.browser.shot(self.options.shots / f"{name}-{kind}.png", *size)
+
+    def sign_in(self, who, page, token):
+        self.page(who, page)
+        self.browser.type("#token", token)
+        self.browser.click("#sign-in button")
+
+    def submits(self, problem, language="cpp"):
+        self.browser.choose("#problem", problem)
+        self.browser.choose("#language", language)
+        self.browser.give_file("#file", self.program_file)
+        self.browser.click("#submit-button")
+
+    def judges(self, who, submission, verdict, step):
+        """A judge's verdict on the page."""
+        self.browser.look_at(who)
+        self.browser.click("#tab-Judging")
+        self.browser.click(f'[data-look="{submission}"]')
+        self.sees("the program", "#program", "int main() { /* é <b>bold</b> */ }")
+        self.browser.choose("#verdict-type", verdict)
+        self.browser.click(f"#{step}")
+
+
+def try_start(pages):
+    """The director sets the start; the public's board says when it is."""
+    browser = pages.browser
+    pages.page("public", "scoreboard")
+    pages.sees("before", "#banner", "The start isn't set yet.")
+    pages.sign_in("director", "jury", "token-adm")
+    browser.click("#tab-Clock")
+    browser.choose("#start-time", "2024-03-02T09:00:00")
+    browser.click("#start button")
+    pages.sees("the start", "#told", "The clock is set.")
+    browser.click("#start button")
+    browser.look_at("public")
+    pages.sees("the start", "#clock", "starts in 0:")
+    pages.sees("the name", "#name", f"Demo {MARKUP} Cup")
+    pages.at("2024-03-02 09:05:00")
+    pages.sees("the contest runs", "#clock", "0:05:0")
+    pages.note(browser.run("return document.getElementById('banner').hidden"), "no banner while the contest runs")
+
+
+def try_team(pages):
+    """A team signs in and submits; a page that is loaded anew while the desk is away sends its post again."""
+    browser = pages.browser
+    pages.sign_in("team", "team", "token-wrong")
+    pages.sees("a wrong token", "#told", "No account has this token.")
+    pages.sign_in("team", "team", "token-a1")
+    pages.submits("a")
+    pages.sees("a submission", "#told", "The desk has your submission s1-1.")
+    pages.sees("its row", '[data-id="s1-1"]', "waits")
+    pages.sees("the team's name", "#who", MARKUP)
+    pages.submits("a", "java")
+    pages.sees("a refusal", "#told", "This language needs an entry point")
+    browser.type("#entry", "Main")
+    pages.server.stop()
+    pages.submits("a", "java")
+    pages.sees("a desk that is away", "#told", "Sending ..")
+    pages.sees("a desk that is away", "#away", "The desk doesn't answer at the moment.")
+    browser.reload()
+    pages.sees("a page that is loaded meanwhile", "#away", "The desk doesn't answer at the moment.")
+    pages.begin(pages.moment)
+    pages.sees("the post that was sent again", "#told", "The desk has your submission s1-2.")
+    browser.reload()
+    pages.sees("its row", '[data-id="s1-2"]', "Java")
+    pages.same("rows", browser.run("return document.querySelectorAll('#submissions tbody tr').length"), 2)
+    pages.shoot("team-waits")
+
+
+def try_verdicts(pages):
+    """One judge proposes and may not verify; another verifies, and the team sees it."""
+    browser = pages.browser
+    pages.sign_in("judge1", "jury", "token-a2")
+    pages.sees("a team on the jury's page", "#told", "Your account may not do this.")
+    for who in ("judge1", "judge2"):
+        pages.sign_in(who, "jury", f"token-j{who[-1]}")
+        pages.sees("what waits", "#tab-Judging", "Judging (2)")
+    pages.judges("judge1", "s1-1", "WA", "propose")
+    pages.sees("a proposal", "#told", "s1-1: WA is proposed.")
+    pages.sees("its row", '[data-id="s1-1"]', "WA by j1")
+    pages.shoot("jury-waits")
+    pages.judges("judge1", "s1-1", "WA", "verify")
+    pages.sees("the same judge", "#told", "another judge has to verify it")
+    pages.judges("judge2", "s1-1", "AC", "verify")
+    pages.sees("another verdict", "#told", "The last proposal names another verdict.")
+    pages.shoot("jury-looks")
+    browser.choose("#verdict-type", "WA")
+    browser.click("#verify")
+    pages.sees("the verification", "#told", "s1-1: WA is verified.")
+    pages.judges("judge2", "s1-2", "AC", "propose")
+    pages.judges("judge1", "s1-2", "AC", "verify")
+    browser.look_at("team")
+    pages.sees("the verdict", '[data-id="s1-1"]', "WA: wrong answer")
+    pages.sees("the verdict", '[data-id="s1-2"]', "AC: correct")
+    browser.look_at("public")
+    pages.sees("the board", "#board .solved", "★ 5\n2 tries")
+
+
+def try_questions(pages):
+    """A question, its answer to the team, and a word to all."""
+    browser = pages.browser
+    browser.look_at("team")
+    browser.choose("#question-problem", "a")
+    browser.type("#question-text", f"Is 0 allowed? {MARKUP}")
+    browser.click("#question-button")
+    pages.sees("a question", "#told", "The jury has your question.")
+    pages.sees("a question", '[data-id="c1-1"]', MARKUP)
+    browser.look_at("judge1")
+    pages.sees("a question", "#tab-Questions", "Questions (1)")
+    browser.click("#tab-Questions")
+    browser.click('[data-answer="c1-1"]')
+    browser.type("#answer-text", "Yes, <b>it is</b>.")
+    browser.click("#answer-button")
+    pages.sees("an answer", "#told", "Sent as c1-2.")
+    browser.type("#answer-text", "Water is in the hall.")
+    browser.click("#answer-button")
+    pages.sees("a word to all", "#told", "Sent as g-1.")
+    pages.sees("nothing is open", "#tab-Questions", "Questions (0)")
+    pages.shoot("jury-questions")
+    browser.look_at("team")
+    pages.sees("the answer", '[data-id="c1-2"]', "Yes, <b>it is</b>.")
+    pages.sees("the word to all", '[data-id="g-1"]', "The jury to all")
+    pages.sees("what is answered", '[data-id="c1-2"] blockquote', MARKUP)
+
+
+def try_rejudging(pages):
+    """A rejudging of two judges, applied as a whole."""
+    browser = pages.browser
+    browser.look_at("judge1")
+    browser.click("#tab-Judged")
+    browser.click('[data-rejudge="s1-1"]')
+    browser.type("#rejudge-reason", "0 was refused")
+    browser.click("#rejudge-button")
+    pages.sees("a rejudging", "#told", "The rejudging is open.")
+    browser.click('[data-member="s1-1"] [data-type="AC"]')
+    pages.sees("a verdict", '[data-member="s1-1"]', "AC, to be verified")
+    browser.click('[data-step="apply"]')
+    pages.sees("too soon", "#told", "A verdict is missing, or waits for a second judge.")
+    browser.look_at("judge2")
+    browser.click("#tab-Rejudgings")
+    browser.click('[data-member="s1-1"] [data-type="AC"]')
+    is_ready = browser.comes(
+        lambda: "s1-1: AC" in (shown := browser.text('[data-member="s1-1"]')) and "verified" not in shown
+    )
+    pages.note(is_ready, "a verdict of two judges is ready")
+    pages.shoot("jury-rejudging")
+    browser.click('[data-step="apply"]')
+    pages.sees("applied", '#rejudgings [data-id="1"]', "Rejudging 1, applied: 0 was refused")
+    browser.look_at("team")
+    pages.sees("the new verdict", '[data-id="s1-1"]', "AC: correct")
+
+
+def try_freeze(pages):
+    """A verdict in the freeze: its team and the jury see it, the public and other teams a question mark."""
+    browser = pages.browser
+    pages.at("2024-03-02 13:30:00")
+    pages.sign_in("other", "team", "token-a2")
+    pages.submits("b")
+    pages.sees("a submission in the freeze", "#told", "The desk has your submission s2-1.")
+    pages.judges("judge1", "s2-1", "AC", "propose")
+    pages.judges("judge2", "s2-1", "AC", "verify")
+    pages.sees("the verification", "#told", "s2-1: AC is verified.")
+    browser.look_at("other")
+    pages.sees("its own verdict", '[data-id="s2-1"]', "AC: correct")
+    browser.look_at("public")
+    pages.sees("the banner", "#banner", "The board is frozen")
+    pages.sees("the board", "#board .pending", "?1")
+    pages.sees("a name from right to left", "#board tbody", RIGHT)
+    pages.sees("a name that is turned", "#board tbody", TURNED)
+    pages.shoot("scoreboard-frozen")
+    browser.click('#groups a[href="?group=south"]')
+    pages.sees("the board of a group", "#groups [aria-current]", "South")
+    pages.sees("its team", "#board tbody", RIGHT)
+    pages.note(MARKUP not in browser.text("#board tbody"), "the board of a group has no other team")
+    pages.shoot("scoreboard-group")
+    browser.click('#groups a[href="?"]')
+    pages.sees("all teams again", "#board tbody", MARKUP)
+    browser.look_at("judge1")
+    browser.click("#tab-Board")
+    pages.lacks("the jury's board", "#board .pending")
+
+
+def try_end(pages):
+    """Final results and the thaw; then the public sees all, and the awards."""
+    browser = pages.browser
+    browser.look_at("director")
+    browser.click("#finalize button")
+    pages.sees("too soon", "#told", "The desk doesn't set the clock so")
+    pages.at("2024-03-02 14:00:00")
+    browser.click("#finalize button")
+    pages.sees("final results", "#told", "The results are final.")
+    browser.choose("#thaw-time", "2024-03-02T14:10:00")
+    browser.click("#thaw button")
+    pages.sees("the thaw", "#told", "The clock is set.")
+    pages.shoot("jury-clock")
+    browser.look_at("public")
+    pages.same("no awards yet", browser.run("return document.getElementById('awards').hidden"), True)
+    pages.at("2024-03-02 14:10:00")
+    pages.sees("the end", "#banner", "These are the final results.")
+    pages.lacks("the board", "#board .pending")
+    pages.sees("the awards", "#award-list", f"Contest winner: {MARKUP}")
+    pages.shoot("scoreboard-final")
+    browser.look_at("judge1")
+    pages.sees("the awards", "#award-list", "Contest winner")
+
+
+def try_markup(pages):
+    """Nothing that anybody wrote became markup, on any page; and no token is in a page or in its address."""
+    browser = pages.browser
+    for who in browser.windows:
+        browser.look_at(who)
+        found = browser.run(
+            "const found = document.querySelectorAll('script:not([src]), img, b:not(.cell > b)');"
+            "return [...found].map((one) => one.outerHTML)"
+        )
+        pages.same(f"markup in the page of {who}", found, [])
+        source = browser.run("return document.documentElement.outerHTML + location.href + document.cookie")
+        pages.note("token-" not in source, f"the page of {who} shows a token")
+    browser.look_at("judge1")
+    browser.click("#sign-out")
+    pages.note(browser.comes(lambda: not browser.run("return document.getElementById('sign-in').hidden")), "signed out")
+    pages.same("what the tab keeps", browser.run("return Object.keys(sessionStorage)"), [])
+    public = Client(pages.nginx.port)
+    names = [team["name"] for team in json.loads(public.ask("GET", "/demo/contests/demo/teams")[2])]
+    pages.same("the names at the desk", names[:3], [MARKUP, RIGHT, TURNED])
+
+
+PARTS = [try_start, try_team, try_verdicts, try_questions, try_rejudging, try_freeze, try_end, try_markup]
+
+
+class Gone(Pages):
+    """Pages whose parts rest on each other: once one can't go on, that is told and the rest isn't tried."""
+
+    def run_parts(self, parts):
+        try:
+            super().run_parts(parts)
+        except BrowserError as error:
+            self.note(False, f"the contest can't go on: {error}")
+            self.shoot("failed")
+        finally:
+            self.browser.end()
+
+
+if __name__ == "__main__":
+    sys.exit(program.main(__doc__, Gone, PARTS, program="desk", shots=pathlib.Path()))
