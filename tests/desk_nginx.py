@@ -15,6 +15,7 @@ Takes nginx, openssl, wrk, curl and faketime. Ends with the line `N passed, M fa
 
 import base64
 import concurrent.futures
+import http.client
 import json
 import random
 import re
@@ -300,13 +301,17 @@ def try_cache(desk):
 
 
 def post_until_taken(port, team, number):
-    """Posts until the desk has answered, as a page does; the reply, and how often nginx said that the desk is away."""
+    """Posts until the desk has answered, as a page does; the reply, and how often nginx said that the desk is away, or
+    a reply broke off."""
     client, away = Client(port, f"token-a{team}"), 0
     body = compact({**POSTED, "files": [{"data": base64.b64encode(f"{team} {number}".encode()).decode()}]})
     while away < 1_000:
-        status, _, reply = client.ask("POST", f"{HERE}/submissions", body, **{"Idempotency-Key": f"k{number}"})
-        if status != 503:
-            return status, reply, away
+        try:
+            status, _, reply = client.ask("POST", f"{HERE}/submissions", body, **{"Idempotency-Key": f"k{number}"})
+            if status != 503:
+                return status, reply, away
+        except http.client.IncompleteRead:
+            client.close()
         away += 1
         time.sleep(0.02)
     return 0, b"", away

@@ -6,8 +6,8 @@
 The demo contest, with verification and with names that look like markup or run from right to left, is served by the
 program behind Debian's nginx; the clock is set by faketime. In one tab each: a director sets the start, a team
 submits and asks, one judge proposes and answers, another verifies, the public looks at the board before, in and after
-the freeze. A post whose desk is away is sent again by a page that was loaded anew. With --shots the pages are kept as
-pictures in that folder, wide and narrow.
+the freeze. A post whose reply breaks off, or whose desk is away, is sent again by a page that was loaded anew. With
+--shots the pages are kept as pictures in that folder, wide and narrow.
 
 Takes nginx, openssl, chromium, chromium-driver and faketime. Ends with the line `N passed, M failed`; the exit status
 is 0 if M is 0.
@@ -19,6 +19,7 @@ import sys
 
 from lib import demo, program
 from lib.browser import Browser, BrowserError
+from lib.cutter import Cutter
 from lib.nginx import Client, Nginx, free_port
 from lib.program import Program
 from lib.server import Server
@@ -119,7 +120,7 @@ def try_start(pages):
 
 
 def try_team(pages):
-    """A team signs in and submits; a page that is loaded anew while the desk is away sends its post again."""
+    """A team signs in and submits; a page that is loaded anew sends a post again whose reply broke off."""
     browser = pages.browser
     pages.sign_in("team", "team", "token-wrong")
     pages.sees("a wrong token", "#told", "No account has this token.")
@@ -132,7 +133,13 @@ def try_team(pages):
     pages.sees("a refusal", "#told", "This language needs an entry point")
     browser.type("#entry", "Main")
     pages.server.stop()
+    cutter = Cutter(pages.port)
     pages.submits("a", "java")
+    pages.sees("replies that break off", "#told", "Sending ..")
+    pages.sees("replies that break off", "#away", "The desk doesn't answer at the moment.")
+    is_cut = browser.comes(lambda: any(one.startswith(b"POST ") for one in cutter.requests))
+    pages.note(is_cut, "a post whose reply breaks off")
+    cutter.close()
     pages.sees("a desk that is away", "#told", "Sending ..")
     pages.sees("a desk that is away", "#away", "The desk doesn't answer at the moment.")
     browser.reload()

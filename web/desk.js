@@ -45,23 +45,27 @@ export const hasToken = () => recall("token") !== null;
 export const keepToken = (token) => keep("token", token);
 export const forgetToken = () => forget("token");
 
-// What the desk answers, as a Response, or a Refusal is thrown.
-async function answer(path, how = {}) {
+// What the desk answers, read to its end, or a Refusal is thrown. A reply that breaks off is none.
+async function answer(path, read, how = {}) {
   const fields = { ...how.headers };
   if (hasToken()) fields.Authorization = `Bearer ${recall("token")}`;
   const timed = { cache: "no-store", credentials: "omit", signal: AbortSignal.timeout(PATIENCE) };
-  const given = await fetch(path, { ...how, ...timed, headers: fields }).catch(() => {
+  const noReply = () => {
     throw new Refusal(503, "NoReply");
-  });
-  if (given.ok) return given;
+  };
+  const given = await fetch(path, { ...how, ...timed, headers: fields }).catch(noReply);
+  if (given.ok) return read(given).catch(noReply);
   const said = await given.json().catch(() => ({}));
   throw new Refusal(given.status, said.message ?? given.statusText);
 }
 
-export const ask = async (path) => (await answer(path)).json();
-export const askBytes = async (path) => new Uint8Array(await (await answer(path)).arrayBuffer());
-export const change = async (method, path, value) =>
-  (await answer(path, { method, body: value === undefined ? "" : JSON.stringify(value) })).json();
+const asValue = (given) => given.json();
+const asBuffer = (given) => given.arrayBuffer();
+
+export const ask = (path) => answer(path, asValue);
+export const askBytes = async (path) => new Uint8Array(await answer(path, asBuffer));
+export const change = (method, path, value) =>
+  answer(path, asValue, { method, body: value === undefined ? "" : JSON.stringify(value) });
 
 export const pause = (milliseconds) => new Promise((go) => setTimeout(go, milliseconds));
 
@@ -83,9 +87,9 @@ export async function postKept(slot) {
   for (;;) {
     try {
       const headers = { "Idempotency-Key": key };
-      const given = await answer(path, { method: "POST", body: JSON.stringify(value), headers });
+      const given = await answer(path, asValue, { method: "POST", body: JSON.stringify(value), headers });
       forget(slot);
-      return given.json();
+      return given;
     } catch (refusal) {
       if (!refusal.isAway) {
         forget(slot);
