@@ -7,7 +7,7 @@ use Rattle.std.specs.Cmp.Lexicographic.{slice_cmp}
 use Rattle.std.specs.Str.{bytes_eq}
 use Rattle.std.specs.declared.cmp.Ordering.{Ordering}
 use Rattle.std.specs.declared.cmp.Ordering.TheVariants.{Less, Equal, Greater}
-use Rattle.std.proofs.lemmas.Bool.{false≢true}
+use Rattle.std.proofs.lemmas.Bool.{false≢true, not-true}
 use Rattle.std.proofs.lemmas.Cmp.{nat_list_cmp_total}
 use Rattle.std.proofs.lemmas.List.{map-append, length-append}
 use Rattle.std.proofs.lemmas.Map.Lookups.{exact_bytes}
@@ -15,7 +15,7 @@ use Rattle.std.proofs.lemmas.Slice.Eq.{bytes_eq-Decides}
 use Rattle.contest_types.specs.Places.{is_among, are_different}
 use Rattle.contest_types.specs.Accounts.{comes_before, with_account, account_named}
 use Rattle.contest_types.specs.declared.account.Account.{Account}
-use Rattle.contest_types.proofs.PlaceLemmas.{and_left, and_right, both_true, or_left, or_right, both_false, not_true, differs, same_bytes}
+use Rattle.contest_types.proofs.PlaceLemmas.{and_left, and_right, both_true, or_left, or_right, both_false, differs, same_bytes}
 
 -- what stands nowhere among the rows stands nowhere among some of them
 none_filtered : {T : Type 0} (text : T → List ℕ) (p : T → Bool) (xs : List T) (z : List ℕ) → is_among (map text xs) z ≡ false → is_among (map text (filter p xs)) z ≡ false
@@ -36,7 +36,7 @@ none_inserted (x ∷ xs) ys y z h e = both_false _ _ (or_left _ _ h) (none_inser
 different_inserted : (xs ys : List (List ℕ)) (y : List ℕ) → are_different (xs ++ ys) ≡ true → is_among (xs ++ ys) y ≡ false → are_different (xs ++ y ∷ ys) ≡ true
 different_inserted [] ys y d n = both_true _ _ (ap not n) d
 different_inserted (x ∷ xs) ys y d n =
-    let apart = none_inserted xs ys y x (not_true _ (and_left _ _ d)) (differs x y (or_left _ _ n)) in
+    let apart = none_inserted xs ys y x (not-true _ (and_left _ _ d)) (differs x y (or_left _ _ n)) in
     both_true _ _ (ap not apart) (different_inserted xs ys y (and_right (not (is_among (xs ++ ys) x)) _ d) (or_right (bytes_eq x y) _ n))
 
 -- rows that are told apart, taken out by two tests that none passes both
@@ -45,7 +45,7 @@ parts_different : {T : Type 0} (text : T → List ℕ) (p q : T → Bool) → ((
 parts_different text p q apart [] d = refl
 parts_different {T} text p q apart (x ∷ xs) d =
     let rest = parts_different text p q apart xs (and_right (not (is_among (map text xs) (text x))) _ d) in
-    let alone : is_among (map text xs) (text x) ≡ false = not_true _ (and_left _ _ d) in
+    let alone : is_among (map text xs) (text x) ≡ false = not-true _ (and_left _ _ d) in
     let none : is_among (map text (filter p xs) ++ map text (filter q xs)) (text x) ≡ false = none_in_both (map text (filter p xs)) (map text (filter q xs)) (text x) (none_filtered text p xs (text x) alone) (none_filtered text q xs (text x) alone) in
     let go : (b c : Bool) → p x ≡ b → q x ≡ c → are_different (map text (if b then x ∷ filter p xs else filter p xs) ++ map text (if c then x ∷ filter q xs else filter q xs)) ≡ true = elim [
       | true ↦ elim [
@@ -76,7 +76,7 @@ parts_short {T} p q apart (x ∷ xs) =
     ] in
     go (p x) (q x) refl refl
 
-all_filtered : {T : Type 0} (t p : T → Bool) (xs : List T) → list_all t xs ≡ true → list_all t (filter p xs) ≡ true
+pub all_filtered : {T : Type 0} (t p : T → Bool) (xs : List T) → list_all t xs ≡ true → list_all t (filter p xs) ≡ true
 all_filtered t p [] h = refl
 all_filtered t p (x ∷ xs) h =
     let rest = all_filtered t p xs (and_right (t x) _ h) in
@@ -88,7 +88,7 @@ all_joined t [] ys h k = k
 all_joined t (x ∷ xs) ys h k = both_true _ _ (and_left _ _ h) (all_joined t xs ys (and_right (t x) _ h) k)
 
 -- no account stands on both sides of another
-not_both : (x y : List ℕ) (r : Ordering) → slice_cmp nat_cmp x y ≡ r → is_lt r ≡ true → is_lt (slice_cmp nat_cmp y x) ≡ false
+pub not_both : (x y : List ℕ) (r : Ordering) → slice_cmp nat_cmp x y ≡ r → is_lt r ≡ true → is_lt (slice_cmp nat_cmp y x) ≡ false
 not_both x y Less e h = rw (nat_list_cmp_total.antisymm y x, e) refl
 not_both x y Equal e h = absurd (false≢true h)
 not_both x y Greater e h = absurd (false≢true h)

@@ -7,12 +7,11 @@ use Rattle.std.specs.Str.{bytes_eq}
 use Rattle.std.proofs.lemmas.Bool.{false≢true, eqb-true, eq-eqb}
 use Rattle.std.proofs.lemmas.Slice.Eq.{bytes_eq-Decides}
 use Rattle.contest_types.specs.MomentText.{latest}
-use Rattle.contest_types.specs.Accounts.{account_named}
 use Rattle.contest_types.specs.Clock.{moment_after}
 use Rattle.contest_types.specs.Series.{in_each, count_up, is_new_key}
 use Rattle.contest_types.specs.State.{ContestState, same_addressee, clarifications_to, add, NewClarification, SetStart, SetThaw, SetFinalized}
 use Rattle.contest_types.specs.ValidSubmissions.{has_valid_submissions}
-use Rattle.contest_types.specs.ValidClarifications.{is_an_addressee, has_clarification, is_well_sent, is_valid_clarification, to_one_addressee, is_request, are_valid_clarifications, Scope, OfTeam, OfAccount, same_scope, scope_of, in_one_scope, keys_are_own}
+use Rattle.contest_types.specs.ValidClarifications.{has_clarification, is_valid_clarification, to_one_addressee, is_request, are_valid_clarifications, Scope, OfTeam, OfAccount, same_scope, scope_of, in_one_scope, keys_are_own}
 use Rattle.contest_types.specs.Valid.{is_valid}
 use Rattle.contest_types.specs.Addable.{is_addable, is_next_clarification}
 use Rattle.contest_types.specs.declared.limits.TheConstants.{TEAM_REQUESTS, JURY_CLARIFICATIONS}
@@ -24,7 +23,8 @@ use Rattle.contest_types.proofs.PlaceLemmas.{and_left, and_right, both_true, all
 use Rattle.contest_types.proofs.SetupLemmas.{all_wider}
 use Rattle.contest_types.proofs.SightLemmas.{same_is_one}
 use Rattle.contest_types.proofs.SeriesLemmas.{IsTogether, in_each_push, in_any, some_more, room, count_push}
-use Rattle.contest_types.proofs.ValidParts.{Parts, parts, whole, four, fourth_of_five}
+use Rattle.contest_types.proofs.ValidParts.{Parts, parts, whole, four}
+use Rattle.contest_types.proofs.Tests.{weaker, kept}
 use Rattle.contest_types.proofs.AddLemmas.{next_number, next_key, clock_kept}
 
 pub addressed_itself : (to : Addressee) → same_addressee to to ≡ true
@@ -95,7 +95,7 @@ adding_clarification x c h a =
     let there : (r : Reference) → has_clarification x r ≡ true → has_clarification y r ≡ true =
     λ r. some_more (λ (d : Clarification). same_addressee d.addressee r.addressee && (d.number == r.number)) x.clarifications (c ∷ []) in
     let still : (d : Clarification) → is_valid_clarification x d ≡ true → is_valid_clarification y d ≡ true =
-    λ d. fourth_of_five (is_an_addressee x.fixed d.addressee) (is_some (account_named x.fixed.accounts d.account)) (option_map_or (λ problem. nat_lt problem (length x.fixed.settings.problems)) d.problem true) (option_map_or (has_clarification x) d.reply true) (option_map_or (has_clarification y) d.reply true) (is_well_sent x.fixed d) (replies_kept x y there d.reply) in
+    λ d. weaker (weaker kept (replies_kept x y there d.reply)) kept in
     let alone = list_all (is_valid_clarification x) x.clarifications in
     let numbered = in_each to_one_addressee are_valid_clarifications x.clarifications in
     let keyed = in_each in_one_scope keys_are_own x.clarifications in
@@ -118,7 +118,7 @@ adding_clarification x c h a =
     } in
     whole y result
 
-empty_of : {X : Type 0} (xs : List X) → (length xs == 0) ≡ true → xs ≡ []
+pub empty_of : {X : Type 0} (xs : List X) → (length xs == 0) ≡ true → xs ≡ []
 empty_of [] h = refl
 empty_of (x ∷ xs) h = absurd (omega (arith, eqb-true (length (x ∷ xs)) 0 h))
 

@@ -3,7 +3,7 @@ use Rattle.std.proofs.Common.{◌≡◌, ℕ, ◌+◌, Bool, true, false, List, 
 use Rattle.std.specs.Prelude.{◌&&◌, ◌||◌, ◌==◌, not, nat_le, nat_lt, count_by, is_some}
 use Rattle.std.specs.List.{list_all}
 use Rattle.std.proofs.lemmas.Bool.{false≢true, eqb-true, eq-eqb}
-use Rattle.std.proofs.lemmas.List.{map-append, length-map}
+use Rattle.std.proofs.lemmas.List.{map-append, length-map, length_push}
 use Rattle.contest_types.specs.Clock.{reached, end_of}
 use Rattle.contest_types.specs.Series.{count_up, never_fall, have_own_keys, is_new_key}
 use Rattle.contest_types.specs.State.{ContestState, submissions_of, releases_on, proposals_for, add, NewSubmission, NewProposal, NewRelease}
@@ -19,8 +19,9 @@ use Rattle.contest_types.specs.declared.rejudging.Rejudging.{Rejudging}
 use Rattle.contest_types.specs.declared.rejudging.Member.{Member}
 use Rattle.contest_types.proofs.PlaceLemmas.{and_left, and_right, both_true, all_push}
 use Rattle.contest_types.proofs.SetupLemmas.{all_wider}
-use Rattle.contest_types.proofs.SeriesLemmas.{IsTogether, in_each_push, in_any, some_more, count_up_push, never_fall_push, own_keys_push, room, length_push, count_push, list_all_map}
-use Rattle.contest_types.proofs.ValidParts.{Parts, parts, whole, four, all_four, first_of_two, first_of_three}
+use Rattle.contest_types.proofs.SeriesLemmas.{IsTogether, in_each_push, in_any, some_more, count_up_push, never_fall_push, own_keys_push, room, count_push, list_all_map}
+use Rattle.contest_types.proofs.ValidParts.{Parts, parts, whole, four, all_four}
+use Rattle.contest_types.proofs.Tests.{each_of, weaker, kept}
 
 same_number : (m n k : ℕ) → (n == m) ≡ true → (k == m) ≡ (k == n)
 same_number m n k e = ap (λ t. k == t) (sym (eqb-true n m e))
@@ -61,12 +62,9 @@ submission_follows own s h n =
     let next = four (s.number == length own + 1) (list_all (λ (t : Submission). nat_le t.time s.time) own) (is_new_key (map (λ (t : Submission). t.key) own) s.key) (nat_lt (length own) TEAM_SUBMISSIONS) n in
     all_four _ _ _ _ (next_number (λ (t : Submission). t.number) own s was.first next.first) (next_time own s was.second next.second) (next_key (λ (t : Submission). t.key) own s was.third next.third) (next_room own s TEAM_SUBMISSIONS next.fourth)
 
-started : (start : Option ℕ) (time : ℕ) → reached start time ≡ true → is_some start ≡ true
-started None time h = absurd (false≢true h)
-started (Some m) time h = refl
-
-fourth_of_six : (a b c d e f : Bool) → (a && b && c && d && e && f) ≡ true → d ≡ true
-fourth_of_six a b c d e f v = and_right (a && b && c) d (and_left (a && b && c && d) e (and_left (a && b && c && d && e) f v))
+pub has_start : (start : Option ℕ) (time : ℕ) → reached start time ≡ true → is_some start ≡ true
+has_start None time h = absurd (false≢true h)
+has_start (Some m) time h = refl
 
 -- where the start is set, any row may stand
 pub clock_kept : (end : Bool) (start none : Bool) (some : Bool) → (end && (start || none)) ≡ true → start ≡ true → (end && (start || some)) ≡ true
@@ -82,15 +80,15 @@ adding_submission x s h a =
     let each = and_right (list_all (is_valid_submission x.fixed) x.submissions) _ v.submissions in
     let there : (team number : ℕ) → has_submission x team number ≡ true → has_submission y team number ≡ true =
     λ team number. some_more (λ (t : Submission). (t.team == team) && (t.number == number)) x.submissions (s ∷ []) in
-    let start : is_some x.fixed.marks.start ≡ true = started x.fixed.marks.start s.time (fourth_of_six (nat_lt s.team (length x.fixed.settings.teams)) (nat_lt s.problem (length x.fixed.settings.problems)) (nat_lt s.language (length x.fixed.settings.languages)) (reached x.fixed.marks.start s.time) (not (reached (end_of x.fixed.settings x.fixed.marks) s.time)) (nat_le (length s.file) POSTED_FILE) valid) in
+    let start : is_some x.fixed.marks.start ≡ true = has_start x.fixed.marks.start s.time (each_of (nat_lt s.team (length x.fixed.settings.teams)) (nat_lt s.problem (length x.fixed.settings.problems) ∷ nat_lt s.language (length x.fixed.settings.languages) ∷ reached x.fixed.marks.start s.time ∷ not (reached (end_of x.fixed.settings x.fixed.marks) s.time) ∷ nat_le (length s.file) POSTED_FILE ∷ []) valid 3) in
     let result : Parts y = record {
       settings = v.settings;
       clock = clock_kept _ (is_some x.fixed.marks.start) _ _ v.clock start;
       accounts = v.accounts;
       submissions = both_true _ _ (all_push (is_valid_submission x.fixed) x.submissions s (and_left _ _ v.submissions) valid)
           (in_each_push of_one_team are_valid_submissions one_team x.submissions s each (submission_follows own s (in_any of_one_team are_valid_submissions one_team refl x.submissions s each) next));
-      proposals = first_of_two _ _ _ (all_wider (is_valid_proposal x) (is_valid_proposal y) (λ (p : Proposal). first_of_three _ _ _ _ (there p.team p.number)) x.proposals) v.proposals;
-      releases = first_of_two _ _ _ (all_wider (is_valid_release x) (is_valid_release y) (λ (r : Release). first_of_two _ _ _ (there r.team r.number)) x.releases) v.releases;
+      proposals = weaker (all_wider (is_valid_proposal x) (is_valid_proposal y) (λ (p : Proposal). weaker (weaker (there p.team p.number) kept) kept) x.proposals) kept v.proposals;
+      releases = weaker (all_wider (is_valid_release x) (is_valid_release y) (λ (r : Release). weaker (there r.team r.number) kept) x.releases) kept v.releases;
       clarifications = v.clarifications;
       rejudgings = v.rejudgings;
     } in
@@ -133,7 +131,7 @@ adding_release x r h a =
     let there : (team number : ℕ) → has_release x team number ≡ true → has_release y team number ≡ true =
     λ team number. some_more (λ (w : Release). (w.team == team) && (w.number == number)) x.releases (r ∷ []) in
     let members : (ms : List Member) → list_all (is_valid_member x) ms ≡ true → list_all (is_valid_member y) ms ≡ true =
-    all_wider (is_valid_member x) (is_valid_member y) (λ (m : Member). first_of_two _ _ _ (there m.team m.number)) in
+    all_wider (is_valid_member x) (is_valid_member y) (λ (m : Member). weaker (there m.team m.number) kept) in
     let result : Parts y = record {
       settings = v.settings;
       clock = v.clock;
@@ -144,6 +142,6 @@ adding_release x r h a =
           (in_each_push on_one_submission are_valid_releases one_submission x.releases r each
           (next_number (λ (w : Release). w.round) rs r (in_any on_one_submission are_valid_releases one_submission refl x.releases r each) (and_right (is_valid_release x r) _ a)));
       clarifications = v.clarifications;
-      rejudgings = first_of_three _ _ _ _ (all_wider (is_valid_rejudging x) (is_valid_rejudging y) (λ (j : Rejudging). first_of_three _ _ _ _ (members j.members)) x.rejudgings) v.rejudgings;
+      rejudgings = weaker (weaker (all_wider (is_valid_rejudging x) (is_valid_rejudging y) (λ (j : Rejudging). weaker (weaker (members j.members) kept) kept) x.rejudgings) kept) kept v.rejudgings;
     } in
     whole y result

@@ -2,7 +2,7 @@
 use Rattle.std.proofs.Common.{◌≡◌, ℕ, suc, ◌+◌, Bool, true, false, List, [], ◌∷◌, ◌++◌, length, map, filter, refl, sym, ◌∙◌, ap, subst, append-nil}
 use Rattle.std.specs.Prelude.{◌&&◌, ◌||◌, ◌==◌, not, nat_le, nat_lt, if◌then◌else◌}
 use Rattle.std.specs.List.{list_all, list_any, flat_map}
-use Rattle.std.proofs.lemmas.Bool.{false≢true}
+use Rattle.std.proofs.lemmas.Bool.{false≢true, not-true}
 use Rattle.std.proofs.lemmas.Grind.{flat_map-append}
 use Rattle.std.proofs.lemmas.List.{map-append}
 use Rattle.std.proofs.lemmas.List.Elements.{filter-append}
@@ -152,14 +152,10 @@ none_less (n ∷ ms) ys zs m less h =
     elim [ true ↦ λ k. k | false ↦ λ k. none_less ms ys zs m less k ] in
     go (is_same_member m n) h
 
-not_false : (b : Bool) → not b ≡ true → b ≡ false
-not_false true h = absurd (false≢true h)
-not_false false h = refl
-
 different_less : (ms ys zs : List Member) → ((m : Member) → list_any (is_same_member m) ys ≡ false → list_any (is_same_member m) zs ≡ false) → are_different_members zs ≡ true → are_different_members (ms ++ ys) ≡ true → are_different_members (ms ++ zs) ≡ true
 different_less [] ys zs less d h = d
 different_less (m ∷ ms) ys zs less d h =
-    both_true _ _ (ap not (none_less ms ys zs m (less m) (not_false _ (and_left _ _ h)))) (different_less ms ys zs less d (and_right (not (list_any (is_same_member m) (ms ++ ys))) _ h))
+    both_true _ _ (ap not (none_less ms ys zs m (less m) (not-true _ (and_left _ _ h)))) (different_less ms ys zs less d (and_right (not (list_any (is_same_member m) (ms ++ ys))) _ h))
 
 different_later : (ms ys : List Member) → are_different_members (ms ++ ys) ≡ true → are_different_members ys ≡ true
 different_later [] ys h = h
@@ -205,7 +201,7 @@ setting_rejudging x n state h a =
     let rs = x.rejudgings in
     let change : Rejudging → Rejudging = λ r. record r { state = state } in
     let was = three_parts (list_all (is_valid_rejudging x) rs) (are_different_members (open_members rs)) (nat_le (length rs) REJUDGINGS) v.rejudgings in
-    let fewer : Fewer (open_members rs) (open_members (changed_at 1 n change rs)) = closing change (λ r. not_false (is_open_by state) a) 1 n rs in
+    let fewer : Fewer (open_members rs) (open_members (changed_at 1 n change rs)) = closing change (λ r. not-true (is_open_by state) a) 1 n rs in
     let result : Parts y = record {
       settings = v.settings;
       clock = v.clock;

@@ -23,7 +23,7 @@ not_new : {T : Type 0} (b : Bool) (same : T → T → Bool) (row other : T) → 
 not_new true same row other e h = absurd (cc (rw e at h))
 not_new false same row other e h = absurd (cc (rw e at h))
 
-new_found : {T : Type 0} (same : T → T → Bool) (row : T) (o : Option T) → id_match_by same row o ≡ New → o ≡ None
+pub new_found : {T : Type 0} (same : T → T → Bool) (row : T) (o : Option T) → id_match_by same row o ≡ New → o ≡ None
 new_found same row None h = refl
 new_found same row (Some other) h = absurd (not_new (same other row) same row other refl h)
 

@@ -2,7 +2,7 @@
 use Rattle.std.proofs.Common.{◌≡◌, ◌⊎◌, ℕ, zero, suc, ◌<◌, ◌≤◌, Bool, true, false, [], length, map, refl, sym, ◌∙◌, ap, subst, inl, inr, arith}
 use Rattle.std.specs.Prelude.{nat_le, if◌then◌else◌}
 use Rattle.std.specs.List.{list_any, list_all}
-use Rattle.std.proofs.lemmas.Bool.{false≢true}
+use Rattle.std.proofs.lemmas.Bool.{false≢true, cases_lt}
 use Rattle.std.proofs.lemmas.Bool.Decides.{nat_tests}
 use Rattle.std.proofs.lemmas.Option.{slice_get_past}
 use Rattle.contest_types.specs.Setup.{Setup, refers}
@@ -63,9 +63,6 @@ no_team s team l = rw (slice_get_past s.teams team l) refl
 sees_nothing : (a : Audience) (x : ContestState) (team : ℕ) → is_within a (length x.fixed.settings.teams) ≡ true → length x.fixed.settings.teams ≤ team → sight_of a x team ≡ Nothing
 sees_nothing a x team h l = rw (past_all a _ team h l, no_team x.fixed.settings team l) refl
 
-below_or_past : (k n : ℕ) → (k < n) ⊎ (n ≤ k)
-below_or_past k n = grind arith
-
 -- it is enough to look at the teams and groups that are there
 pub alike_within : (a : Audience) (x y : ContestState) → is_within a (length x.fixed.settings.teams) ≡ true → list_all (refers (length x.fixed.settings.groups)) x.fixed.settings.teams ≡ true → x.fixed ≡ y.fixed
     → AtEach (λ team. sight_of a x team ≡ sight_of a y team) (length x.fixed.settings.teams)
@@ -80,18 +77,18 @@ alike_within a x y w r f sights all groups told =
     let too : (team : ℕ) → length x.fixed.settings.teams ≤ team → length y.fixed.settings.teams ≤ team = λ team. subst (λ (g : FixedPart). length g.settings.teams ≤ team) f in
     let heard : (to : Addressee) → told_of a x to ≡ told_of a y to = elim [
       | addressee.All ↦ all
-      | (addressee.Group group) ↦ elim (below_or_past group (length x.fixed.settings.groups)) [
+      | (addressee.Group group) ↦ elim (cases_lt group (length x.fixed.settings.groups)) [
         | inl l ↦ at_each (λ g. told_of a x (addressee.Group g) ≡ told_of a y (addressee.Group g)) _ groups group l
         | inr l ↦ hears_no_group a x group w r l ∙ sym (hears_no_group a y group w' r' (past group l))
       ]
-      | (addressee.Team team) ↦ elim (below_or_past team (length x.fixed.settings.teams)) [
+      | (addressee.Team team) ↦ elim (cases_lt team (length x.fixed.settings.teams)) [
         | inl l ↦ at_each (λ t. told_of a x (addressee.Team t) ≡ told_of a y (addressee.Team t)) _ told team l
         | inr l ↦ hears_none a x _ team w l ∙ sym (hears_none a y _ team w l)
       ]
     ] in
     record {
       fixed = f;
-      teams = λ team. elim (below_or_past team (length x.fixed.settings.teams)) [
+      teams = λ team. elim (cases_lt team (length x.fixed.settings.teams)) [
         | inl l ↦ at_each (λ t. sight_of a x t ≡ sight_of a y t) _ sights team l
         | inr l ↦ sees_nothing a x team w l ∙ sym (sees_nothing a y team w' (too team l))
       ];

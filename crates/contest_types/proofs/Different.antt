@@ -1,5 +1,5 @@
 -- An id tells the row that has it.
-use Rattle.std.proofs.Common.{◌≡◌, ◌⊎◌, ℕ, zero, suc, ◌<◌, Bool, true, false, ◌||◌, List, [], ◌∷◌, length, map, get_or, slice_get, not, refl, sym, ◌∙◌, arith, inl, inr}
+use Rattle.std.proofs.Common.{◌≡◌, ◌⊎◌, ℕ, zero, suc, ◌<◌, true, false, List, [], ◌∷◌, length, map, get_or, slice_get, not, sym, ◌∙◌, arith, inl, inr}
 use Rattle.std.specs.Option.{option_map_or}
 use Rattle.std.specs.Str.{bytes_eq}
 use Rattle.std.proofs.lemmas.Option.{slice_get-get_or}
@@ -7,21 +7,13 @@ use Rattle.std.proofs.lemmas.List.{get_or-map, length-map}
 use Rattle.std.proofs.lemmas.Slice.Eq.{bytes_eq-Decides}
 use Rattle.std.proofs.lemmas.Bool.{false≢true, not-true}
 use Rattle.contest_types.specs.Places.{is_among, are_different}
-use Rattle.contest_types.proofs.PlaceLemmas.{and_left, and_right}
-
-neither_first : (a b : Bool) → (a || b) ≡ false → a ≡ false
-neither_first true b h = h
-neither_first false b h = refl
-
-neither_second : (a b : Bool) → (a || b) ≡ false → b ≡ false
-neither_second true b h = absurd (false≢true (sym h))
-neither_second false b h = h
+use Rattle.contest_types.proofs.PlaceLemmas.{and_left, and_right, or_left, or_right}
 
 -- a text that isn't among the texts is none of them
 unlike : (xs : List (List ℕ)) (x : List ℕ) → is_among xs x ≡ false → (j : ℕ) (d : List ℕ) → j < length xs → bytes_eq (get_or xs j d) x ≡ false
 unlike [] x h j d l = absurd (omega (arith, l))
-unlike (y ∷ ys) x h zero d l = neither_first _ _ h
-unlike (y ∷ ys) x h (suc j) d l = unlike ys x (neither_second (bytes_eq y x) _ h) j d (omega (arith, l))
+unlike (y ∷ ys) x h zero d l = or_left _ _ h
+unlike (y ∷ ys) x h (suc j) d l = unlike ys x (or_right (bytes_eq y x) _ h) j d (omega (arith, l))
 
 -- different texts stand at different places
 apart : (xs : List (List ℕ)) → are_different xs ≡ true → (i j : ℕ) (d : List ℕ) → i < j → j < length xs → get_or xs i d ≡ get_or xs j d → ⊥
@@ -32,7 +24,7 @@ apart (x ∷ xs) h zero (suc j) d l m e =
     false≢true (sym off ∙ (bytes_eq-Decides (get_or xs j d) x).1 (sym e))
 apart (x ∷ xs) h (suc i) (suc j) d l m e = apart xs (and_right (not (is_among xs x)) _ h) i j d (omega (arith, l)) (omega (arith, m)) e
 
-compared : (a b : ℕ) → (a < b) ⊎ ((a ≡ b) ⊎ (b < a))
+pub compared : (a b : ℕ) → (a < b) ⊎ ((a ≡ b) ⊎ (b < a))
 compared a b = grind arith
 
 id_at : {T : Type 0} (id : T → List ℕ) (rows : List T) (d : T) (i : ℕ) → i < length rows → option_map_or id (slice_get rows i) [] ≡ get_or (map id rows) i []

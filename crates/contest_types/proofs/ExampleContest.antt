@@ -2,6 +2,7 @@
 -- four teams of which the last is hidden.
 use Rattle.std.proofs.Common.{zero, suc}
 use Rattle.std.specs.Prelude.{ℕ, ◌*◌, Bool, true, false, List, [], ◌∷◌, Option, Some, None, codes}
+use Rattle.contest_types.specs.PlainRows.{plain_language, plain_problem, plain_submission, plain_team, plain_type}
 use Rattle.contest_types.specs.Setup.{Setup}
 use Rattle.contest_types.specs.State.{ContestState}
 use Rattle.contest_types.specs.declared.contest.ContestHead.{ContestHead}
@@ -50,19 +51,19 @@ abbrev pub compile_error : ℕ
 compile_error = 2
 
 abbrev pub team_named : (id name : List ℕ) → (hidden : Bool) → Team
-team_named id name hidden = record { id = id; name = name; groups = []; hidden = hidden }
+team_named id name hidden = record (plain_team id name) { hidden = hidden }
 
 abbrev pub settings : Setup
 settings = record {
   head = head;
   types =
-      record { id = codes "AC"; name = codes "correct"; solved = true; penalty = false }
-      ∷ record { id = codes "WA"; name = codes "wrong answer"; solved = false; penalty = true }
-      ∷ record { id = codes "CE"; name = codes "compile error"; solved = false; penalty = false } ∷ [];
-  languages = record { id = codes "cpp"; name = codes "C++"; entry_point_required = false } ∷ record { id = codes "java"; name = codes "Java"; entry_point_required = true } ∷ [];
+      plain_type (codes "AC") (codes "correct") true false
+      ∷ plain_type (codes "WA") (codes "wrong answer") false true
+      ∷ plain_type (codes "CE") (codes "compile error") false false ∷ [];
+  languages = plain_language (codes "cpp") (codes "C++") ∷ record (plain_language (codes "java") (codes "Java")) { entry_point_required = true } ∷ [];
   problems =
-      record { id = codes "a"; label = codes "A"; name = codes "Apples"; ordinal = 0 }
-      ∷ record { id = codes "b"; label = codes "B"; name = codes "Bridges"; ordinal = 1 } ∷ [];
+      plain_problem (codes "a") (codes "A") (codes "Apples") 0
+      ∷ plain_problem (codes "b") (codes "B") (codes "Bridges") 1 ∷ [];
   groups = [];
   teams =
       team_named (codes "t1") (codes "Alpha") false ∷ team_named (codes "t2") (codes "Beta") false
@@ -97,7 +98,7 @@ thawed_at x thaw = record x { fixed = record x.fixed { marks = record x.fixed.ma
 
 -- a team's submission at a problem
 abbrev pub submitted : (team number time problem : ℕ) → Submission
-submitted team number time problem = record { team = team; number = number; time = time; problem = problem; language = 0; entry_point = None; file = []; key = None }
+submitted team number time problem = plain_submission team number time problem 0
 
 -- a verdict on it
 abbrev pub released : (team number round verdict time : ℕ) → Release

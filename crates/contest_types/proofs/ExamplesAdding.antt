@@ -2,6 +2,7 @@
 use Rattle.std.proofs.Common.{◌≡◌, ℕ, ◌+◌, ◌-◌, List, [], ◌∷◌, map, refl, Some, None, true, false}
 use Rattle.std.specs.Prelude.{codes, Ok, Err}
 use Rattle.std.specs.List.{list_any, list_all, range_with_len}
+use Rattle.contest_types.specs.PlainRows.{plain_group, plain_language, plain_problem, plain_team, plain_type}
 use Rattle.contest_types.specs.State.{ContestState, new_contest, Entry, NewSubmission, NewProposal, NewRelease, NewClarification, NewRejudging, SetMember, SetRejudging, SetStart, SetThaw, SetFinalized, NewType, NewLanguage, NewProblem, NewGroup, NewTeam, NewAccount}
 use Rattle.contest_types.specs.Addable.{is_addable}
 use Rattle.contest_types.specs.Judging.{next_release, last_proposal}
@@ -24,10 +25,10 @@ may_be_added =
     ∷ NewClarification (asked 0 3 5) ∷ NewClarification (announced 2 5 None) ∷ NewRejudging (rejudged 0 1 wrong state.Open)
     ∷ SetMember 1 0 (member.Proposed accepted (codes "j2")) ∷ SetMember 1 0 (member.Ready wrong) ∷ SetRejudging 1 state.Applied
     ∷ SetThaw 9 ∷ SetFinalized 9
-    ∷ NewType (record { id = codes "RE"; name = codes "run error"; solved = false; penalty = true })
-    ∷ NewLanguage (record { id = codes "py"; name = codes "Python"; entry_point_required = false })
-    ∷ NewProblem (record { id = codes "c"; label = codes "C"; name = codes "Cakes"; ordinal = 0 })
-    ∷ NewGroup (record { id = codes "n"; name = codes "North" })
+    ∷ NewType (plain_type (codes "RE") (codes "run error") false true)
+    ∷ NewLanguage (plain_language (codes "py") (codes "Python"))
+    ∷ NewProblem (plain_problem (codes "c") (codes "C") (codes "Cakes") 0)
+    ∷ NewGroup (plain_group (codes "n") (codes "North"))
     ∷ NewTeam (team_named (codes "t4") (codes "Delta") false) ∷ NewAccount (account_for (codes "adm") role.Admin) ∷ []
 
 all_may : list_all (is_addable base) may_be_added ≡ true
@@ -44,17 +45,17 @@ may_not =
     ∷ NewClarification (asked 0 4 5) ∷ NewClarification (record (asked 0 3 5) { account = codes "a2" }) ∷ NewClarification (announced 1 5 None)
     ∷ NewRejudging (rejudged 1 2 wrong state.Open) ∷ SetMember 1 0 (member.Ready 3) ∷ SetMember 1 0 (member.Proposed wrong (codes "j3")) ∷ SetRejudging 1 state.Open
     ∷ SetStart None ∷ SetStart (Some 5)
-    ∷ NewType (record { id = codes "AC"; name = codes "correct"; solved = true; penalty = false })
-    ∷ NewLanguage (record { id = codes "cpp"; name = codes "C"; entry_point_required = false })
-    ∷ NewProblem (record { id = codes "c"; label = codes "A"; name = codes "Cakes"; ordinal = 0 })
-    ∷ NewTeam (record { id = codes "t4"; name = codes "Delta"; groups = 0 ∷ []; hidden = false })
+    ∷ NewType (plain_type (codes "AC") (codes "correct") true false)
+    ∷ NewLanguage (plain_language (codes "cpp") (codes "C"))
+    ∷ NewProblem (plain_problem (codes "c") (codes "A") (codes "Cakes") 0)
+    ∷ NewTeam (record (plain_team (codes "t4") (codes "Delta")) { groups = 0 ∷ [] })
     ∷ NewAccount (account_for (codes "j1") role.Admin) ∷ NewAccount (account_for (codes "import") role.Judge) ∷ NewAccount (account_for (codes "a4") (role.Team 4)) ∷ []
 
 none_may : list_any (is_addable base) may_not ≡ false
 none_may = refl
 
 -- a second group of the same id, a token that is held, and a second imported proposal
-same_group_not : is_addable (record base { fixed = record base.fixed { settings = record base.fixed.settings { groups = record { id = codes "n"; name = codes "North" } ∷ [] } } }) (NewGroup (record { id = codes "n"; name = codes "South" })) ≡ false
+same_group_not : is_addable (record base { fixed = record base.fixed { settings = record base.fixed.settings { groups = plain_group (codes "n") (codes "North") ∷ [] } } }) (NewGroup (plain_group (codes "n") (codes "South"))) ≡ false
 same_group_not = refl
 
 token_held : is_addable base (NewAccount (record (account_for (codes "adm") role.Admin) { digest = codes "j1" })) ≡ false

@@ -4,6 +4,7 @@ use Rattle.std.proofs.Common.{◌≡◌, ℕ, List, [], ◌∷◌, refl, Some, N
 use Rattle.std.specs.Prelude.{codes}
 use Rattle.std.specs.Fmt.{digits}
 use Rattle.std.specs.List.{list_any}
+use Rattle.contest_types.specs.PlainRows.{plain_group}
 use Rattle.contest_types.specs.Setup.{Setup}
 use Rattle.contest_types.specs.State.{ContestState, NewClarification}
 use Rattle.contest_types.specs.Alike.{OpenClarification, Alike}
@@ -24,7 +25,7 @@ in_group group t = record t { groups = group ∷ [] }
 
 abbrev grouped : Setup
 grouped = record settings {
-  groups = record { id = codes "north"; name = codes "North" } ∷ record { id = codes "south"; name = codes "South" } ∷ [];
+  groups = plain_group (codes "north") (codes "North") ∷ plain_group (codes "south") (codes "South") ∷ [];
   teams =
       in_group 0 (team_named (codes "t1") (codes "Alpha") false) ∷ in_group 1 (team_named (codes "t2") (codes "Beta") false)
       ∷ in_group 0 (team_named (codes "t3") (codes "Gamma") false) ∷ team_named (codes "t9") (codes "Staff") true ∷ [];

@@ -3,6 +3,7 @@ use Rattle.std.proofs.Common.{◌≡◌, ℕ, true, false, List, [], ◌∷◌, 
 use Rattle.std.specs.Prelude.{◌&&◌, codes, count_by, nat_le, Ok, Err}
 use Rattle.std.specs.List.{list_all, range_with_len}
 use Rattle.std.proofs.lemmas.Bool.{and_right}
+use Rattle.contest_types.specs.PlainRows.{plain_group, plain_language, plain_problem, plain_type}
 use Rattle.contest_types.specs.Setup.{Setup}
 use Rattle.contest_types.specs.Accounts.{account_addition}
 use Rattle.contest_types.specs.SetupAdditions.{type_addition, language_addition, problem_addition, group_addition, team_addition}
@@ -39,7 +40,7 @@ with_settings s = record empty { fixed = record empty.fixed { settings = s } }
 
 -- 40 judgement types: a new one is added to 39, and an equal one adds nothing to 40
 abbrev a_type : ℕ → JudgementType
-a_type n = record { id = n ∷ []; name = codes "wrong answer"; solved = false; penalty = true }
+a_type n = plain_type (n ∷ []) (codes "wrong answer") false true
 
 abbrev with_types : ℕ → Setup
 with_types n = record settings { types = rows a_type n }
@@ -80,7 +81,7 @@ teams_past = refl
 
 -- 40 languages, 40 problems and 50 groups
 abbrev a_language : ℕ → Language
-a_language n = record { id = n ∷ []; name = codes "C++"; entry_point_required = false }
+a_language n = plain_language (n ∷ []) (codes "C++")
 
 abbrev with_languages : ℕ → Setup
 with_languages n = record settings { languages = rows a_language n }
@@ -95,7 +96,7 @@ languages_past : has_valid_settings (with_settings (with_languages 41)) ≡ fals
 languages_past = refl
 
 abbrev a_problem : ℕ → Problem
-a_problem n = record { id = n ∷ []; label = n ∷ []; name = codes "Apples"; ordinal = n }
+a_problem n = plain_problem (n ∷ []) (n ∷ []) (codes "Apples") n
 
 abbrev with_problems : ℕ → Setup
 with_problems n = record settings { problems = rows a_problem n }
@@ -110,7 +111,7 @@ problems_past : has_valid_settings (with_settings (with_problems 41)) ≡ false
 problems_past = refl
 
 abbrev a_group : ℕ → Group
-a_group n = record { id = n ∷ []; name = codes "North" }
+a_group n = plain_group (n ∷ []) (codes "North")
 
 abbrev with_groups : ℕ → Setup
 with_groups n = record settings { groups = rows a_group n }

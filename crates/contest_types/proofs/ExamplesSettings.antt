@@ -2,6 +2,7 @@
 use Rattle.std.proofs.Common.{◌≡◌, ℕ, ◌+◌, List, [], ◌∷◌, refl, Some, None, true, false, map}
 use Rattle.std.specs.Prelude.{codes, Ok, Err}
 use Rattle.std.specs.List.{list_any, list_all}
+use Rattle.contest_types.specs.PlainRows.{plain_problem, plain_team}
 use Rattle.contest_types.specs.Setup.{Setup}
 use Rattle.contest_types.specs.Accounts.{with_account, account_named, account_addition}
 use Rattle.contest_types.specs.Additions.{addition_by}
@@ -48,28 +49,28 @@ bad_lists =
     with_settings (record settings { teams = team_named (codes "t1") (codes "Alpha") false ∷ team_named (codes "t1") (codes "Beta") false ∷ [] })
     ∷ with_settings (record settings {
       problems =
-          record { id = codes "a"; label = codes "A"; name = codes "Apples"; ordinal = 0 }
-          ∷ record { id = codes "b"; label = codes "A"; name = codes "Bridges"; ordinal = 1 } ∷ [];
+          plain_problem (codes "a") (codes "A") (codes "Apples") 0
+          ∷ plain_problem (codes "b") (codes "A") (codes "Bridges") 1 ∷ [];
     })
-    ∷ with_settings (record settings { teams = record { id = codes "t1"; name = codes "Alpha"; groups = 0 ∷ []; hidden = false } ∷ [] }) ∷ []
+    ∷ with_settings (record settings { teams = record (plain_team (codes "t1") (codes "Alpha")) { groups = 0 ∷ [] } ∷ [] }) ∷ []
 
 no_lists : list_any has_valid_settings bad_lists ≡ false
 no_lists = refl
 
 -- adding: a new row, an equal one, another under its id, another with its label, one for which there is no room
-new_problem : problem_addition settings (record { id = codes "c"; label = codes "C"; name = codes "Cakes"; ordinal = 2 }) ≡ Ok true
+new_problem : problem_addition settings (plain_problem (codes "c") (codes "C") (codes "Cakes") 2) ≡ Ok true
 new_problem = refl
 
-same_problem_again : problem_addition settings (record { id = codes "a"; label = codes "A"; name = codes "Apples"; ordinal = 0 }) ≡ Ok false
+same_problem_again : problem_addition settings (plain_problem (codes "a") (codes "A") (codes "Apples") 0) ≡ Ok false
 same_problem_again = refl
 
-other_problem : problem_addition settings (record { id = codes "a"; label = codes "A"; name = codes "Pears"; ordinal = 0 }) ≡ Err KeyReused
+other_problem : problem_addition settings (plain_problem (codes "a") (codes "A") (codes "Pears") 0) ≡ Err KeyReused
 other_problem = refl
 
-label_held : problem_addition settings (record { id = codes "c"; label = codes "A"; name = codes "Cakes"; ordinal = 2 }) ≡ Err KeyReused
+label_held : problem_addition settings (plain_problem (codes "c") (codes "A") (codes "Cakes") 2) ≡ Err KeyReused
 label_held = refl
 
-unknown_group : team_addition settings (record { id = codes "t5"; name = codes "Delta"; groups = 0 ∷ []; hidden = false }) ≡ Err UnknownReference
+unknown_group : team_addition settings (record (plain_team (codes "t5") (codes "Delta")) { groups = 0 ∷ [] }) ≡ Err UnknownReference
 unknown_group = refl
 
 -- a full table takes no new row, and refuses no equal one

@@ -72,7 +72,7 @@ hears_with_team s t (audience.Team number) (addressee.Group group) h = both_true
 hears_with_team s t audience.Jury (addressee.Group group) h = refl
 hears_with_team s t a (addressee.Team team) h = h
 
-not_below : (g n group : ℕ) → nat_lt g n ≡ true → n ≤ group → (g == group) ≡ false
+pub not_below : (g n group : ℕ) → nat_lt g n ≡ true → n ≤ group → (g == group) ≡ false
 not_below g n group h l = grind (arith, nat_tests)
 
 in_none : (gs : List ℕ) (n group : ℕ) → list_all (λ g. nat_lt g n) gs ≡ true → n ≤ group → list_any (λ g. g == group) gs ≡ false

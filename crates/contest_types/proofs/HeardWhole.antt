@@ -6,7 +6,7 @@ use Rattle.std.specs.List.{list_all, flat_map, range_with_len}
 use Rattle.std.specs.Option.{option_map_or}
 use Rattle.std.specs.Ordering.{is_lt}
 use Rattle.std.specs.declared.cmp.Ordering.TheVariants.{Equal}
-use Rattle.std.proofs.lemmas.Bool.{false≢true}
+use Rattle.std.proofs.lemmas.Bool.{false≢true, leb-true, ltb-true}
 use Rattle.std.proofs.lemmas.Fmt.{decimal_injective}
 use Rattle.std.proofs.lemmas.List.{append_assoc, length-map}
 use Rattle.std.proofs.lemmas.Map.Lookups.{exact_bytes}
@@ -27,15 +27,14 @@ use Rattle.contest_types.specs.declared.clarification.Clarification.{Clarificati
 use Rattle.contest_types.specs.declared.clarification.Addressee.{Addressee}
 use Rattle.contest_types.specs.declared.clarification.Addressee.TheVariants.{All as ToAll, Group as ToGroup, Team as ToTeam}
 use Rattle.contest_types.proofs.AddClarification.{addressed_itself, one_addressee}
-use Rattle.contest_types.proofs.AddSettings.{tests_of}
+use Rattle.contest_types.proofs.SettingsTest.{is_settings}
 use Rattle.contest_types.proofs.DashedNumbers.{dashed, undashed}
 use Rattle.contest_types.proofs.InOrderLemmas.{count_more, nothing_added, nothing_lost, flat_has, has_flat, has_front, has_back, has_map, map_has, has_filter, filter_has}
 use Rattle.contest_types.proofs.OrderLemmas.{same_order}
 use Rattle.contest_types.proofs.PlaceLemmas.{and_left, and_right}
 use Rattle.contest_types.proofs.Rising.{strict}
-use Rattle.contest_types.proofs.SeenWhole.{all_has, below, both_equal, clarification_order, has_below, has_team, heard_rises, not_greater, one_row}
+use Rattle.contest_types.proofs.SeenWhole.{all_has, both_equal, clarification_order, has_below, has_team, heard_rises, not_greater, one_row}
 use Rattle.contest_types.proofs.SeriesLemmas.{in_any}
-use Rattle.contest_types.proofs.SettingsTest.{at_most}
 use Rattle.contest_types.proofs.SightLemmas.{same_is_one}
 use Rattle.contest_types.proofs.ValidParts.{parts}
 
@@ -67,7 +66,7 @@ few_of cs h =
     let all : numbers ≡ range_with_len 1 (length numbers) = (bytes_eq-Decides numbers (range_with_len 1 (length numbers))).0 (and_left (count_up numbers) requests two) in
     record {
       numbers = all ∙ ap (range_with_len 1) (length-map cs (λ (c : Clarification). c.number));
-      few = omega (arith, in_both cs, at_most (count_by is_request cs) TEAM_REQUESTS (and_right (count_up numbers) requests two), at_most (count_by from_jury cs) JURY_CLARIFICATIONS (and_right (count_up numbers && requests) jury h));
+      few = omega (arith, in_both cs, leb-true (count_by is_request cs) TEAM_REQUESTS (and_right (count_up numbers) requests two), leb-true (count_by from_jury cs) JURY_CLARIFICATIONS (and_right (count_up numbers && requests) jury h));
     }
 
 -- the tests of the clarifications, of each alone and of those of one addressee
@@ -85,7 +84,7 @@ tests x valid =
       series = λ c. few_of (clarifications_to c.addressee x.clarifications) (in_any to_one_addressee are_valid_clarifications one_addressee refl x.clarifications c (and_right alone numbered two));
     }
 
-first_of_five : (a b c d e : Bool) → (a && b && c && d && e) ≡ true → a ≡ true
+pub first_of_five : (a b c d e : Bool) → (a && b && c && d && e) ≡ true → a ≡ true
 first_of_five a b c d e v = and_left a b (and_left (a && b) c (and_left (a && b && c) d (and_left (a && b && c && d) e v)))
 
 -- it goes to all, or to a group or a team that is there
@@ -97,9 +96,9 @@ goes_to x c valid h =
 has_addressee : (f : FixedPart) (p : Addressee) → is_an_addressee f p ≡ true → Has (addressees f.settings) p
 has_addressee f ToAll h = inl refl
 has_addressee f (ToGroup group) h =
-    inr (has_front (map ToGroup (group_places f.settings)) (map ToTeam (team_places f.settings)) (ToGroup group) (has_map ToGroup (group_places f.settings) group (has_below (length f.settings.groups) group (below group (length f.settings.groups) h))))
+    inr (has_front (map ToGroup (group_places f.settings)) (map ToTeam (team_places f.settings)) (ToGroup group) (has_map ToGroup (group_places f.settings) group (has_below (length f.settings.groups) group (ltb-true group (length f.settings.groups) h))))
 has_addressee f (ToTeam team) h =
-    inr (has_back (map ToGroup (group_places f.settings)) (map ToTeam (team_places f.settings)) (ToTeam team) (has_map ToTeam (team_places f.settings) team (has_team f.settings team (below team (length f.settings.teams) h))))
+    inr (has_back (map ToGroup (group_places f.settings)) (map ToTeam (team_places f.settings)) (ToTeam team) (has_map ToTeam (team_places f.settings) team (has_team f.settings team (ltb-true team (length f.settings.teams) h))))
 
 pub own_number : (x : ContestState) (c : Clarification) → is_valid x ≡ true → Has x.clarifications c → c.number ≤ TEAM_REQUESTS + JURY_CLARIFICATIONS
 own_number x c valid h =
@@ -122,8 +121,8 @@ pub record HasFew (f : FixedPart) : Type 0 where
 
 pub has_few : (x : ContestState) → is_valid x ≡ true → HasFew x.fixed
 has_few x valid =
-    let tests = tests_of x (parts x valid).settings in
-    record { teams = at_most _ TEAMS tests.few_teams; groups = at_most _ GROUPS tests.few_groups }
+    let s = is_settings x (parts x valid).settings in
+    record { teams = s.few_teams; groups = s.few_groups }
 
 -- a number, a `-` and another number tell both, where the first is one more than a place
 both_numbers : (i j m n most : ℕ) → i ≤ most → j ≤ most → most < 2 ^ 63 → m < 2 ^ 64 → n < 2 ^ 64
@@ -140,11 +139,11 @@ all_or_group group m n l e = undashed (group + 1) (decimal m) (decimal n) (omega
 pub one_id : (f : FixedPart) (p q : Addressee) (m n : ℕ) → HasFew f → is_an_addressee f p ≡ true → is_an_addressee f q ≡ true
     → m < 2 ^ 64 → n < 2 ^ 64 → clarification_id p m ≡ clarification_id q n → (same_addressee p q ≡ true) × (m ≡ n)
 one_id f ToAll ToAll m n few hp hq lm ln e = (refl, decimal_injective m n lm ln (cc e))
-one_id f ToAll (ToGroup h) m n few hp hq lm ln e = (let there = below h (length f.settings.groups) hq in absurd (all_or_group h m n (omega (arith, few.groups, there)) (cc e)))
-one_id f (ToGroup g) ToAll m n few hp hq lm ln e = (let there = below g (length f.settings.groups) hp in absurd (all_or_group g n m (omega (arith, few.groups, there)) (cc e)))
+one_id f ToAll (ToGroup h) m n few hp hq lm ln e = (let there = ltb-true h (length f.settings.groups) hq in absurd (all_or_group h m n (omega (arith, few.groups, there)) (cc e)))
+one_id f (ToGroup g) ToAll m n few hp hq lm ln e = (let there = ltb-true g (length f.settings.groups) hp in absurd (all_or_group g n m (omega (arith, few.groups, there)) (cc e)))
 one_id f (ToGroup g) (ToGroup h) m n few hp hq lm ln e =
-    let there_g = below g (length f.settings.groups) hp in
-    let there_h = below h (length f.settings.groups) hq in
+    let there_g = ltb-true g (length f.settings.groups) hp in
+    let there_h = ltb-true h (length f.settings.groups) hq in
     let both = both_numbers g h m n GROUPS (omega (arith, few.groups, there_g)) (omega (arith, few.groups, there_h)) (omega arith) lm ln (cc e) in
     (subst (λ z. same_addressee (ToGroup g) (ToGroup z) ≡ true) both.0 (addressed_itself (ToGroup g)), both.1)
 one_id f (ToGroup g) (ToTeam u) m n few hp hq lm ln e = (let heads : jury_letter ≡ team_letter = cc e in absurd (omega (arith, heads)))
@@ -152,8 +151,8 @@ one_id f (ToTeam t) (ToGroup h) m n few hp hq lm ln e = (let heads : team_letter
 one_id f ToAll (ToTeam u) m n few hp hq lm ln e = (let heads : jury_letter ≡ team_letter = cc e in absurd (omega (arith, heads)))
 one_id f (ToTeam t) ToAll m n few hp hq lm ln e = (let heads : team_letter ≡ jury_letter = cc e in absurd (omega (arith, heads)))
 one_id f (ToTeam t) (ToTeam u) m n few hp hq lm ln e =
-    let there_t = below t (length f.settings.teams) hp in
-    let there_u = below u (length f.settings.teams) hq in
+    let there_t = ltb-true t (length f.settings.teams) hp in
+    let there_u = ltb-true u (length f.settings.teams) hq in
     let both = both_numbers t u m n TEAMS (omega (arith, few.teams, there_t)) (omega (arith, few.teams, there_u)) (omega arith) lm ln (cc e) in
     (subst (λ z. same_addressee (ToTeam t) (ToTeam z) ≡ true) both.0 (addressed_itself (ToTeam t)), both.1)
 

@@ -38,7 +38,7 @@ count_front p ys k l pass fail =
     let back : count_by p (drop k ys) ≡ 0 = count_none p (drop k ys) (λ i d h. rw get_or-drop (fail (k + i) d (omega arith) (omega arith))) in
     sym (sum_by-take-drop (λ x. cond (p x) 1 0) ys k) ∙ (rw (front, back) (add-zero k))
 
-in_tail : {X : Type 0} (x : X) (xs : List X) (y : X) → Contains (x ∷ xs) y → (x ≡ y) ⊎ Contains xs y
+pub in_tail : {X : Type 0} (x : X) (xs : List X) (y : X) → Contains (x ∷ xs) y → (x ≡ y) ⊎ Contains xs y
 in_tail x xs y (zero, l, e) = inl e
 in_tail x xs y (suc k, l, e) = inr (k, omega arith, e)
 

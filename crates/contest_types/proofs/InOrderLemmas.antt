@@ -2,8 +2,8 @@
 use Rattle.std.proofs.Common.{◌≡◌, ◌⊎◌, ℕ, zero, suc, ◌+◌, ◌<◌, ◌≤◌, Bool, true, false, cond, List, [], ◌∷◌, ◌++◌, length, map, filter, Option, Some, None, refl, sym, ap, subst, ◌∙◌, inl, inr, arith, add-zero}
 use Rattle.std.specs.Prelude.{◌==◌, find, count_by, if◌then◌else◌}
 use Rattle.std.specs.List.{cons_option, filter_map, flat_map, range_with_len}
-use Rattle.std.specs.Cmp.{IsTotalOrder}
-use Rattle.std.specs.Ordering.{is_lt, ordering_reverse}
+use Rattle.std.specs.Cmp.{IsTotalOrder, Equal-is}
+use Rattle.std.specs.Ordering.{is_eq, is_lt, ordering_reverse}
 use Rattle.std.specs.declared.cmp.Ordering.{Ordering}
 use Rattle.std.specs.declared.cmp.Ordering.TheVariants.{Less, Equal, Greater}
 use Rattle.std.proofs.lemmas.Bool.{cases_Bool, false≢true, eqb-true, eq-eqb}
@@ -27,7 +27,7 @@ one_le : (b c : Bool) → (b ≡ true → c ≡ true) → cond b 1 0 ≤ cond c 
 one_le true c h = rw (h refl) (omega arith)
 one_le false c h = omega arith
 
-count_le : {X : Type 0} (p q : X → Bool) (xs : List X) → ((x : X) → p x ≡ true → q x ≡ true) → count_by p xs ≤ count_by q xs
+pub count_le : {X : Type 0} (p q : X → Bool) (xs : List X) → ((x : X) → p x ≡ true → q x ≡ true) → count_by p xs ≤ count_by q xs
 count_le p q xs weaker = sum_by-le-sum_by (λ x. cond (p x) 1 0) (λ x. cond (q x) 1 0) xs (λ x. one_le (p x) (q x) (weaker x))
 
 -- one that passes only the second test makes its count greater
@@ -44,6 +44,9 @@ pub is_less : (o : Ordering) → is_lt o ≡ true → o ≡ Less
 is_less Less h = refl
 is_less Equal h = absurd (false≢true h)
 is_less Greater h = absurd (false≢true h)
+
+pub is_equal : (o : Ordering) → is_eq o ≡ true → o ≡ Equal
+is_equal o h = (Equal-is o).0 h
 
 pub place_less : {X : Type 0} {R : X → X → Ordering} (o : IsTotalOrder R) (xs : List X) (x y : X) → Has xs x → R x y ≡ Less → place_in R xs x < place_in R xs y
 place_less {X} {R} o xs x y there e =
@@ -124,7 +127,7 @@ pub has_back : {X : Type 0} (xs ys : List X) (x : X) → Has ys x → Has (xs ++
 has_back [] ys x h = h
 has_back (y ∷ xs) ys x h = inr (has_back xs ys x h)
 
-has_either : {X : Type 0} (xs ys : List X) (x : X) → Has (xs ++ ys) x → Has xs x ⊎ Has ys x
+pub has_either : {X : Type 0} (xs ys : List X) (x : X) → Has (xs ++ ys) x → Has xs x ⊎ Has ys x
 has_either [] ys x h = inr h
 has_either (y ∷ xs) ys x h = elim h [ inl e ↦ inl (inl e) | inr t ↦ elim (has_either xs ys x t) [ inl i ↦ inl (inr i) | inr k ↦ inr k ] ]
 

@@ -24,7 +24,7 @@ from_some f (x ∷ xs) y h =
     let later : FromSome f xs y → FromSome f (x ∷ xs) y = λ r. record { item = r.item; there = inr r.there; gives = r.gives } in
     elim (option_has (f x) (filter_map f xs) y h) [ inl e ↦ record { item = x; there = inl refl; gives = e } | inr t ↦ later (from_some f xs y t) ]
 
-some_from : {X Y : Type 0} (f : X → Option Y) (xs : List X) (x : X) (y : Y) → Has xs x → f x ≡ Some y → Has (filter_map f xs) y
+pub some_from : {X Y : Type 0} (f : X → Option Y) (xs : List X) (x : X) (y : Y) → Has xs x → f x ≡ Some y → Has (filter_map f xs) y
 some_from f [] x y h e = absurd h
 some_from f (z ∷ xs) x y h e = has_option (f z) (filter_map f xs) y (elim h [ inl same ↦ inl (subst (λ w. f w ≡ Some y) same e) | inr t ↦ inr (some_from f xs x y t e) ])
 

@@ -1,4 +1,7 @@
 pub mod PlaceLemmas
+pub mod Tests
+pub mod Filters
+pub mod Ranges
 pub mod AdditionLemmas
 pub mod CopyLemmas
 pub mod SetupLemmas
@@ -30,6 +33,7 @@ pub mod AddLemmas
 pub mod AddClarification
 pub mod AddRejudging
 pub mod AccountLemmas
+pub mod GrownSettings
 pub mod AddSettings
 pub mod AddRows
 pub mod AddEntry
@@ -45,6 +49,7 @@ pub mod KeyOrder
 pub mod ProblemOrder
 pub mod InOrderLemmas
 pub mod LastLemmas
+pub mod WordLemmas
 pub mod Rising
 pub mod SeenWhole
 pub mod DashedNumbers

@@ -2,7 +2,7 @@
 use Rattle.std.proofs.Common.{◌≡◌, List, [], ◌∷◌, refl, sym, subst, Bool, true, inl, inr}
 use Rattle.contest_types.specs.Order.{IsStrict, Has, IsBefore, IsInOrder}
 
-before_each : {X : Type 0} (before : X → X → Bool) (x : X) (ys : List X) (y : X) → IsBefore before x ys → Has ys y → before x y ≡ true
+pub before_each : {X : Type 0} (before : X → X → Bool) (x : X) (ys : List X) (y : X) → IsBefore before x ys → Has ys y → before x y ≡ true
 before_each before x [] y b h = absurd h
 before_each before x (z ∷ zs) y b h = elim h [ inl e ↦ rw e (b.0) | inr t ↦ before_each before x zs y b.1 t ]
 

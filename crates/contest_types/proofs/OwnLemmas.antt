@@ -6,9 +6,11 @@ use Rattle.std.proofs.lemmas.Bool.{false≢true, eqb-true, eq-eqb}
 use Rattle.std.proofs.lemmas.Bool.Decides.{nat_tests}
 use Rattle.std.proofs.lemmas.List.{length-map}
 use Rattle.std.proofs.lemmas.Slice.Eq.{bytes_eq-Decides}
+use Rattle.contest_types.specs.PlainRows.{plain_submission}
 use Rattle.contest_types.specs.Setup.{Setup}
 use Rattle.contest_types.specs.Series.{count_up, never_fall, have_own_keys}
 use Rattle.contest_types.specs.Order.{Has, IsInOrder}
+use Rattle.contest_types.specs.Loads.{without_file}
 use Rattle.contest_types.specs.Masks.{audience_at, knows_all_of}
 use Rattle.contest_types.specs.State.{ContestState, submissions_of}
 use Rattle.contest_types.specs.Sight.{Program, SeenSubmission, seen_submission, seen_submissions, hears}
@@ -75,8 +77,16 @@ pub by_time : (x : ContestState) (team : ℕ) → is_valid x ≡ true → IsInOr
 by_time x team v =
     let own = submissions_of team x.submissions in
     let numbers : List ℕ = map (λ (s : Submission). s.number) own in
-    let any : Submission = record { team = team; number = 0; time = 0; problem = 0; language = 0; entry_point = None; file = []; key = None } in
+    let any : Submission = plain_submission team 0 0 0 0 in
     let series : are_valid_submissions own ≡ true = in_any of_one_team are_valid_submissions one_team refl x.submissions any (and_right (list_all (is_valid_submission x.fixed) x.submissions) _ (parts x v).submissions) in
     let tests = four (count_up numbers) (never_fall (map (λ (s : Submission). s.time) own)) (have_own_keys (map (λ (s : Submission). s.key) own)) (nat_le (length own) TEAM_SUBMISSIONS) series in
     let all : numbers ≡ range_with_len 1 (length numbers) = (bytes_eq-Decides numbers (range_with_len 1 (length numbers))).0 tests.first in
     in_time 1 own (all ∙ ap (range_with_len 1) (length-map own (λ (s : Submission). s.number))) tests.second
+
+-- a team's rows without their files
+pub own_loaded : (team : ℕ) (ss : List Submission) → submissions_of team (map without_file ss) ≡ map without_file (submissions_of team ss)
+own_loaded team [] = refl
+own_loaded team (s ∷ ss) =
+    let go : (b : Bool) → (if b then without_file s ∷ submissions_of team (map without_file ss) else submissions_of team (map without_file ss)) ≡ map without_file (if b then s ∷ submissions_of team ss else submissions_of team ss) =
+    elim [ true ↦ ap (λ rows. without_file s ∷ rows) (own_loaded team ss) | false ↦ own_loaded team ss ] in
+    go (s.team == team)

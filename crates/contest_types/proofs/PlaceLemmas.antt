@@ -7,7 +7,8 @@ use Rattle.std.specs.Global.{Vec}
 use Rattle.std.specs.Map.{IsKeyTest, AreApart, KeepsOthers, lookup}
 use Rattle.std.specs.HashMap.{HashMap, get_by, UpdatesBy}
 use Rattle.std.specs.Cmp.Lexicographic.{pointwise}
-use Rattle.std.proofs.lemmas.Bool.{cases_Bool, false≢true}
+use Rattle.std.proofs.lemmas.Bool.{cases_Bool, false≢true, not-true}
+pub use Rattle.std.proofs.lemmas.Bool.{and_from as both_true, or_from as both_false}
 use Rattle.std.proofs.lemmas.List.{map-append, length-map}
 use Rattle.std.proofs.lemmas.Slice.Eq.{bytes_eq-Decides}
 use Rattle.std.proofs.lemmas.Cmp.{nat_list_eq_equiv}
@@ -22,9 +23,6 @@ pub and_right : (a b : Bool) → (a && b) ≡ true → b ≡ true
 and_right true b h = h
 and_right false b h = absurd (false≢true h)
 
-pub both_true : (a b : Bool) → a ≡ true → b ≡ true → (a && b) ≡ true
-both_true a b g h = rw (g, h) refl
-
 pub or_left : (a b : Bool) → (a || b) ≡ false → a ≡ false
 or_left true b h = h
 or_left false b h = refl
@@ -33,15 +31,11 @@ pub or_right : (a b : Bool) → (a || b) ≡ false → b ≡ false
 or_right true b h = absurd (false≢true (sym h))
 or_right false b h = h
 
-pub both_false : (a b : Bool) → a ≡ false → b ≡ false → (a || b) ≡ false
-both_false a b g h = rw (g, h) refl
-
-pub not_true : (a : Bool) → not a ≡ true → a ≡ false
-not_true true h = absurd (false≢true h)
-not_true false h = refl
-
 pub same_bytes : (x y : List ℕ) → bytes_eq x y ≡ true → x ≡ y
 same_bytes x y h = (bytes_eq-Decides x y).0 h
+
+pub bytes_same : (xs : List ℕ) → bytes_eq xs xs ≡ true
+bytes_same xs = (bytes_eq-Decides xs xs).1 refl
 
 pub differs : (x y : List ℕ) → bytes_eq x y ≡ false → bytes_eq y x ≡ false
 differs x y h = elim (cases_Bool (bytes_eq y x)) [
@@ -67,7 +61,7 @@ among_push (x ∷ xs) y z h e = both_false _ _ (or_left _ _ h) (among_push xs y 
 pub different_push : (xs : List (List ℕ)) (y : List ℕ) → are_different xs ≡ true → is_among xs y ≡ false → are_different (xs ++ y ∷ []) ≡ true
 different_push [] y d h = refl
 different_push (x ∷ xs) y d h =
-    let apart = among_push xs y x (not_true _ (and_left _ _ d)) (differs x y (or_left _ _ h)) in
+    let apart = among_push xs y x (not-true _ (and_left _ _ d)) (differs x y (or_left _ _ h)) in
     both_true _ _ (ap not apart) (different_push xs y (and_right (not (is_among xs x)) _ d) (or_right (bytes_eq x y) _ h))
 
 -- a new id stands behind the others

@@ -1,38 +1,31 @@
 -- A relative time that is read is the one that the text shows.
-use Rattle.std.proofs.Common.{ℕ, ℤ, ◌≡◌, ◌+◌, ◌-◌, ◌*◌, ◌<◌, ◌≤◌, inl, inr, Bool, true, false, List, [], ◌∷◌, ◌++◌, length, take, drop, get_or, Option, Some, None, refl, sym, ap, subst, ◌∙◌, arith}
+use Rattle.std.proofs.Common.{ℕ, ℤ, ◌≡◌, ◌+◌, ◌-◌, ◌*◌, ◌<◌, inl, inr, Bool, true, false, List, [], ◌∷◌, ◌++◌, length, take, drop, get_or, Option, Some, None, refl, sym, ap, subst, ◌∙◌, arith}
 use Rattle.std.specs.Prelude.{◌&&◌, nat_lt, nat_le, nat_eq, IfSome, IfNone}
 use Rattle.std.specs.Option.{option_and_then, option_map}
 use Rattle.std.specs.List.{list_all}
 use Rattle.std.specs.Char.{digit_value}
 use Rattle.std.specs.Str.Parse.{IsNumeral, AllDigits, digits_value}
 use Rattle.std.proofs.Math.Seq.{get_or-append_seam}
-use Rattle.std.proofs.lemmas.Bool.{false≢true, eqb-true, eq-eqb}
-use Rattle.std.proofs.lemmas.Bool.Decides.{nat_tests}
+use Rattle.std.proofs.lemmas.Bool.{false≢true, eqb-true, eq-eqb, ltb-true, lt-ltb, leb-true, ltb-false, leb-false}
 use Rattle.std.proofs.lemmas.List.{append_assoc, length-append, take-append-drop, drop_more, drop_at, take_at, length-drop}
 use Rattle.contest_types.specs.RelTimeText.{farthest, Field, IsSplit, IsClock, IsRelTimeText, sign, signed}
 use Rattle.contest_types.specs.RelTimeRead.{are_digits, has_field, field_of, or_whole, total_of, clock_of, reltime_of}
 use Rattle.contest_types.proofs.PlaceLemmas.{and_left, and_right, both_true}
 use Rattle.contest_types.proofs.RelTimeLemmas.{closed, no_seconds, no_minutes, no_hours, no_sixty, one_total, one_shown, no_clock}
 
-below : (m n : ℕ) → nat_lt m n ≡ true → m < n
-below m n h = grind (arith, nat_tests)
-
-is_below : (m n : ℕ) → m < n → nat_lt m n ≡ true
-is_below m n h = grind (arith, nat_tests)
-
-all_digits : (ds : List ℕ) → list_all (λ c. nat_lt (digit_value c) 10) ds ≡ true → AllDigits 10 ds
+pub all_digits : (ds : List ℕ) → list_all (λ c. nat_lt (digit_value c) 10) ds ≡ true → AllDigits 10 ds
 all_digits [] h = tt
-all_digits (d ∷ ds) h = (below (digit_value d) 10 (and_left _ _ h), all_digits ds (and_right (nat_lt (digit_value d) 10) _ h))
+all_digits (d ∷ ds) h = (ltb-true (digit_value d) 10 (and_left _ _ h), all_digits ds (and_right (nat_lt (digit_value d) 10) _ h))
 
-digits_all : (ds : List ℕ) → AllDigits 10 ds → list_all (λ c. nat_lt (digit_value c) 10) ds ≡ true
+pub digits_all : (ds : List ℕ) → AllDigits 10 ds → list_all (λ c. nat_lt (digit_value c) 10) ds ≡ true
 digits_all [] h = refl
-digits_all (d ∷ ds) h = both_true _ _ (is_below (digit_value d) 10 h.0) (digits_all ds h.1)
+digits_all (d ∷ ds) h = both_true _ _ (lt-ltb (digit_value d) 10 h.0) (digits_all ds h.1)
 
 pub numeral : (ds : List ℕ) → are_digits ds ≡ true → IsNumeral 10 ds
-numeral ds h = (below 0 (length ds) (and_left _ _ h), all_digits ds (and_right (nat_lt 0 (length ds)) _ h))
+numeral ds h = (ltb-true 0 (length ds) (and_left _ _ h), all_digits ds (and_right (nat_lt 0 (length ds)) _ h))
 
 pub are_numeral : (ds : List ℕ) → IsNumeral 10 ds → are_digits ds ≡ true
-are_numeral ds h = both_true _ _ (is_below 0 (length ds) h.0) (digits_all ds h.1)
+are_numeral ds h = both_true _ _ (lt-ltb 0 (length ds) h.0) (digits_all ds h.1)
 
 -- the parts of a text at a mark
 pub record Parts (text : List ℕ) (m n : ℕ) (front digits : List ℕ) : Type 0 where
@@ -49,7 +42,7 @@ parts text front ds m n whole long =
     let one : length (front ++ m ∷ []) ≡ length front + 1 = omega (arith, length-append front (m ∷ [])) in
     let split : text ≡ (front ++ m ∷ []) ++ ds = whole ∙ sym (append_assoc front (m ∷ []) ds) in
     record {
-      there = is_below n (length text) (omega arith);
+      there = lt-ltb n (length text) (omega arith);
       mark = rw (at, whole) (get_or-append_seam front m ds 0);
       before = rw (at, whole) (take_at front (m ∷ ds) (length front) refl);
       behind = rw (cut, split) (drop_at (front ++ m ∷ []) ds (length front + 1) one);
@@ -69,7 +62,7 @@ field_there text m n front v f =
 -- a field that is read is there
 field_is : (text : List ℕ) (m n : ℕ) → has_field text m n ≡ true → Field text m n (take (length text - n - 1) text) (digits_value 10 (drop (length text - n) text))
 field_is text m n h =
-    let l : n < length text = below n (length text) (and_left _ _ (and_left _ _ h)) in
+    let l : n < length text = ltb-true n (length text) (and_left _ _ (and_left _ _ h)) in
     let mark : get_or text (length text - n - 1) 0 ≡ m = eqb-true _ _ (and_right (nat_lt n (length text)) _ (and_left _ _ h)) in
     let i = length text - n - 1 in
     let next : i + 1 ≡ length text - n = omega arith in
@@ -102,9 +95,6 @@ total_found : (hours : List ℕ) (m s t n : ℕ) (b : Bool) → (are_digits hour
 total_found hours m s t n true h e = (refl, cc (rw h at e))
 total_found hours m s t n false h e = absurd (cc (rw h at e))
 
-at_most : (m n : ℕ) → nat_le m n ≡ true → m ≤ n
-at_most m n h = grind (arith, nat_tests)
-
 read_minutes : (text rest front : List ℕ) (t s n : ℕ) → IsSplit text rest t → Field rest 58 2 front s → (o : Option (List ℕ × ℕ)) → field_of front 58 2 ≡ o → option_and_then (λ m. total_of m.0 m.1 s t) o ≡ Some n → IsClock text n
 read_minutes text rest front t s n split seconds None h e = absurd (cc e)
 read_minutes text rest front t s n split seconds (Some m) h e =
@@ -113,9 +103,9 @@ read_minutes text rest front t s n split seconds (Some m) h e =
     let b = r.0 in
     let sum = r.1 in
     let digits = numeral m.0 (and_left _ _ (and_left _ _ (and_left _ _ b))) in
-    let low_minutes = below m.1 60 (and_right (are_digits m.0) _ (and_left _ _ (and_left _ _ b))) in
-    let low_seconds = below s 60 (and_right (are_digits m.0 && nat_lt m.1 60) _ (and_left _ _ b)) in
-    let high = at_most _ farthest (and_right (are_digits m.0 && nat_lt m.1 60 && nat_lt s 60) _ b) in
+    let low_minutes = ltb-true m.1 60 (and_right (are_digits m.0) _ (and_left _ _ (and_left _ _ b))) in
+    let low_seconds = ltb-true s 60 (and_right (are_digits m.0 && nat_lt m.1 60) _ (and_left _ _ b)) in
+    let high = leb-true _ farthest (and_right (are_digits m.0 && nat_lt m.1 60 && nat_lt s 60) _ b) in
     closed text rest front m.0 n t s m.1 split seconds minutes digits low_minutes low_seconds (sym sum) (omega (arith, sum, high))
 
 read_seconds : (text rest : List ℕ) (t n : ℕ) → IsSplit text rest t → (o : Option (List ℕ × ℕ)) → field_of rest 58 2 ≡ o → option_and_then (λ s. option_and_then (λ m. total_of m.0 m.1 s.1 t) (field_of s.0 58 2)) o ≡ Some n → IsClock text n
@@ -126,21 +116,15 @@ read_seconds text rest t n split (Some s) h e = read_minutes text rest s.0 t s.1
 pub clock_read : (text : List ℕ) (n : ℕ) → clock_of text ≡ Some n → IsClock text n
 clock_read text n e = let p = or_whole text (field_of text 46 3) in read_seconds text p.0 p.1 n (split_at text _ refl) (field_of p.0 58 2) refl e
 
-not_below : (m n : ℕ) → nat_lt m n ≡ false → n ≤ m
-not_below m n h = grind (arith, nat_tests)
-
-above : (m n : ℕ) → nat_le m n ≡ false → n < m
-above m n h = grind (arith, nat_tests)
-
 -- where no total is found, one of its ranges fails
 no_total : (text rest front hours : List ℕ) (t s m n : ℕ) → IsSplit text rest t → Field rest 58 2 front s → Field front 58 2 hours m → (a b c d : Bool)
     → are_digits hours ≡ a → nat_lt m 60 ≡ b → nat_lt s 60 ≡ c → nat_le (digits_value 10 hours * 3_600_000 + m * 60_000 + s * 1_000 + t) farthest ≡ d → total_of hours m s t ≡ None → IsClock text n → ⊥
 no_total text rest front hours t s m n split seconds minutes false b c d ea eb ec ed e h = no_hours text rest front hours t s m split seconds minutes (λ k. false≢true (sym ea ∙ are_numeral hours k.0)) n h
-no_total text rest front hours t s m n split seconds minutes true false c d ea eb ec ed e h = no_sixty text rest front hours t s m split seconds minutes (inl (not_below m 60 eb)) n h
-no_total text rest front hours t s m n split seconds minutes true true false d ea eb ec ed e h = no_sixty text rest front hours t s m split seconds minutes (inr (not_below s 60 ec)) n h
+no_total text rest front hours t s m n split seconds minutes true false c d ea eb ec ed e h = no_sixty text rest front hours t s m split seconds minutes (inl (ltb-false m 60 eb)) n h
+no_total text rest front hours t s m n split seconds minutes true true false d ea eb ec ed e h = no_sixty text rest front hours t s m split seconds minutes (inr (ltb-false s 60 ec)) n h
 no_total text rest front hours t s m n split seconds minutes true true true false ea eb ec ed e h =
     let sum = one_total text rest front hours t s m n split seconds minutes h in
-    let high = above _ farthest ed in
+    let high = leb-false _ farthest ed in
     omega (arith, sum, high, h.4)
 no_total text rest front hours t s m n split seconds minutes true true true true ea eb ec ed e h = absurd (cc (rw (ea, eb, ec, ed) at e))
 

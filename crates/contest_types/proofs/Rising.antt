@@ -11,7 +11,7 @@ use Rattle.std.proofs.lemmas.Bool.{false≢true, eqb-true}
 use Rattle.contest_types.specs.Order.{Has, IsBefore, IsInOrder, IsStrict, place_in, in_order}
 use Rattle.contest_types.proofs.InOrderLemmas.{is_less, place_less, find_has, option_has}
 
-place_tied : {X : Type 0} {R : X → X → Ordering} (o : IsTotalOrder R) (xs : List X) (x y : X) → R x y ≡ Equal → place_in R xs x ≡ place_in R xs y
+pub place_tied : {X : Type 0} {R : X → X → Ordering} (o : IsTotalOrder R) (xs : List X) (x y : X) → R x y ≡ Equal → place_in R xs x ≡ place_in R xs y
 place_tied {X} {R} o xs x y e =
     let same : (z : X) → is_lt (R z x) ≡ is_lt (R z y) = λ z. ap is_lt (o.antisymm z x ∙ (ap ordering_reverse (o.congr x y z e) ∙ sym (o.antisymm z y))) in
     ap (λ p. count_by p xs) (fun_ext same)

@@ -1,15 +1,14 @@
 -- In a valid contest all that an audience may see of submissions is listed, and nothing else.
 use Rattle.std.proofs.Common.{◌≡◌, ℕ, zero, suc, ◌+◌, ◌<◌, ◌≤◌, Bool, true, false, List, [], ◌∷◌, length, map, refl, sym, ap, subst, ◌∙◌, inl, inr, arith, add-zero}
-use Rattle.std.specs.Prelude.{◌↔◌, ◌&&◌, ◌==◌, not, nat_lt, nat_le, if◌then◌else◌}
+use Rattle.std.specs.Prelude.{◌↔◌, ◌==◌, not, nat_lt, nat_le, if◌then◌else◌}
 use Rattle.std.specs.List.{list_all, flat_map, range_with_len}
 use Rattle.std.specs.Cmp.{IsTotalOrder}
-use Rattle.std.specs.Ordering.{nat_cmp, ordering_then, is_lt}
+use Rattle.std.specs.Ordering.{ordering_then, is_lt}
 use Rattle.std.specs.declared.cmp.Ordering.{Ordering}
 use Rattle.std.specs.declared.cmp.Ordering.TheVariants.{Less, Equal, Greater}
-use Rattle.std.proofs.lemmas.Bool.{false≢true, eqb-true, eq-eqb}
-use Rattle.std.proofs.lemmas.Bool.Decides.{nat_tests}
+use Rattle.std.proofs.lemmas.Bool.{false≢true, eqb-true, eq-eqb, ltb-true}
 use Rattle.std.proofs.lemmas.Cmp.{nat_cmp_total, nat_list_cmp_total, then_total, on_total}
-use Rattle.std.proofs.lemmas.Map.Lookups.{exact_bytes}
+use Rattle.std.proofs.lemmas.Map.Lookups.{exact_bytes, exact_unsigned}
 use Rattle.std.proofs.lemmas.Slice.Eq.{bytes_eq-Decides}
 use Rattle.std.proofs.lemmas.List.{length-map}
 use Rattle.contest_types.specs.Clock.{reached, end_of}
@@ -32,7 +31,8 @@ use Rattle.contest_types.proofs.Different.{one_place}
 use Rattle.contest_types.proofs.SeriesLemmas.{in_any}
 use Rattle.contest_types.proofs.ValidParts.{parts}
 use Rattle.contest_types.proofs.AddLemmas.{one_team}
-use Rattle.contest_types.proofs.AddSettings.{tests_of}
+use Rattle.contest_types.proofs.SettingsTest.{is_settings}
+use Rattle.contest_types.proofs.Tests.{each_of}
 use Rattle.contest_types.proofs.OrderLemmas.{same_order}
 use Rattle.contest_types.proofs.Rising.{rising, strict}
 use Rattle.contest_types.proofs.InOrderLemmas.{nothing_added, nothing_lost, flat_has, has_flat, has_map, map_has, has_filter, filter_has}
@@ -45,11 +45,8 @@ both_equal Less b h = absurd (cc h)
 both_equal Equal b h = (refl, h)
 both_equal Greater b h = absurd (cc h)
 
-pub same_nat : (m n : ℕ) → nat_cmp m n ≡ Equal → m ≡ n
-same_nat m n h = grind (arith, nat_tests)
-
 -- each place is listed
-has_place : (first n k : ℕ) → k < n → Has (range_with_len first n) (first + k)
+pub has_place : (first n k : ℕ) → k < n → Has (range_with_len first n) (first + k)
 has_place first zero k l = absurd (omega (arith, l))
 has_place first (suc n) zero l = inl (add-zero first)
 has_place first (suc n) (suc k) l =
@@ -66,9 +63,6 @@ has_team s team l = has_below (length s.teams) team l
 pub all_has : {X : Type 0} (p : X → Bool) (xs : List X) (x : X) → list_all p xs ≡ true → Has xs x → p x ≡ true
 all_has p [] x a h = absurd h
 all_has p (y ∷ xs) x a h = elim h [ inl e ↦ ap p e ∙ and_left _ _ a | inr t ↦ all_has p xs x (and_right (p y) _ a) t ]
-
-pub below : (m n : ℕ) → nat_lt m n ≡ true → m < n
-below m n h = grind (arith, nat_tests)
 
 -- of rows that count up from a first number, none has a smaller one
 pub not_smaller : {X : Type 0} (number : X → ℕ) (first : ℕ) (xs : List X) (x : X) → map number xs ≡ range_with_len first (length xs) → Has xs x → first ≤ number x
@@ -120,13 +114,10 @@ from_gathered a now x v h = let r = has_flat (seen_of_team a now x) (team_places
 pub listed_seen : (a : Audience) (now : ℕ) (x : ContestState) (v : SeenSubmission) → Has (seen_submissions a now x) v → IsSeen a now x v
 listed_seen a now x v h = from_gathered a now x v (nothing_added (submission_cmp x.fixed.settings) (gathered a now x) v h)
 
-first_of_six : (a b c d e f : Bool) → (a && b && c && d && e && f) ≡ true → a ≡ true
-first_of_six a b c d e f v = and_left a b (and_left (a && b) c (and_left (a && b && c) d (and_left (a && b && c && d) e (and_left (a && b && c && d && e) f v))))
-
 pub team_there : (x : ContestState) (s : Submission) → is_valid x ≡ true → Has x.submissions s → s.team < length x.fixed.settings.teams
 team_there x s v h =
     let alone = all_has (is_valid_submission x.fixed) x.submissions s (and_left _ _ (parts x v).submissions) h in
-    below s.team (length x.fixed.settings.teams) (first_of_six (nat_lt s.team (length x.fixed.settings.teams)) (nat_lt s.problem (length x.fixed.settings.problems)) (nat_lt s.language (length x.fixed.settings.languages)) (reached x.fixed.marks.start s.time) (not (reached (end_of x.fixed.settings x.fixed.marks) s.time)) (nat_le (length s.file) POSTED_FILE) alone)
+    ltb-true s.team (length x.fixed.settings.teams) (each_of (nat_lt s.team (length x.fixed.settings.teams)) (nat_lt s.problem (length x.fixed.settings.problems) ∷ nat_lt s.language (length x.fixed.settings.languages) ∷ reached x.fixed.marks.start s.time ∷ not (reached (end_of x.fixed.settings x.fixed.marks) s.time) ∷ nat_le (length s.file) POSTED_FILE ∷ []) alone 0)
 
 -- one team has one submission with a number
 pub one_submission : (x : ContestState) (s t : Submission) → is_valid x ≡ true → Has x.submissions s → Has x.submissions t → s.team ≡ t.team → s.number ≡ t.number → s ≡ t
@@ -147,8 +138,8 @@ no_ties a now x valid v w iv iw e =
     ap (λ z. submission_cmp s z (seen_submission a now x iv.submission)) (sym iw.shown) ∙ (ap (submission_cmp s w) (sym iv.shown) ∙ e) in
     let rest = (both_equal _ _ e').1 in
     let ids = exact_bytes _ _ (both_equal _ _ rest).0 in
-    let number = same_nat _ _ (both_equal _ _ rest).1 in
-    let team : iw.submission.team ≡ iv.submission.team = one_place (λ (t : Team). t.id) s.teams (tests_of x (parts x valid).settings).teams iw.submission.team iv.submission.team (team_there x iw.submission valid iw.there) (team_there x iv.submission valid iv.there) ids in
+    let number = exact_unsigned _ _ (both_equal _ _ rest).1 in
+    let team : iw.submission.team ≡ iv.submission.team = one_place (λ (t : Team). t.id) s.teams (is_settings x (parts x valid).settings).teams iw.submission.team iv.submission.team (team_there x iw.submission valid iw.there) (team_there x iv.submission valid iv.there) ids in
     iw.shown ∙ (ap (seen_submission a now x) (one_submission x iw.submission iv.submission valid iw.there iv.there team number) ∙ sym iv.shown)
 
 pub seen_listed : (a : Audience) (now : ℕ) (x : ContestState) → is_valid x ≡ true → (v : SeenSubmission) → IsSeen a now x v → Has (seen_submissions a now x) v

@@ -1,28 +1,20 @@
 -- Rows that belong together, as one more comes to them.
-use Rattle.std.proofs.Common.{◌≡◌, ◌⊎◌, ℕ, zero, suc, ◌+◌, Bool, true, false, List, [], ◌∷◌, ◌++◌, length, map, filter, Option, Some, None, refl, sym, ◌∙◌, ap, inl, inr, arith, append-nil}
-use Rattle.std.specs.Prelude.{not, nat_le, nat_lt, count_by, cond, if◌then◌else◌}
+use Rattle.std.proofs.Common.{◌≡◌, ◌⊎◌, ℕ, suc, ◌+◌, Bool, true, false, List, [], ◌∷◌, ◌++◌, length, map, filter, Option, Some, None, refl, sym, ◌∙◌, ap, inl, inr, arith, append-nil}
+use Rattle.std.specs.Prelude.{nat_le, nat_lt, count_by, cond}
 use Rattle.std.specs.List.{list_all, list_any, filter_map, range_with_len}
-use Rattle.std.proofs.lemmas.Bool.{cases_Bool, false≢true}
+use Rattle.std.proofs.lemmas.Bool.{cases_Bool, not-true}
 use Rattle.std.proofs.lemmas.Bool.Decides.{nat_tests}
 use Rattle.std.proofs.lemmas.List.{length-append}
-use Rattle.std.proofs.lemmas.List.Elements.{filter-append, filter_map-append}
+use Rattle.std.proofs.lemmas.List.Elements.{filter-append, filter_map-append, filter_agree}
 use Rattle.std.proofs.lemmas.List.Folds.{list_any-append}
 use Rattle.std.proofs.lemmas.List.Sums.{sum_by_push}
 use Rattle.std.proofs.lemmas.Slice.Eq.{bytes_eq-Decides}
 use Rattle.contest_types.specs.Series.{in_each, count_up, never_fall, have_own_keys, is_new_key}
 use Rattle.contest_types.proofs.PlaceLemmas.{and_left, and_right, both_true, different_push, all_push}
 use Rattle.contest_types.proofs.SetupLemmas.{all_wider}
+use Rattle.contest_types.proofs.Placed.{range_more}
 
--- tests that agree keep the same
-pub filter_same : {X : Type 0} (p q : X → Bool) → ((x : X) → p x ≡ q x) → (xs : List X) → filter p xs ≡ filter q xs
-filter_same p q h [] = refl
-filter_same p q h (x ∷ xs) =
-    let rest = filter_same p q h xs in
-    let go : (b : Bool) → (if b then x ∷ filter p xs else filter p xs) ≡ (if b then x ∷ filter q xs else filter q xs) =
-    elim [ true ↦ ap (λ r. x ∷ r) rest | false ↦ rest ] in
-    rw (h x) (go (q x))
-
-filter_one_more : {X : Type 0} (p : X → Bool) (xs : List X) (y : X) (b : Bool) → p y ≡ b → filter p (xs ++ y ∷ []) ≡ filter p xs ++ cond b (y ∷ []) []
+pub filter_one_more : {X : Type 0} (p : X → Bool) (xs : List X) (y : X) (b : Bool) → p y ≡ b → filter p (xs ++ y ∷ []) ≡ filter p xs ++ cond b (y ∷ []) []
 filter_one_more p xs y b e = filter-append p xs (y ∷ []) ∙ (rw e refl)
 
 -- rows belong together with the same rows
@@ -35,7 +27,7 @@ pub in_each_push : {X : Type 0} (together : X → X → Bool) (test : List X →
     → in_each together test xs ≡ true → test (filter (together y) xs ++ y ∷ []) ≡ true → in_each together test (xs ++ y ∷ []) ≡ true
 in_each_push {X} together test t xs y h next =
     let with_y : (x : X) → together x y ≡ true → test (filter (together x) (xs ++ y ∷ [])) ≡ true =
-    λ x e. rw (filter_one_more (together x) xs y true e, filter_same (together x) (together y) (λ z. t.same x y z e) xs) next in
+    λ x e. rw (filter_one_more (together x) xs y true e, filter_agree (together x) (together y) (λ z. t.same x y z e) xs) next in
     let without : (x : X) → together x y ≡ false → test (filter (together x) xs) ≡ true → test (filter (together x) (xs ++ y ∷ [])) ≡ true =
     λ x e g. rw (filter_one_more (together x) xs y false e, append-nil (filter (together x) xs)) g in
     let wider : (x : X) → test (filter (together x) xs) ≡ true → test (filter (together x) (xs ++ y ∷ [])) ≡ true =
@@ -58,17 +50,13 @@ pub in_any : {X : Type 0} (together : X → X → Bool) (test : List X → Bool)
     → in_each together test xs ≡ true → test (filter (together y) xs) ≡ true
 in_any together test t empty xs y h = elim (reach (together y) xs) [
   | inl none ↦ rw none empty
-  | inr (x, e, all) ↦ (rw (filter_same (together y) (together x) (λ z. t.same y x z e) xs) (all (λ z. test (filter (together z) xs)) h))
+  | inr (x, e, all) ↦ (rw (filter_agree (together y) (together x) (λ z. t.same y x z e) xs) (all (λ z. test (filter (together z) xs)) h))
 ]
 
 pub some_more : {X : Type 0} (p : X → Bool) (xs ys : List X) → list_any p xs ≡ true → list_any p (xs ++ ys) ≡ true
 some_more p xs ys h = list_any-append p xs ys ∙ (rw h refl)
 
 -- the next number
-range_more : (a n : ℕ) → range_with_len a (suc n) ≡ range_with_len a n ++ (a + n) ∷ []
-range_more a zero = let e : a ≡ a + 0 = omega arith in ap (λ k. k ∷ []) e
-range_more a (suc n) = let e : (a + 1) + n ≡ a + suc n = omega arith in ap (λ xs. a ∷ xs) (rw e at (range_more (a + 1) n))
-
 pub count_up_push : (ns : List ℕ) (n : ℕ) → count_up ns ≡ true → n ≡ length ns + 1 → count_up (ns ++ n ∷ []) ≡ true
 count_up_push ns n h e =
     let all : ns ≡ range_with_len 1 (length ns) = (bytes_eq-Decides ns (range_with_len 1 (length ns))).0 h in
@@ -85,20 +73,13 @@ never_fall_push [] t h l = refl
 never_fall_push (u ∷ ts) t h l =
     both_true _ _ (all_push (nat_le u) ts t (and_left _ _ h) (and_left _ _ l)) (never_fall_push ts t (and_right (list_all (nat_le u) ts) _ h) (and_right (nat_le u t) _ l))
 
-not_true : (b : Bool) → not b ≡ true → b ≡ false
-not_true true h = absurd (false≢true h)
-not_true false h = refl
-
 -- a new key
 pub own_keys_push : (keys : List (Option (List ℕ))) (key : Option (List ℕ)) → have_own_keys keys ≡ true → is_new_key keys key ≡ true → have_own_keys (keys ++ key ∷ []) ≡ true
 own_keys_push keys None h e = rw (filter_map-append (λ k. k) keys (None ∷ []), append-nil (filter_map (λ k. k) keys)) h
-own_keys_push keys (Some key) h e = rw (filter_map-append (λ k. k) keys (Some key ∷ [])) (different_push (filter_map (λ k. k) keys) key h (not_true _ e))
+own_keys_push keys (Some key) h e = rw (filter_map-append (λ k. k) keys (Some key ∷ [])) (different_push (filter_map (λ k. k) keys) key h (not-true _ e))
 
 pub room : (n most : ℕ) → nat_lt n most ≡ true → nat_le (n + 1) most ≡ true
 room n most h = grind (arith, nat_tests)
-
-pub length_push : {X : Type 0} (xs : List X) (x : X) → length (xs ++ x ∷ []) ≡ length xs + 1
-length_push xs x = length-append xs (x ∷ [])
 
 pub count_push : {X : Type 0} (p : X → Bool) (xs : List X) (x : X) (b : Bool) → p x ≡ b → count_by p (xs ++ x ∷ []) ≡ count_by p xs + cond b 1 0
 count_push p xs x b h = sum_by_push (λ y. cond (p y) 1 0) xs x ∙ ap (λ v. count_by p xs + cond v 1 0) h

@@ -2,6 +2,7 @@
 use Rattle.std.proofs.Common.{◌≡◌, ℕ, ◌+◌, Bool, true, false, cond, ltb, leb, List, [], ◌∷◌, length, Option, Some, None, refl, ◌∙◌, arith}
 use Rattle.std.specs.Prelude.{◌==◌, ◌&&◌, ◌||◌, not, nat_le, nat_lt, find, count_by, Ok, Err, if◌then◌else◌}
 use Rattle.std.proofs.lemmas.Bool.Decides.{nat_tests}
+use Rattle.std.proofs.lemmas.Bool.{or_right}
 use Rattle.contest_types.specs.State.{ContestState, of_proposal, proposals_for, NewProposal}
 use Rattle.contest_types.specs.ValidSubmissions.{is_valid_proposal, is_imported}
 use Rattle.contest_types.specs.ValidRejudgings.{has_release}
@@ -25,7 +26,7 @@ record IsTaken (valid : Bool) (earlier : Option Proposal) (full : Bool) : Type 0
   none : earlier ≡ None
   room : full ≡ false
 
-same_or_other : (b : Bool) → (if b then Ok false else Err KeyReused) ≡ Ok true → ⊥
+pub same_or_other : (b : Bool) → (if b then Ok false else Err KeyReused) ≡ Ok true → ⊥
 same_or_other true h = cc h
 same_or_other false h = cc h
 
@@ -42,10 +43,6 @@ taken p true None false released h = record { valid_is = refl; none = refl; room
 has_room : (m n : ℕ) → leb m n ≡ false → ltb n m ≡ true
 has_room m n h = grind (arith, nat_tests)
 
-either : (b c : Bool) → c ≡ true → (b || c) ≡ true
-either true c h = refl
-either false c h = h
-
 both : (b c d : Bool) → b ≡ true → c ≡ true → d ≡ true → (b && (c && d)) ≡ true
 both b c d i j k = rw (i, j, k) refl
 
@@ -54,4 +51,4 @@ imported_is_addable x p h =
     let ps = proposals_for p.team p.number x.proposals in
     let t = taken p (is_valid_proposal x p) (imported_for x (of_proposal p)) (nat_le PROPOSALS (length ps)) (has_release x p.team p.number) h in
     let none : (count_by is_imported ps == 0) ≡ true = rw (none_counted ps t.none) refl in
-    both (is_valid_proposal x p) (nat_lt (length ps) PROPOSALS) (not (is_imported p) || (count_by is_imported ps == 0)) t.valid_is (has_room PROPOSALS (length ps) t.room) (either (not (is_imported p)) (count_by is_imported ps == 0) none)
+    both (is_valid_proposal x p) (nat_lt (length ps) PROPOSALS) (not (is_imported p) || (count_by is_imported ps == 0)) t.valid_is (has_room PROPOSALS (length ps) t.room) (or_right (not (is_imported p)) (count_by is_imported ps == 0) none)

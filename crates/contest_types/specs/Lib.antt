@@ -10,6 +10,7 @@ pub mod Places
 pub mod Additions
 pub mod Setup
 pub mod Rows
+pub mod PlainRows
 pub mod SetupAdditions
 pub mod TeamPlaces
 pub mod Order
@@ -23,6 +24,7 @@ pub mod Masks
 pub mod State
 pub mod VisibleIds
 pub mod Sight
+pub mod ImportKinds
 pub mod Judging
 pub mod Alike
 pub mod Series
@@ -32,6 +34,8 @@ pub mod ValidClarifications
 pub mod ValidRejudgings
 pub mod Valid
 pub mod Loads
+pub mod Growing
+pub mod Words
 pub mod VerdictAdditions
 pub mod Addable
 pub mod Laws

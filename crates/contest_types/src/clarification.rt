@@ -1,8 +1,8 @@
 //! Clarifications: what teams ask, and what the jury answers and announces.
 use crate::{Id, Moment, Text};
 
-/// Whose clarifications one belongs to. A group's are those that the jury tells its teams; a team's those
-/// between that team and the jury, in either direction.
+/// Whose clarifications one belongs to. A group's are those that the jury tells its teams; a team's
+/// those between that team and the jury, in either direction.
 #[derive(Clone, Copy, PartialEq, Eq, Hash)]
 pub enum Addressee {
     /// All: the jury tells everyone.

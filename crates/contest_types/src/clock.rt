@@ -1,6 +1,7 @@
 //! The contest's clock: its phase, its end, its freeze and its thaw.
 ghost use Rattle.std.specs.Prelude.{◌≡◌};
-ghost use Rattle.contest_types.specs.Clock.{end_of, freeze_of, is_frozen, is_thawed, is_freezing, is_finalized, phase_at, reached};
+ghost use Rattle.contest_types.specs.Clock.{end_of, freeze_of, is_frozen, is_thawed, is_freezing};
+ghost use Rattle.contest_types.specs.Clock.{is_finalized, phase_at, reached};
 
 use crate::{Marks, Moment, Phase, Settings};
 
@@ -18,21 +19,27 @@ pub fn end_of(settings: &Settings, marks: &Marks) -> Option<u64>
 pub fn phase(marks: &Marks, settings: &Settings, now: Moment) -> Phase
     ensures { result ≡ phase_at settings.now marks.now now }
 {
-    let start = match marks.start {
-        Some(start) => Some(start.milliseconds()),
-        None => None,
-    };
-    if !has_come(start, now) {
+    if !has_come(marks.start, now) {
         Phase::Before
-    } else if has_come(end_of(settings, marks), now) {
+    } else if is_reached(end_of(settings, marks), now) {
         Phase::Ended
     } else {
         Phase::Running
     }
 }
 
-/// Whether a moment that is there, in milliseconds since 1970, isn't after now.
-fn has_come(moment: Option<u64>, now: Moment) -> bool
+/// Whether a mark of the clock is set and isn't after now.
+pub fn has_come(mark: Option<Moment>, now: Moment) -> bool
+    ensures { result ≡ reached mark now }
+{
+    match mark {
+        Some(mark) => mark.milliseconds() <= now.milliseconds(),
+        None => false,
+    }
+}
+
+/// Whether a moment is there and isn't after now: an end or a freeze, in milliseconds since 1970.
+pub fn is_reached(moment: Option<u64>, now: Moment) -> bool
     ensures { result ≡ reached moment now }
 {
     match moment {
@@ -56,20 +63,14 @@ pub fn freeze_of(settings: &Settings, marks: &Marks) -> Option<u64>
 pub fn is_frozen(settings: &Settings, marks: &Marks, time: Moment) -> bool
     ensures { result ≡ is_frozen settings.now marks.now time }
 {
-    match freeze_of(settings, marks) {
-        Some(freeze) => freeze <= time.milliseconds(),
-        None => false,
-    }
+    is_reached(freeze_of(settings, marks), time)
 }
 
 /// Whether the frozen verdicts are public at this moment: the thaw is set and not after it.
 pub fn is_thawed(marks: &Marks, now: Moment) -> bool
     ensures { result ≡ is_thawed marks.now now }
 {
-    match marks.thaw {
-        Some(thaw) => thaw.milliseconds() <= now.milliseconds(),
-        None => false,
-    }
+    has_come(marks.thaw, now)
 }
 
 /// Whether the freeze lasts at this moment: it has come, and the contest isn't thawed.
@@ -84,8 +85,5 @@ pub fn is_freezing(settings: &Settings, marks: &Marks, now: Moment) -> bool
 pub fn is_finalized(marks: &Marks, now: Moment) -> bool
     ensures { result ≡ is_finalized marks.now now }
 {
-    match marks.finalized {
-        Some(finalized) => finalized.milliseconds() <= now.milliseconds(),
-        None => false,
-    }
+    has_come(marks.finalized, now)
 }

@@ -4,8 +4,8 @@ ghost use Rattle.std.specs.Prelude.{◌≡◌, IfOk};
 use crate::{Id, Moment, Name, TimeSpan};
 use std::alloc::AllocError;
 
-/// The head of a contest: all of its contest object but the marks of the clock (Contest API 2023-06,
-/// contest object).
+/// The head of a contest: all of its contest object but the marks of the clock (Contest API
+/// 2023-06, contest object).
 #[derive(PartialEq, Eq, Drop)]
 pub struct ContestHead {
     /// The contest's id, which stands in every path under `/contests/`.
@@ -18,8 +18,8 @@ pub struct ContestHead {
     pub freeze: Option<TimeSpan>,
     /// Minutes for each penalised attempt at a solved problem, at most 1000.
     pub penalty_time: u32,
-    /// Whether a second judge verifies each verdict before it is released (DOMjudge manual, "Judging":
-    /// verification).
+    /// Whether a second judge verifies each verdict before it is released (DOMjudge manual,
+    /// "Judging": verification).
     pub verification: bool,
     /// How many places each kind of medal has.
     pub medals: Medals,

@@ -1,8 +1,8 @@
 //! The part of a contest that isn't its lists.
 use crate::{Account, Marks, Rows, Settings};
 
-/// The part of a contest that isn't its lists: the settings, the accounts by id, and the marks of the
-/// clock.
+/// The part of a contest that isn't its lists: the settings, the accounts by id, and the marks of
+/// the clock.
 #[derive(Drop)]
 pub struct Fixed {
     /// The settings.

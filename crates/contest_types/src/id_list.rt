@@ -1,8 +1,10 @@
 //! Lists whose rows are found by their ids.
-ghost use Rattle.std.specs.Prelude.{◌≡◌, ℕ, ◌<◌, List, [], ◌∷◌, ◌++◌, true, None, Some, IfErr, OnOk, OnErr, IfOk, IfSome, IsSome, length, map, ◌≤◌, nat_le};
+ghost use Rattle.std.specs.Prelude.{◌≡◌, ℕ, ◌<◌, List, [], ◌∷◌, ◌++◌, true, None, Some, IfErr};
+ghost use Rattle.std.specs.Prelude.{OnOk, OnErr, IfOk, IfSome, IsSome, length, map, ◌≤◌, nat_le};
 ghost use Rattle.contest_types.specs.IdText.{IsId};
 ghost use Rattle.contest_types.specs.Places.{place_of, are_different};
-ghost use Rattle.contest_types.specs.Additions.{id_match_of, addition, addition_by, IsFaultOf, grown};
+ghost use Rattle.contest_types.specs.Additions.{id_match_of, addition, addition_by, IsFaultOf};
+ghost use Rattle.contest_types.specs.Additions.{grown};
 
 use crate::{Cause, Id, RowFault};
 use std::alloc::{AllocError, Global};

@@ -1,4 +1,8 @@
 //! The kinds of files that are imported.
+ghost use Rattle.std.specs.Prelude.{◌≡◌};
+ghost use Rattle.contest_types.specs.ImportKinds.{kind_named};
+ghost use Rattle.contest_types.specs.declared.import_kind.FixedKind.TheVariants.{Settings};
+ghost use Rattle.contest_types.specs.declared.import_kind.ImportKind.TheVariants.{Fixed};
 
 /// What a JSON file of settings lists.
 #[derive(Clone, Copy, PartialEq, Eq)]
@@ -33,4 +37,30 @@ pub enum ImportKind {
     Fixed(FixedKind),
     /// Verdicts, as CSV.
     VerdictsCsv,
+}
+
+impl ImportKind {
+    /// The kind that a word names, as `teams-csv` does.
+    pub fn named(word: &str) -> Option<ImportKind>
+        ensures { result ≡ kind_named word.now }
+    {
+        match word {
+            "judgement-types" => Some(settings(SettingsKind::JudgementTypes)),
+            "languages" => Some(settings(SettingsKind::Languages)),
+            "problems" => Some(settings(SettingsKind::Problems)),
+            "groups" => Some(settings(SettingsKind::Groups)),
+            "teams" => Some(settings(SettingsKind::Teams)),
+            "teams-csv" => Some(ImportKind::Fixed(FixedKind::TeamsCsv)),
+            "accounts-csv" => Some(ImportKind::Fixed(FixedKind::AccountsCsv)),
+            "verdicts-csv" => Some(ImportKind::VerdictsCsv),
+            _ => None,
+        }
+    }
+}
+
+// A JSON file of settings.
+fn settings(kind: SettingsKind) -> ImportKind
+    ensures { result ≡ Fixed (Settings kind) }
+{
+    ImportKind::Fixed(FixedKind::Settings(kind))
 }

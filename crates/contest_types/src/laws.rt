@@ -1,9 +1,14 @@
-//! Laws of the model: functions that do nothing, and whose contracts say what holds of every contest.
-ghost use Rattle.contest_types.specs.Laws.{IsAlikeToItself, IsAlikeBothWays, IsAlikeOnward, AlikeShowTheSame, AlikeTellTheSame, SeenIsListed, SeenIsInOrder, OneListIsSeen, HeardIsListed, OneListIsHeard, OneOrder, SettingsAreTested, AddingKeepsValid, ImportedIsAddable};
+//! Laws of the model: functions that do nothing, and whose contracts say what holds of every
+//! contest.
+ghost use Rattle.contest_types.specs.Laws.{IsAlikeToItself, IsAlikeBothWays, IsAlikeOnward};
+ghost use Rattle.contest_types.specs.Laws.{AlikeShowTheSame, AlikeTellTheSame, SeenIsListed};
+ghost use Rattle.contest_types.specs.Laws.{SeenIsInOrder, OneListIsSeen, HeardIsListed};
+ghost use Rattle.contest_types.specs.Laws.{OneListIsHeard, OneOrder, SettingsAreTested};
+ghost use Rattle.contest_types.specs.Laws.{AddingKeepsValid, ImportedIsAddable};
 ghost use Rattle.contest_types.specs.Sight.{SeenSubmission, SeenClarification};
 
-/// A contest is alike to itself; it doesn't matter which of two alike contests is named first; and what
-/// is alike to a contest that is alike to a third is alike to the third.
+/// A contest is alike to itself; it doesn't matter which of two alike contests is named first; and
+/// what is alike to a contest that is alike to a third is alike to the third.
 pub fn alike_is_an_equivalence()
     ensures itself { IsAlikeToItself }
     ensures both_ways { IsAlikeBothWays }
@@ -21,7 +26,8 @@ pub fn heard_alike()
     ensures { AlikeTellTheSame }
 {}
 
-/// In a valid contest all that an audience may see of submissions is listed for it, and nothing else.
+/// In a valid contest all that an audience may see of submissions is listed for it, and nothing
+/// else.
 pub fn seen_is_listed()
     ensures { SeenIsListed }
 {}
@@ -31,8 +37,8 @@ pub fn seen_is_in_order()
     ensures { SeenIsInOrder }
 {}
 
-/// In a valid contest whoever lists in strict order just what an audience may see of submissions has
-/// the same list.
+/// In a valid contest whoever lists in strict order just what an audience may see of submissions
+/// has the same list.
 pub fn one_list_is_seen()
     ensures { OneListIsSeen }
 {}
@@ -43,14 +49,14 @@ pub fn heard_is_listed()
     ensures { HeardIsListed }
 {}
 
-/// In a valid contest whoever lists in strict order just the clarifications that an audience may hear
-/// has the same list.
+/// In a valid contest whoever lists in strict order just the clarifications that an audience may
+/// hear has the same list.
 pub fn one_list_is_heard()
     ensures { OneListIsHeard }
 {}
 
-/// Two lists of submissions in strict order with the same elements are one list, and so are two lists
-/// of clarifications.
+/// Two lists of submissions in strict order with the same elements are one list, and so are two
+/// lists of clarifications.
 pub fn one_order()
     ensures submissions { OneOrder SeenSubmission }
     ensures clarifications { OneOrder SeenClarification }

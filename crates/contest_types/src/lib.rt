@@ -39,7 +39,9 @@ mod time_span;
 pub use account::{Account, Role};
 pub use audience::{Audience, Phase};
 pub use clarification::{Addressee, Clarification, Reference};
-pub use clock::{end_of, freeze_of, is_finalized, is_freezing, is_frozen, is_thawed, phase};
+pub use clock::{
+    end_of, freeze_of, has_come, is_finalized, is_freezing, is_frozen, is_reached, is_thawed, phase,
+};
 pub use contest::{Contest, ContestHead, Medals};
 pub use decimal::decimal_number;
 pub use digest::Digest;

@@ -1,5 +1,6 @@
 //! Moments, and their texts.
-ghost use Rattle.std.specs.Prelude.{◌≡◌, ◌*◌, ◌≤◌, ℕ, List, Ok, IfOk, IfSome, IfNone, IsOk, pos, SomeIff};
+ghost use Rattle.std.specs.Prelude.{◌≡◌, ◌*◌, ◌≤◌, ℕ, List, Ok, IfOk, IfSome, IfNone, IsOk, pos};
+ghost use Rattle.std.specs.Prelude.{SomeIff};
 ghost use Rattle.std.specs.Str.{IsUtf8};
 ghost use Rattle.contest_types.specs.MomentText.{latest, IsMomentText, ShowsMoment, moment_text};
 

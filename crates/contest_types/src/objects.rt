@@ -1,4 +1,8 @@
 //! The objects that settings list.
+ghost use Rattle.std.specs.Prelude.{◌≡◌};
+ghost use Rattle.contest_types.specs.PlainRows.{plain_group, plain_language, plain_problem};
+ghost use Rattle.contest_types.specs.PlainRows.{plain_team, plain_type};
+
 use crate::id_list::Identified;
 use crate::{Id, Name, Rows};
 use std::alloc::{AllocError, Global};
@@ -60,6 +64,70 @@ pub struct Team {
     pub groups: Rows<usize>,
     /// A hidden team is on no board, and others don't see its submissions.
     pub hidden: bool,
+}
+
+impl JudgementType {
+    /// A judgement type with what each has.
+    pub fn new(id: Id, name: Name, solved: bool, penalty: bool) -> JudgementType
+        ensures { result ≡ plain_type id name solved penalty }
+    {
+        JudgementType {
+            id,
+            name,
+            solved,
+            penalty,
+        }
+    }
+}
+
+impl Language {
+    /// A language in which no entry point is needed.
+    pub fn new(id: Id, name: Name) -> Language
+        ensures { result ≡ plain_language id name }
+    {
+        Language {
+            id,
+            name,
+            entry_point_required: false,
+        }
+    }
+}
+
+impl Problem {
+    /// A problem with what each has.
+    pub fn new(id: Id, label: Name, name: Name, ordinal: u16) -> Problem
+        ensures { result ≡ plain_problem id label name ordinal }
+    {
+        Problem {
+            id,
+            label,
+            name,
+            ordinal,
+        }
+    }
+}
+
+impl Group {
+    /// A group with what each has.
+    pub fn new(id: Id, name: Name) -> Group
+        ensures { result ≡ plain_group id name }
+    {
+        Group { id, name }
+    }
+}
+
+impl Team {
+    /// A team of no group, which isn't hidden.
+    pub fn new(alloc: Global, id: Id, name: Name) -> Team
+        ensures { result ≡ plain_team id name }
+    {
+        Team {
+            id,
+            name,
+            groups: Rows::new(alloc),
+            hidden: false,
+        }
+    }
 }
 
 impl Identified for JudgementType {

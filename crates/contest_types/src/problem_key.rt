@@ -44,8 +44,8 @@ fn problem_keys<'a>(
     Ok(keys)
 }
 
-/// The places of the problems, from 0, in the order in which they are listed, and in which a board's
-/// cells stand: by ordinal, and then by id (Contest API 2023-06, problems).
+/// The places of the problems, from 0, in the order in which they are listed, and in which a
+/// board's cells stand: by ordinal, and then by id (Contest API 2023-06, problems).
 pub fn problem_order(alloc: Global, settings: &Settings) -> Result<Vec<usize>, AllocError>
     ensures order { IfOk result (λ v. v.items ≡ problems_in_order settings.now) }
     ensures few { IfOk result (λ v. length v.items ≤ PROBLEMS) }

@@ -1,8 +1,12 @@
 //! Relative times: lengths of time, and their texts.
-ghost use Rattle.std.specs.Prelude.{◌≡◌, ◌≢◌, ◌+◌, ◌-◌, ◌-ℤ◌, ◌*◌, ◌/◌, ◌%◌, ◌<◌, ◌≤◌, ◌++◌, ◌==◌, ℕ, ℤ, List, Option, Some, None, SomeIff, IsTrue, IsFalse, ◌⊎◌, IfSome, IfNone, length, pos, neg_ℤ, drop, take, false, slice_index, unsigned_abs};
+ghost use Rattle.std.specs.Prelude.{◌≡◌, ◌≢◌, ◌+◌, ◌-◌, ◌-ℤ◌, ◌*◌, ◌/◌, ◌%◌, ◌<◌, ◌≤◌, ◌++◌, ◌==◌};
+ghost use Rattle.std.specs.Prelude.{ℕ, ℤ, List, Option, Some, None, SomeIff, IsTrue, IsFalse, ◌⊎◌};
+ghost use Rattle.std.specs.Prelude.{IfSome, IfNone, length, pos, neg_ℤ, drop, take, false};
+ghost use Rattle.std.specs.Prelude.{slice_index, unsigned_abs};
 ghost use Rattle.std.specs.Str.{IsUtf8};
 ghost use Rattle.contest_types.specs.RelTimeRead.{reltime_of};
-ghost use Rattle.contest_types.specs.RelTimeText.{farthest, Field, IsSplit, IsClock, IsRelTimeText, sign, rel_time_text, clock_text};
+ghost use Rattle.contest_types.specs.RelTimeText.{farthest, Field, IsSplit, IsClock, IsRelTimeText};
+ghost use Rattle.contest_types.specs.RelTimeText.{sign, rel_time_text, clock_text};
 
 use crate::Moment;
 use crate::backwards::Backwards;
@@ -140,7 +144,8 @@ fn fraction_of(text: &[u8]) -> (&[u8], u64)
     }
 }
 
-/// The mark and the digits that a text ends with, as what stands before the mark and the number that they write.
+/// The mark and the digits that a text ends with, as what stands before the mark and the number
+/// that they write.
 fn field_at_end(text: &[u8], mark: u8, digits: usize) -> Option<(&[u8], u64)>
     requires few { digits < 10 }
     requires some { 0 < digits }

@@ -1,9 +1,14 @@
 //! What a contest is set up with.
-ghost use Rattle.std.specs.Prelude.{◌≡◌, ◌<◌, Ok, Err, Some, None, false, IfOk, IfErr, IfSome, IsSome, OnErr, length, map};
+ghost use Rattle.std.specs.Prelude.{◌≡◌, ◌<◌, Ok, Err, Some, None, false, IfOk, IfErr, IfSome};
+ghost use Rattle.std.specs.Prelude.{IsSome, OnErr, length, map};
 ghost use Rattle.contest_types.specs.IdText.{IsId};
-ghost use Rattle.contest_types.specs.Setup.{Setup, IsValid, is_valid_head, has_valid_freeze, has_valid_medals, labels_of, refers};
+ghost use Rattle.contest_types.specs.Setup.{Setup, IsValid, is_valid_head, has_valid_freeze};
+ghost use Rattle.contest_types.specs.Setup.{has_valid_medals, labels_of, refers};
 ghost use Rattle.contest_types.specs.Additions.{IsFaultOf};
-ghost use Rattle.contest_types.specs.SetupAdditions.{IsNew, type_addition, language_addition, problem_addition, group_addition, team_addition, with_type, with_language, with_problem, with_group, with_team};
+ghost use Rattle.contest_types.specs.SetupAdditions.{IsNew, type_addition, language_addition};
+ghost use Rattle.contest_types.specs.SetupAdditions.{problem_addition, group_addition};
+ghost use Rattle.contest_types.specs.SetupAdditions.{team_addition, with_type, with_language};
+ghost use Rattle.contest_types.specs.SetupAdditions.{with_problem, with_group, with_team};
 ghost use Rattle.contest_types.specs.Places.{place_of, is_among};
 
 use crate::id_list::{IdList, IdMatch};
@@ -175,7 +180,8 @@ impl Settings {
         self.teams.place(id)
     }
 
-    /// Adds a judgement type, and answers whether it did: where an equal one stands it adds nothing.
+    /// Adds a judgement type, and answers whether it did: where an equal one stands it adds
+    /// nothing.
     ///
     /// # Errors
     ///

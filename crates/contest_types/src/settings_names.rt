@@ -1,7 +1,8 @@
 //! What stands at a place of the settings, by its id, name or label.
 ghost use Rattle.std.specs.Prelude.{◌≡◌};
 ghost use Rattle.contest_types.specs.ProblemPlaces.{label_at, problem_id_at};
-ghost use Rattle.contest_types.specs.SettingsNames.{group_id_at, group_name_at, language_id_at, type_id_at};
+ghost use Rattle.contest_types.specs.SettingsNames.{group_id_at, group_name_at, language_id_at};
+ghost use Rattle.contest_types.specs.SettingsNames.{type_id_at};
 ghost use Rattle.contest_types.specs.TeamPlaces.{name_at, team_id_at};
 
 use crate::Settings;

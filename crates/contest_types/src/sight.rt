@@ -1,7 +1,9 @@
 //! Who sees what: teams, submissions and their verdicts.
 ghost use Rattle.std.specs.Prelude.{◌≡◌};
 ghost use Rattle.contest_types.specs.Masks.{knows_all_of, mask_for, verdict_under};
-ghost use Rattle.contest_types.specs.Sight.{hears, hears_group, last_judgement, seen_verdict, sees_clarification, sees_submission, sees_team, type_of};
+ghost use Rattle.contest_types.specs.Sight.{hears, hears_group, last_judgement, seen_verdict};
+ghost use Rattle.contest_types.specs.Sight.{sees_clarification, sees_submission, sees_team};
+ghost use Rattle.contest_types.specs.Sight.{type_of};
 ghost use Rattle.contest_types.specs.State.{ContestState};
 ghost use Rattle.contest_types.specs.TeamPlaces.{is_of_group, is_public};
 
@@ -29,8 +31,8 @@ pub fn is_of_group(settings: &Settings, group: usize, team: usize) -> bool
     }
 }
 
-/// Whether a caller always sees all of what belongs to the team at a place, from 0: the jury and the
-/// team itself do. It takes no memory.
+/// Whether a caller always sees all of what belongs to the team at a place, from 0: the jury and
+/// the team itself do. It takes no memory.
 pub fn knows_all_of(audience: Audience, team: usize) -> bool
     ensures { result ≡ knows_all_of audience team }
 {
@@ -50,16 +52,16 @@ pub fn sees_team(audience: Audience, settings: &Settings, team: usize) -> bool
 }
 
 /// Whether a caller sees a team's submissions: the jury sees all, a team its own, and anyone those
-/// of a team that isn't hidden (own: the Contest API 2023-06 takes a hidden team off the scoreboard,
-/// and says no more). It takes no memory.
+/// of a team that isn't hidden (own: the Contest API 2023-06 takes a hidden team off the
+/// scoreboard, and says no more). It takes no memory.
 pub fn sees_submission(audience: Audience, settings: &Settings, submission: &Submission) -> bool
     ensures { (x : ContestState) → x.fixed.settings ≡ settings.now → result ≡ sees_submission audience x submission.now }
 {
     sees_team(audience, settings, submission.team)
 }
 
-/// Whether a caller hears what goes to the group at a place, from 0: the jury and each team that is in it
-/// do. It takes no memory.
+/// Whether a caller hears what goes to the group at a place, from 0: the jury and each team that is
+/// in it do. It takes no memory.
 fn hears_group(audience: Audience, settings: &Settings, group: usize) -> bool
     ensures { result ≡ hears_group audience settings.now group }
 {
@@ -71,8 +73,8 @@ fn hears_group(audience: Audience, settings: &Settings, group: usize) -> bool
     }
 }
 
-/// Whether a caller hears what belongs to an addressee: what is to all, what is to a group that it is in,
-/// and all of a team that it knows all of; the jury hears all. It takes no memory.
+/// Whether a caller hears what belongs to an addressee: what is to all, what is to a group that it
+/// is in, and all of a team that it knows all of; the jury hears all. It takes no memory.
 pub fn hears(audience: Audience, settings: &Settings, addressee: Addressee) -> bool
     ensures { result ≡ hears audience settings.now addressee }
 {
@@ -83,8 +85,8 @@ pub fn hears(audience: Audience, settings: &Settings, addressee: Addressee) -> b
     }
 }
 
-/// Whether a caller hears a clarification: who hears what belongs to its addressee does. It takes no
-/// memory.
+/// Whether a caller hears a clarification: who hears what belongs to its addressee does. It takes
+/// no memory.
 pub fn sees_clarification(
     audience: Audience,
     settings: &Settings,

@@ -1,17 +1,27 @@
-//! Laws of who sees what of a contest, as a contest director asks for them: functions that do nothing,
-//! and whose contracts say what holds of every contest.
-ghost use Rattle.contest_types.specs.SightLaws.{RolesSeeNoLess, RolesHearNoLess, RolesKeepVerdicts, ThawOnlyAdds, ThawingOnlyAdds, MomentChangesVerdictsOnly, ThawedSeeAsJury, JurySeesLast, SeenVerdictIsOneOfTwo, JudgingShowsNothing, OnlyTheseShowSubmissions, OnlyTheseShowClarifications, TeamAndJuryKnowAll, ProgramIsForItsTeam, ListedProgramIsForItsTeam, AskedIsHeardByItsTeam, GroupIsHeardByItsTeams, PublicHearsNoGroup, SubmissionsStandByTime, SeenJudgementsAreListed, AlikeShowTheSameJudgements};
+//! Laws of who sees what of a contest, as a contest director asks for them: functions that do
+//! nothing, and whose contracts say what holds of every contest.
+ghost use Rattle.contest_types.specs.SightLaws.{RolesSeeNoLess, RolesHearNoLess, RolesKeepVerdicts};
+ghost use Rattle.contest_types.specs.SightLaws.{ThawOnlyAdds, ThawingOnlyAdds};
+ghost use Rattle.contest_types.specs.SightLaws.{MomentChangesVerdictsOnly, ThawedSeeAsJury};
+ghost use Rattle.contest_types.specs.SightLaws.{JurySeesLast, SeenVerdictIsOneOfTwo};
+ghost use Rattle.contest_types.specs.SightLaws.{JudgingShowsNothing, OnlyTheseShowSubmissions};
+ghost use Rattle.contest_types.specs.SightLaws.{OnlyTheseShowClarifications, TeamAndJuryKnowAll};
+ghost use Rattle.contest_types.specs.SightLaws.{ProgramIsForItsTeam, ListedProgramIsForItsTeam};
+ghost use Rattle.contest_types.specs.SightLaws.{AskedIsHeardByItsTeam, GroupIsHeardByItsTeams};
+ghost use Rattle.contest_types.specs.SightLaws.{PublicHearsNoGroup, SubmissionsStandByTime};
+ghost use Rattle.contest_types.specs.SightLaws.{SeenJudgementsAreListed};
+ghost use Rattle.contest_types.specs.SightLaws.{AlikeShowTheSameJudgements};
 
-/// Nobody loses sight of a submission, of a verdict or of a clarification by a role: what the public
-/// sees and hears every team does, and what a team does the jury does.
+/// Nobody loses sight of a submission, of a verdict or of a clarification by a role: what the
+/// public sees and hears every team does, and what a team does the jury does.
 pub fn roles_see_no_less()
     ensures submissions { RolesSeeNoLess }
     ensures clarifications { RolesHearNoLess }
     ensures verdicts { RolesKeepVerdicts }
 {}
 
-/// A thaw only adds: a verdict that was seen at any moment is seen once it is thawed, and so it is from
-/// the moment on that a thaw is set to.
+/// A thaw only adds: a verdict that was seen at any moment is seen once it is thawed, and so it is
+/// from the moment on that a thaw is set to.
 pub fn thaw_only_adds()
     ensures thawed { ThawOnlyAdds }
     ensures set { ThawingOnlyAdds }
@@ -34,8 +44,8 @@ pub fn jury_sees_last()
 {}
 
 /// The verdict that is seen on a submission is the last released, to those who know all of the team
-/// and once it is thawed; else the last released unless it is frozen. Of a submission that isn't seen
-/// there is none.
+/// and once it is thawed; else the last released unless it is frozen. Of a submission that isn't
+/// seen there is none.
 pub fn seen_verdict_is_one_of_two()
     ensures { SeenVerdictIsOneOfTwo }
 {}
@@ -63,8 +73,8 @@ pub fn team_and_jury_know_all()
     ensures { TeamAndJuryKnowAll }
 {}
 
-/// A program is shown to those who know all of its team, at any moment, thawed or not; and of what is
-/// listed for an audience, just the submissions of such teams have a program.
+/// A program is shown to those who know all of its team, at any moment, thawed or not; and of what
+/// is listed for an audience, just the submissions of such teams have a program.
 pub fn program_is_for_its_team()
     ensures shown { ProgramIsForItsTeam }
     ensures listed { ListedProgramIsForItsTeam }
@@ -75,8 +85,8 @@ pub fn asked_is_heard_by_its_team()
     ensures { AskedIsHeardByItsTeam }
 {}
 
-/// What the jury tells a group is heard by each team that is in it and by the jury, and by nobody else: the
-/// public hears what goes to no group.
+/// What the jury tells a group is heard by each team that is in it and by the jury, and by nobody
+/// else: the public hears what goes to no group.
 pub fn group_is_heard_by_its_teams()
     ensures teams { GroupIsHeardByItsTeams }
     ensures public { PublicHearsNoGroup }
