@@ -1,6 +1,7 @@
 -- The demo contest (own): two problems, four teams of which one is hidden, two judges and an admin.
 use Rattle.std.specs.Prelude.{ℕ, Bool, true, false, List, [], ◌∷◌, ◌++◌, Some, codes, take}
 use Rattle.sha2.specs.Sha256.{sha256}
+use Rattle.contest_types.specs.PlainRows.{plain_language, plain_problem, plain_team, plain_type}
 use Rattle.contest_types.specs.declared.account.Role.{Role}
 use Rattle.contest_types.specs.declared.account.Role.TheVariants as role
 use Rattle.contest_types.specs.declared.contest.Contest.{Contest}
@@ -23,17 +24,17 @@ demo_contest verification = record {
 }
 
 abbrev pub new_type : (id name : List ℕ) → (solved penalty : Bool) → Entry
-new_type id name solved penalty = NewType (record { id = id; name = name; solved = solved; penalty = penalty })
+new_type id name solved penalty = NewType (plain_type id name solved penalty)
 
 abbrev pub new_language : (id name : List ℕ) → (entry_point_required : Bool) → Entry
-new_language id name entry_point_required = NewLanguage (record { id = id; name = name; entry_point_required = entry_point_required })
+new_language id name entry_point_required = NewLanguage (record (plain_language id name) { entry_point_required = entry_point_required })
 
 abbrev pub new_problem : (id label name : List ℕ) → (ordinal : ℕ) → Entry
-new_problem id label name ordinal = NewProblem (record { id = id; label = label; name = name; ordinal = ordinal })
+new_problem id label name ordinal = NewProblem (plain_problem id label name ordinal)
 
 -- without groups
 abbrev pub new_team : (id name : List ℕ) → (hidden : Bool) → Entry
-new_team id name hidden = NewTeam (record { id = id; name = name; groups = []; hidden = hidden })
+new_team id name hidden = NewTeam (record (plain_team id name) { hidden = hidden })
 
 -- of the token the digest alone
 abbrev pub new_account : (id : List ℕ) → Role → (token : List ℕ) → Entry

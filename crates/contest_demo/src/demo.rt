@@ -66,8 +66,8 @@ fn hours(count: u8) -> TimeSpan
 }
 
 /// Puts the rest of it into a store that was just created: the judgement types, the languages, the
-/// first so many problems, the first so many teams with their accounts (all where there are fewer), and
-/// the accounts of the jury. The token of an account is `token-` and its id.
+/// first so many problems, the first so many teams with their accounts (all where there are fewer),
+/// and the accounts of the jury. The token of an account is `token-` and its id.
 ///
 /// # Errors
 ///

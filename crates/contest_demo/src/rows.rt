@@ -1,11 +1,12 @@
 //! Rows from texts that are of their form.
 ghost use Rattle.std.specs.Prelude.{◌≡◌, IfOk, IsTrue};
 ghost use Rattle.contest_types.specs.IdText.{IsId};
-ghost use Rattle.contest_demo.specs.Demo.{new_account, new_language, new_problem, new_team, new_type};
+ghost use Rattle.contest_demo.specs.Demo.{new_account, new_language, new_problem, new_team};
+ghost use Rattle.contest_demo.specs.Demo.{new_type};
 ghost use Rattle.contest_demo.specs.Texts.{is_printed_name};
 
 use contest_types::{
-    Account, Digest, Entry, Id, JudgementType, Language, Name, Problem, Role, Rows, Team,
+    Account, Digest, Entry, Id, JudgementType, Language, Name, Problem, Role, Team,
 };
 use sha2::{Digest as _, Sha256};
 use std::alloc::{AllocError, Global};
@@ -47,12 +48,9 @@ pub(crate) fn judgement_type(
     requires name { IsTrue (is_printed_name name_text.now) }
     ensures { IfOk result (λ entry. entry ≡ new_type id_text.now name_text.now solved penalty) }
 {
-    Ok(Entry::NewType(JudgementType {
-        id: id(alloc, id_text)?,
-        name: name(alloc, name_text)?,
-        solved,
-        penalty,
-    }))
+    let id = id(alloc, id_text)?;
+    let name = name(alloc, name_text)?;
+    Ok(Entry::NewType(JudgementType::new(id, name, solved, penalty)))
 }
 
 pub(crate) fn language(
@@ -65,11 +63,9 @@ pub(crate) fn language(
     requires name { IsTrue (is_printed_name name_text.now) }
     ensures { IfOk result (λ entry. entry ≡ new_language id_text.now name_text.now entry_point_required) }
 {
-    Ok(Entry::NewLanguage(Language {
-        id: id(alloc, id_text)?,
-        name: name(alloc, name_text)?,
-        entry_point_required,
-    }))
+    let mut language = Language::new(id(alloc, id_text)?, name(alloc, name_text)?);
+    language.entry_point_required = entry_point_required;
+    Ok(Entry::NewLanguage(language))
 }
 
 pub(crate) fn problem(
@@ -84,12 +80,10 @@ pub(crate) fn problem(
     requires name { IsTrue (is_printed_name name_text.now) }
     ensures { IfOk result (λ entry. entry ≡ new_problem id_text.now label_text.now name_text.now ordinal) }
 {
-    Ok(Entry::NewProblem(Problem {
-        id: id(alloc, id_text)?,
-        label: name(alloc, label_text)?,
-        name: name(alloc, name_text)?,
-        ordinal,
-    }))
+    let id = id(alloc, id_text)?;
+    let label = name(alloc, label_text)?;
+    let name = name(alloc, name_text)?;
+    Ok(Entry::NewProblem(Problem::new(id, label, name, ordinal)))
 }
 
 pub(crate) fn team(
@@ -102,12 +96,9 @@ pub(crate) fn team(
     requires name { IsTrue (is_printed_name name_text.now) }
     ensures { IfOk result (λ entry. entry ≡ new_team id_text.now name_text.now hidden) }
 {
-    Ok(Entry::NewTeam(Team {
-        id: id(alloc, id_text)?,
-        name: name(alloc, name_text)?,
-        groups: Rows::new(alloc),
-        hidden,
-    }))
+    let mut team = Team::new(alloc, id(alloc, id_text)?, name(alloc, name_text)?);
+    team.hidden = hidden;
+    Ok(Entry::NewTeam(team))
 }
 
 pub(crate) fn account(

@@ -1,20 +1,18 @@
 -- A row that is changed where it stands.
-use Rattle.std.proofs.Common.{◌≡◌, ◌∙◌, ◌+◌, ◌<◌, ◌≤◌, ℕ, zero, suc, true, false, List, [], ◌∷◌, length, Some, refl, sym, inl, inr, arith}
+use Rattle.std.proofs.Common.{◌≡◌, ◌∙◌, ◌+◌, ◌<◌, ◌≤◌, ℕ, zero, suc, true, List, [], ◌∷◌, length, Some, refl, sym, inl, inr, arith}
 use Rattle.std.specs.Prelude.{◌⊎◌, ◌==◌, slice_get, slice_set}
 use Rattle.std.proofs.lemmas.Bool.Decides.{nat_tests}
+use Rattle.std.proofs.lemmas.Bool.{ne_eqb}
 use Rattle.contest_types.specs.State.{changed_at}
-
-unlike : (m n : ℕ) → (m ≡ n → ⊥) → (m == n) ≡ false
-unlike m n off = grind (arith, nat_tests, off)
 
 -- no row has the number
 pub before_all : {X : Type 0} (first at : ℕ) (f : X → X) (xs : List X) → at < first → changed_at first at f xs ≡ xs
 before_all first at f [] l = refl
-before_all first at f (x ∷ xs) l = rw (unlike first at (λ e. omega (arith, e, l)), before_all (first + 1) at f xs (omega (arith, l))) refl
+before_all first at f (x ∷ xs) l = rw (ne_eqb first at (λ e. omega (arith, e, l)), before_all (first + 1) at f xs (omega (arith, l))) refl
 
 pub after_all : {X : Type 0} (first at : ℕ) (f : X → X) (xs : List X) → first + length xs ≤ at → changed_at first at f xs ≡ xs
 after_all first at f [] l = refl
-after_all first at f (x ∷ xs) l = rw (unlike first at (λ e. omega (arith, e, l)), after_all (first + 1) at f xs (omega (arith, l))) refl
+after_all first at f (x ∷ xs) l = rw (ne_eqb first at (λ e. omega (arith, e, l)), after_all (first + 1) at f xs (omega (arith, l))) refl
 
 -- one has it
 pub changed_there : {X : Type 0} (first at i : ℕ) (f : X → X) (xs : List X) (x : X) → at ≡ first + i → slice_get xs i ≡ Some x → changed_at first at f xs ≡ slice_set xs i (f x)
@@ -24,7 +22,7 @@ changed_there first at zero f (y ∷ xs) x is there =
     let here : (first == at) ≡ true = grind (arith, nat_tests, is) in
     rw (here, same, before_all (first + 1) at f xs (omega (arith, is))) refl
 changed_there first at (suc i) f (y ∷ xs) x is there =
-    rw (unlike first at (λ e. omega (arith, e, is)), changed_there (first + 1) at i f xs x (omega (arith, is)) there) refl
+    rw (ne_eqb first at (λ e. omega (arith, e, is)), changed_there (first + 1) at i f xs x (omega (arith, is)) there) refl
 
 row_at : {X : Type 0} (xs : List X) (i : ℕ) → i < length xs → (x : X) × (slice_get xs i ≡ Some x)
 row_at [] i l = absurd (omega (arith, l))

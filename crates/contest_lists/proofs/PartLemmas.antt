@@ -1,21 +1,13 @@
 -- The accounts that come before one, and those that come after it.
-use Rattle.std.proofs.Common.{◌≡◌, ℕ, Bool, true, false, List, [], ◌∷◌, ◌++◌, filter, refl, sym, ap, ◌∙◌}
+use Rattle.std.proofs.Common.{◌≡◌, Bool, true, false, List, [], ◌∷◌, ◌++◌, filter, refl, sym, ap, ◌∙◌}
 use Rattle.std.specs.Prelude.{if◌then◌else◌}
-use Rattle.std.specs.Ordering.{nat_cmp, is_lt}
+use Rattle.std.specs.Ordering.{nat_cmp}
 use Rattle.std.specs.Cmp.Lexicographic.{slice_cmp}
-use Rattle.std.specs.declared.cmp.Ordering.{Ordering}
-use Rattle.std.specs.declared.cmp.Ordering.TheVariants.{Less, Equal, Greater}
 use Rattle.std.proofs.lemmas.Bool.{false≢true}
-use Rattle.std.proofs.lemmas.Cmp.{nat_list_cmp_total}
 use Rattle.std.proofs.lemmas.List.{append_assoc, append-nil}
 use Rattle.contest_types.specs.Accounts.{comes_before}
 use Rattle.contest_types.specs.declared.account.Account.{Account}
-
--- no account stands on both sides of another
-not_both : (x y : List ℕ) (r : Ordering) → slice_cmp nat_cmp x y ≡ r → is_lt r ≡ true → is_lt (slice_cmp nat_cmp y x) ≡ false
-not_both x y Less e h = rw (nat_list_cmp_total.antisymm y x, e) refl
-not_both x y Equal e h = absurd (false≢true h)
-not_both x y Greater e h = absurd (false≢true h)
+use Rattle.contest_types.proofs.AccountLemmas.{not_both}
 
 kept_out : {T : Type 0} (x : T) (xs : List T) (b : Bool) → b ≡ false → xs ≡ xs ++ (if b then x ∷ [] else [])
 kept_out x xs true h = absurd (false≢true (sym h))

@@ -3,7 +3,7 @@ use Rattle.std.proofs.Common.{◌≡◌, ◌<◌, ◌≤◌, ◌+◌, ◌∙◌,
 use Rattle.std.specs.Prelude.{◌==◌, filter, slice_get, if◌then◌else◌}
 use Rattle.std.specs.List.{last_or}
 use Rattle.std.proofs.lemmas.Bool.{eqb-true}
-use Rattle.std.proofs.lemmas.List.{length-append, length-take, take_more}
+use Rattle.std.proofs.lemmas.List.{length-take, take_more, length_push}
 use Rattle.std.proofs.lemmas.List.Elements.{filter-append}
 use Rattle.contest_types.specs.State.{SubmissionRef}
 use Rattle.contest_types.proofs.LastLemmas.{last_more}
@@ -23,9 +23,6 @@ at_end : {R : Type 0} (rows : List R) (row : R) → slice_get (rows ++ row ∷ [
 at_end [] row = refl
 at_end (x ∷ rows) row = at_end rows row
 
-longer : {R : Type 0} (rows : List R) (row : R) → length (rows ++ row ∷ []) ≡ length rows + 1
-longer rows row = length-append rows (row ∷ [])
-
 -- the rows on a submission after one more
 on_more : {R : Type 0} (of : R → SubmissionRef) (rows : List R) (row : R) (team number : ℕ)
     → filter (is_on of team number) (rows ++ row ∷ []) ≡ filter (is_on of team number) rows ++ cond (is_on of team number row) (row ∷ []) []
@@ -43,7 +40,7 @@ module _ {R : Type 0} (of : R → SubmissionRef) (rows : List R) (row : R) (team
       on_more of rows row team number ∙ (ap (λ b. filter (is_on of team number) rows ++ cond b (row ∷ []) []) other ∙ append-nil (filter (is_on of team number) rows)) in
       let go : (o : Option Standing) → Stands rows o (count_on of rows team number) (last_row of rows team number) → Stands (rows ++ row ∷ []) o (count_on of rows team number) (last_row of rows team number) = elim [
         | None ↦ λ s. s
-        | (Some one) ↦ λ s. (let more = longer rows row in (s.0, omega (arith, s.1, more), kept_at rows row one.last s.1 ∙ s.2))
+        | (Some one) ↦ λ s. (let more = length_push rows row in (s.0, omega (arith, s.1, more), kept_at rows row one.last s.1 ∙ s.2))
       ] in
       subst (λ own. Stands (rows ++ row ∷ []) o (length own) (last_or None own)) (sym same) (go o stands)
 
@@ -57,9 +54,9 @@ module _ {R : Type 0} (of : R → SubmissionRef) (rows : List R) (row : R) (team
         | None ↦ λ s. (let none = s.0 in omega (arith, none))
         | (Some one) ↦ λ s. s.0
       ] in
-      let more = longer rows row in
+      let more = length_push rows row in
       subst (λ own. Stands (rows ++ row ∷ []) (Some (record { next = next_after o + 1; last = length rows })) (length own) (last_or None own)) (sym grown) (
-        ap (λ n. n + 1) (count o stands) ∙ ap (λ n. n + 1) (sym (longer (filter (is_on of team number) rows) row)),
+        ap (λ n. n + 1) (count o stands) ∙ ap (λ n. n + 1) (sym (length_push (filter (is_on of team number) rows) row)),
         omega (arith, more),
         at_end rows row ∙ sym (last_more None (filter (is_on of team number) rows) row),
       )

@@ -1,5 +1,6 @@
 //! Changes of the settings, the accounts and the marks.
-ghost use Rattle.std.specs.Prelude.{◌≡◌, ◌++◌, ◌∷◌, [], true, false, Bool, Ok, Result, IfOk, IfErr, OnOk, filter};
+ghost use Rattle.std.specs.Prelude.{◌≡◌, ◌++◌, ◌∷◌, [], true, false, Bool, Ok, Result, IfOk, IfErr};
+ghost use Rattle.std.specs.Prelude.{OnOk, filter};
 ghost use Rattle.contest_types.specs.Accounts.{comes_before, with_account};
 ghost use Rattle.contest_types.specs.Addable.{is_addable, is_added};
 ghost use Rattle.contest_types.specs.Additions.{IsFaultOf};
@@ -14,8 +15,8 @@ use std::alloc::{AllocError, Global};
 use std::mem::replace;
 use std::rc::Rc;
 
-/// The settings, the accounts and the marks as a change that may be made leaves them: they are shared,
-/// so it is made in a copy.
+/// The settings, the accounts and the marks as a change that may be made leaves them: they are
+/// shared, so it is made in a copy.
 ///
 /// # Errors
 ///

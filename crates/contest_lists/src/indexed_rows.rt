@@ -1,5 +1,6 @@
 //! Rows that are on submissions, how many are on each, and which of them is the last.
-ghost use Rattle.std.specs.Prelude.{◌≡◌, ◌<◌, ◌+◌, ◌^◌, ◌++◌, ◌∷◌, ℕ, [], IfOk, OnOk, OnErr, option_map};
+ghost use Rattle.std.specs.Prelude.{◌≡◌, ◌<◌, ◌+◌, ◌^◌, ◌++◌, ◌∷◌, ℕ, [], IfOk, OnOk, OnErr};
+ghost use Rattle.std.specs.Prelude.{option_map};
 ghost use Rattle.contest_lists.specs.RowIndex.{IsIndexed, next_in, noted_with, standing_in};
 ghost use Rattle.contest_lists.specs.RowsOn.{count_on, last_row};
 
@@ -22,8 +23,8 @@ struct Standing {
 /// How each submission stands that a row is on, by the place of its team and its number.
 type Standings = HashMap<(usize, usize), Standing>;
 
-/// Rows in the order in which they were made. How a submission stands among them is found without a look at
-/// those on others. Contracts see the list of them.
+/// Rows in the order in which they were made. How a submission stands among them is found without a
+/// look at those on others. Contracts see the list of them.
 #[derive(Drop)]
 pub(crate) struct IndexedRows<R: OnSubmission + Drop> {
     rows: Vec<R>,
@@ -135,7 +136,8 @@ fn standings_of<R: OnSubmission>(alloc: Global, rows: &Vec<R>) -> Result<Standin
     Ok(standings)
 }
 
-// Notes one more row, which is the last so far on its submission. Where memory is refused the same is noted as before.
+// Notes one more row, which is the last so far on its submission. Where memory is refused the same
+// is noted as before.
 fn note(
     standings: &mut Standings,
     submission: (usize, usize),

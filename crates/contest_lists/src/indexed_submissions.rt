@@ -1,5 +1,6 @@
 //! The submissions of a contest, and where those of each team stand among them.
-ghost use Rattle.std.specs.Prelude.{◌≡◌, ◌<◌, ◌++◌, ◌∷◌, ℕ, [], All, IfOk, OnOk, OnErr, if◌then◌else◌, ◌==◌, length};
+ghost use Rattle.std.specs.Prelude.{◌≡◌, ◌<◌, ◌++◌, ◌∷◌, ℕ, [], All, IfOk, OnOk, OnErr};
+ghost use Rattle.std.specs.Prelude.{if◌then◌else◌, ◌==◌, length};
 ghost use Rattle.contest_lists.specs.Lists.{places_of};
 ghost use Rattle.contest_lists.specs.TeamRows.{IsByTeam, places_in};
 
@@ -12,8 +13,8 @@ use std::marker::Model;
 /// The places of each team's submissions, by the place of the team.
 type PlacesByTeam = HashMap<usize, Vec<usize>>;
 
-/// Submissions in the order in which they were accepted. Those of one team are found without a look at
-/// the others. Contracts see the list of them.
+/// Submissions in the order in which they were accepted. Those of one team are found without a look
+/// at the others. Contracts see the list of them.
 #[derive(Drop)]
 pub(crate) struct IndexedSubmissions {
     rows: Vec<Submission>,

@@ -1,12 +1,16 @@
 //! The lists of a contest in memory.
-ghost use Rattle.std.specs.Prelude.{◌≡◌, ◌<◌, ◌≤◌, ◌+◌, ◌⊎◌, ◌++◌, ◌∷◌, List, [], All, IfOk, IfNone, IfSome, OnOk, OnErr, length, option_map, slice_get, slice_set, Some, true, false};
+ghost use Rattle.std.specs.Prelude.{◌≡◌, ◌<◌, ◌≤◌, ◌+◌, ◌⊎◌, ◌++◌, ◌∷◌, List, [], All, IfOk};
+ghost use Rattle.std.specs.Prelude.{IfNone, IfSome, OnOk, OnErr, length, option_map, slice_get};
+ghost use Rattle.std.specs.Prelude.{slice_set, Some, true, false};
 ghost use Rattle.contest_types.specs.Addable.{is_addable};
-ghost use Rattle.contest_types.specs.State.{add, changed_at, of_proposal, of_release, submissions_of, with_member_state};
+ghost use Rattle.contest_types.specs.State.{add, changed_at, of_proposal, of_release};
+ghost use Rattle.contest_types.specs.State.{submissions_of, with_member_state};
 ghost use Rattle.contest_types.specs.declared.submission.Submission.{Submission};
 ghost use Rattle.contest_types.specs.declared.rejudging.Member.{Member as TheMember};
 ghost use Rattle.contest_types.specs.declared.rejudging.Rejudging.{Rejudging as TheRejudging};
 ghost use Rattle.contest_lists.specs.Lists.{filed, places_of, unfiled, with_submissions};
-ghost use Rattle.contest_lists.specs.RowsAdded.{HasSameSettings, added_releases, added_submissions, is_setting_or_mark};
+ghost use Rattle.contest_lists.specs.RowsAdded.{HasSameSettings, added_releases, added_submissions};
+ghost use Rattle.contest_lists.specs.RowsAdded.{is_setting_or_mark};
 ghost use Rattle.contest_lists.specs.RowsOn.{count_on, last_row};
 
 use crate::copies::{CopyRow, copies, without_file};
@@ -78,8 +82,8 @@ impl Lists {
         self.submissions.as_slice()
     }
 
-    /// The places among them, from 0, of those of the team at a place, in their order. It is as quick
-    /// whatever other teams submitted.
+    /// The places among them, from 0, of those of the team at a place, in their order. It is as
+    /// quick whatever other teams submitted.
     pub fn places_of(&self, team: usize) -> &[usize]
         ensures places { result.now ≡ places_of team self.now.submissions }
         ensures within { All (λ place. place < length self.now.submissions) result.now }
@@ -102,7 +106,8 @@ impl Lists {
         self.proposals.as_slice()
     }
 
-    /// How many verdicts were proposed for the submission with a number, from 1, of the team at a place, from
+    /// How many verdicts were proposed for the submission with a number, from 1, of the team at a
+    /// place, from
     /// 0. It is as quick whatever was proposed for others; so are the next four.
     pub fn proposals_for(&self, team: usize, number: usize) -> usize
         ensures { result ≡ count_on of_proposal self.now.proposals team number }
@@ -177,8 +182,9 @@ impl Lists {
         })
     }
 
-    /// Makes one change, if it may be made; of a submission the file is left out. Whatever the change, it adds
-    /// no submission and no release but its own, and no account changes the settings or the marks.
+    /// Makes one change, if it may be made; of a submission the file is left out. Whatever the
+    /// change, it adds no submission and no release but its own, and no account changes the
+    /// settings or the marks.
     ///
     /// # Errors
     ///

@@ -1,5 +1,5 @@
-//! Outcomes of two steps as one. To give back an owned value at an early return is a step of the proof
-//! for each of its fields; that of a type parameter is one step, so such returns stand here.
+//! Outcomes of two steps as one. To give back an owned value at an early return is a step of the
+//! proof for each of its fields; that of a type parameter is one step, so such returns stand here.
 ghost use Rattle.std.specs.Prelude.{◌≡◌, Ok, IfOk, is_ok, true};
 
 use std::alloc::AllocError;

@@ -5,7 +5,8 @@ ghost use Rattle.contest_types.specs.Places.{are_different, is_among};
 ghost use Rattle.contest_types.specs.Setup.{IsValid};
 ghost use Rattle.contest_types.specs.Valid.{is_valid};
 ghost use Rattle.contest_types.specs.Accounts.{has_valid_role};
-ghost use Rattle.contest_types.specs.ValidFixed.{has_valid_accounts, has_valid_clock, is_valid_account};
+ghost use Rattle.contest_types.specs.ValidFixed.{has_valid_accounts, has_valid_clock};
+ghost use Rattle.contest_types.specs.ValidFixed.{is_valid_account};
 ghost use Rattle.contest_types.specs.declared.account.Account.{Account as TheAccount};
 ghost use Rattle.contest_lists.specs.Lists.{with_submissions};
 

@@ -12,7 +12,7 @@ use Rattle.contest_objects.specs.Members.{text_or_null, with_all}
 use Rattle.contest_objects.specs.Times.{contest_time_data}
 use Rattle.contest_types.specs.ProblemPlaces.{problem_id_at}
 
-time_has_none : (start : Option ℕ) (time : ℕ) → has_float (contest_time_data start time) ≡ false
+pub time_has_none : (start : Option ℕ) (time : ℕ) → has_float (contest_time_data start time) ≡ false
 time_has_none None time = refl
 time_has_none (Some s) time = refl
 

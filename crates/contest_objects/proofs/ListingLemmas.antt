@@ -4,9 +4,6 @@ use Rattle.std.specs.Prelude.{IfSome, bytes_eq, find, if◌then◌else◌}
 use Rattle.std.specs.List.{cons_option, filter_map, swap}
 use Rattle.std.specs.List.Sorted.{IsPermutation, IsSortedBy, SwapsInRange, apply_swaps}
 use Rattle.std.specs.Option.{option_map, option_and_then, option_to_list}
-use Rattle.std.specs.Ordering.{is_eq}
-use Rattle.std.specs.declared.cmp.Ordering.{Ordering}
-use Rattle.std.specs.declared.cmp.Ordering.TheVariants.{Less, Equal, Greater}
 use Rattle.std.proofs.Math.ListN.{get_or-map as mapped_at, set}
 use Rattle.std.proofs.lemmas.List.{drop_more, drop_all, get_or-map, length-map, map-set, take_more}
 use Rattle.std.proofs.lemmas.List.Elements.{filter_map-append}
@@ -14,7 +11,7 @@ use Rattle.serde_json.specs.Data.{Data, array}
 use Rattle.serde_json.specs.View.{items_of}
 use Rattle.serde_json.specs.Written.{has_float}
 use Rattle.contest_types.specs.Order.{Has, IsBefore, IsInOrder}
-use Rattle.contest_types.proofs.InOrderLemmas.{find_has, found_in as has_found, has_option, none_passes, option_has}
+use Rattle.contest_types.proofs.InOrderLemmas.{find_has, found_in as has_found, none_passes, option_has, is_equal}
 use Rattle.contest_types.proofs.Rising.{find_passes}
 use Rattle.contest_objects.specs.Items.{Item, array_of, found_in, has_this_id, object_in}
 use Rattle.contest_objects.proofs.CollectionLemmas.{no_float_more}
@@ -142,10 +139,6 @@ shown_of show (x ∷ xs) v h =
     let later : ShownOf show xs v → ShownOf show (x ∷ xs) v = λ r. record { row = r.row; there = inr r.there; is = r.is } in
     elim (option_has (show x) (filter_map show xs) v h) [ inl e ↦ record { row = x; there = inl refl; is = e } | inr t ↦ later (shown_of show xs v t) ]
 
-pub of_shown : {X Y : Type 0} (show : X → Option Y) (xs : List X) (x : X) (v : Y) → Has xs x → show x ≡ Some v → Has (filter_map show xs) v
-of_shown show [] x v h e = absurd h
-of_shown show (y ∷ ys) x v h e = has_option (show y) (filter_map show ys) v (elim h [ inl i ↦ inl (ap show (sym i) ∙ e) | inr t ↦ inr (of_shown show ys x v t e) ])
-
 pub shown_where : {V : Type 0} (b : Bool) → b ≡ true → (v : V) → (if b then Some v else None) ≡ Some v
 shown_where true e v = refl
 shown_where false e v = absurd (cc e)
@@ -153,11 +146,6 @@ shown_where false e v = absurd (cc e)
 pub where_shown : {V : Type 0} (b : Bool) (v w : V) → (if b then Some v else None) ≡ Some w → (b ≡ true) × (w ≡ v)
 where_shown true v w e = (refl, (let same : v ≡ w = cc e in sym same))
 where_shown false v w e = absurd (cc e)
-
-pub tied : (o : Ordering) → is_eq o ≡ true → o ≡ Equal
-tied Less e = absurd (cc e)
-tied Equal e = refl
-tied Greater e = absurd (cc e)
 
 -- what is served of rows is what is served of all that is shown of them
 pub served_all : {X Y V Z : Type 0} (item : Y → Option Z) (load : X → Y) (show : X → Option V) (of : V → Option Z) → ((x : X) → item (load x) ≡ option_and_then of (show x))

@@ -11,8 +11,9 @@ use contest_types::Settings;
 use serde_json::{Map, Value, put};
 use std::alloc::{AllocError, Global};
 
-/// The JSON value of an award with an id and a citation, which the teams at these places have, from 0
-/// (Contest API 2023-06, awards object): `citation`, `id` and `team_ids`, in the order of the places.
+/// The JSON value of an award with an id and a citation, which the teams at these places have, from
+/// 0 (Contest API 2023-06, awards object): `citation`, `id` and `team_ids`, in the order of the
+/// places.
 ///
 /// # Errors
 ///

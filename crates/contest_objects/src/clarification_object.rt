@@ -7,7 +7,10 @@ ghost use Rattle.serde_json.specs.Written.{has_float};
 ghost use Rattle.contest_types.specs.ProblemPlaces.{problem_id_at};
 ghost use Rattle.contest_types.specs.Sight.{heard_reference, seen_clarification};
 ghost use Rattle.contest_objects.specs.Members.{shown};
-ghost use Rattle.contest_objects.specs.ClarificationObjects.{clarification_data, clarification_members, group_of, receiver, reference_id, team_of, writer};
+ghost use Rattle.contest_objects.specs.ClarificationObjects.{clarification_data};
+ghost use Rattle.contest_objects.specs.ClarificationObjects.{clarification_members, group_of};
+ghost use Rattle.contest_objects.specs.ClarificationObjects.{receiver, reference_id, team_of};
+ghost use Rattle.contest_objects.specs.ClarificationObjects.{writer};
 
 use crate::members::{Member, object_of};
 use crate::visible_ids::clarification_id;
@@ -32,9 +35,9 @@ struct Members<'a> {
     to: Option<&'a str>,
 }
 
-/// The JSON value of a clarification that an audience hears (Contest API 2023-06, clarification object):
-/// `contest_time`, `from_team_id`, `id`, `problem_id`, `reply_to_id`, `text`, `time` and `to_team_id`; where it goes
-/// to a group also `to_group_id` (own).
+/// The JSON value of a clarification that an audience hears (Contest API 2023-06, clarification
+/// object): `contest_time`, `from_team_id`, `id`, `problem_id`, `reply_to_id`, `text`, `time` and
+/// `to_team_id`; where it goes to a group also `to_group_id` (own).
 ///
 /// # Errors
 ///

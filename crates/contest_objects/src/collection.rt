@@ -1,5 +1,6 @@
 //! Collections as they are served: listed in an order, and looked up by id, whatever they hold.
-ghost use Rattle.std.specs.Prelude.{◌≡◌, ◌++◌, Option, Some, slice_get, IfOk, IfSome, OnOk, false, map, find, option_map, IsPermutation, IsSorted};
+ghost use Rattle.std.specs.Prelude.{◌≡◌, ◌++◌, Option, Some, slice_get, IfOk, IfSome, OnOk, false};
+ghost use Rattle.std.specs.Prelude.{map, find, option_map, IsPermutation, IsSorted};
 ghost use Rattle.std.specs.Cmp.{IsTotalOrder};
 ghost use Rattle.std.specs.List.{filter_map};
 ghost use Rattle.std.specs.Option.{option_to_list};
@@ -7,14 +8,15 @@ ghost use Rattle.std.specs.declared.cmp.Ordering.{Ordering as TheOrdering};
 ghost use Rattle.serde_json.specs.Data.{array};
 ghost use Rattle.serde_json.specs.View.{view, items_of};
 ghost use Rattle.serde_json.specs.Written.{has_float};
-ghost use Rattle.contest_objects.specs.Items.{Item, IsListed, array_of, found_in, has_this_id, object_in};
+ghost use Rattle.contest_objects.specs.Items.{Item, IsListed, array_of, found_in, has_this_id};
+ghost use Rattle.contest_objects.specs.Items.{object_in};
 
 use serde_json::Value;
 use std::alloc::{AllocError, Global};
 use std::cmp::Ordering;
 
-/// A collection as one audience is served it at a moment (Contest API 2023-06: a collection is an array,
-/// and one object of it is asked for by its id).
+/// A collection as one audience is served it at a moment (Contest API 2023-06: a collection is an
+/// array, and one object of it is asked for by its id).
 pub trait Collection {
     /// What a row of it is in the contest.
     type Row;
@@ -210,8 +212,8 @@ fn push_where(values: &mut Vec<Value>, value: Option<Value>) -> Result<(), Alloc
     Ok(())
 }
 
-/// The object with an id, if one of these rows is served under it: what isn't served is as what isn't
-/// there.
+/// The object with an id, if one of these rows is served under it: what isn't served is as what
+/// isn't there.
 ///
 /// # Errors
 ///

@@ -81,8 +81,8 @@ pub fn contest_value<'a>(
     )
 }
 
-/// The state of its clock with these marks, at a moment: `end_of_updates`, `ended`, `finalized`, `frozen`,
-/// `started` and `thawed`.
+/// The state of its clock with these marks, at a moment: `end_of_updates`, `ended`, `finalized`,
+/// `frozen`, `started` and `thawed`.
 ///
 /// # Errors
 ///

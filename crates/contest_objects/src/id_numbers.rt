@@ -31,7 +31,8 @@ fn dashed_numbers(text: &str) -> Option<(usize, usize)>
     Some((number_in(first)?, number_in(second)?))
 }
 
-/// The number that the id of a rejudging is, in decimal digits without leading zeros. It takes no memory.
+/// The number that the id of a rejudging is, in decimal digits without leading zeros. It takes no
+/// memory.
 pub fn rejudging_number(id: &[u8]) -> Option<usize>
     ensures named { IfSome result (λ number. decimal number ≡ id.now) }
     ensures whole { (number : ℕ) → number < 2 ^ 64 → decimal number ≡ id.now → result ≡ Some number }

@@ -21,10 +21,10 @@ struct Members<'a> {
     time: &'a Moment,
 }
 
-/// The JSON value of the judgement that a release is on the submission with a number of the team at a
-/// place, from 0 (Contest API 2023-06, judgement object): `end_contest_time`, `end_time`, `id`,
-/// `judgement_type_id`, `start_contest_time`, `start_time` and `submission_id`. It starts and ends when it
-/// is released.
+/// The JSON value of the judgement that a release is on the submission with a number of the team at
+/// a place, from 0 (Contest API 2023-06, judgement object): `end_contest_time`, `end_time`, `id`,
+/// `judgement_type_id`, `start_contest_time`, `start_time` and `submission_id`. It starts and ends
+/// when it is released.
 ///
 /// # Errors
 ///

@@ -1,5 +1,5 @@
-//! One row of a contest as JSON, whoever looks at it, and a collection of such objects: listed in its order,
-//! and looked up by id.
+//! One row of a contest as JSON, whoever looks at it, and a collection of such objects: listed in
+//! its order, and looked up by id.
 #![tactic(auto)]
 
 mod award_object;

@@ -4,8 +4,10 @@ ghost use Rattle.serde_json.specs.Data.{no_members, object, string};
 ghost use Rattle.serde_json.specs.View.{view, members_view};
 ghost use Rattle.contest_types.specs.MomentText.{moment_text};
 ghost use Rattle.contest_types.specs.RelTimeText.{rel_time_text};
-ghost use Rattle.contest_objects.specs.Members.{number_or_null, put_where, shown, text_or_null, with_all};
-ghost use Rattle.contest_objects.specs.Times.{contest_time_data, moment_or_null, span_data, span_or_null};
+ghost use Rattle.contest_objects.specs.Members.{number_or_null, put_where, shown, text_or_null};
+ghost use Rattle.contest_objects.specs.Members.{with_all};
+ghost use Rattle.contest_objects.specs.Times.{contest_time_data, moment_or_null, span_data};
+ghost use Rattle.contest_objects.specs.Times.{span_or_null};
 
 use contest_types::{Moment, RelTime, TimeSpan, print_reltime, print_time};
 use serde_json::{Map, Value, put};

@@ -3,7 +3,8 @@ ghost use Rattle.std.specs.Prelude.{◌≡◌, false, IfOk};
 ghost use Rattle.serde_json.specs.Data.{object};
 ghost use Rattle.serde_json.specs.View.{view};
 ghost use Rattle.serde_json.specs.Written.{has_float};
-ghost use Rattle.contest_objects.specs.ProposalObjects.{proposal_data, proposal_members, proposer_id};
+ghost use Rattle.contest_objects.specs.ProposalObjects.{proposal_data, proposal_members};
+ghost use Rattle.contest_objects.specs.ProposalObjects.{proposer_id};
 
 use crate::members::{Member, object_of};
 use crate::visible_ids::submission_id;
@@ -21,8 +22,8 @@ struct Members<'a> {
     time: &'a Moment,
 }
 
-/// The JSON value of a proposal (own): `account_id`, `judgement_type_id`, `released`, which is whether
-/// its submission has a release, `submission_id` and `time`.
+/// The JSON value of a proposal (own): `account_id`, `judgement_type_id`, `released`, which is
+/// whether its submission has a release, `submission_id` and `time`.
 ///
 /// # Errors
 ///

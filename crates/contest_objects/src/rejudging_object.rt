@@ -4,7 +4,9 @@ ghost use Rattle.serde_json.specs.Data.{member, no_members, object, string};
 ghost use Rattle.serde_json.specs.View.{members_view, view};
 ghost use Rattle.serde_json.specs.Written.{has_float};
 ghost use Rattle.contest_types.specs.SettingsNames.{type_id_at};
-ghost use Rattle.contest_objects.specs.RejudgingObjects.{is_ready, member_data, member_parts, rejudging_data, state_name, verdict_so_far};
+ghost use Rattle.contest_objects.specs.RejudgingObjects.{is_ready, member_data, member_parts};
+ghost use Rattle.contest_objects.specs.RejudgingObjects.{rejudging_data, state_name};
+ghost use Rattle.contest_objects.specs.RejudgingObjects.{verdict_so_far};
 
 use crate::members::{Member, object_of, put_all};
 use crate::visible_ids::submission_id;
@@ -29,9 +31,9 @@ struct MemberParts<'a> {
     submission: &'a str,
 }
 
-/// The JSON value of the rejudging with a number, from 1 (own): `id`, which is its number, `members`, as
-/// they were named, `reason` and `state`. A member has `judgement_type_id`, also where that is only
-/// proposed, `ready` and `submission_id`.
+/// The JSON value of the rejudging with a number, from 1 (own): `id`, which is its number,
+/// `members`, as they were named, `reason` and `state`. A member has `judgement_type_id`, also
+/// where that is only proposed, `ready` and `submission_id`.
 ///
 /// # Errors
 ///

@@ -4,7 +4,8 @@ ghost use Rattle.serde_json.specs.Data.{string};
 ghost use Rattle.serde_json.specs.View.{view};
 ghost use Rattle.serde_json.specs.Written.{has_float};
 ghost use Rattle.contest_types.specs.SettingsNames.{group_id_at};
-ghost use Rattle.contest_objects.specs.SettingsObjects.{problems_data, setting_found, settings_data, team_item};
+ghost use Rattle.contest_objects.specs.SettingsObjects.{problems_data, setting_found};
+ghost use Rattle.contest_objects.specs.SettingsObjects.{settings_data, team_item};
 
 use crate::collection::{Collection, Whole, get_whole, list_whole, value_at};
 use crate::members::{Member, object_of, put_all};

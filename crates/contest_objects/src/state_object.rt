@@ -1,10 +1,12 @@
 //! The state of the contest's clock.
 ghost use Rattle.std.specs.Prelude.{◌≡◌};
-ghost use Rattle.contest_objects.specs.StateObject.{come, final_from, last_update, later_moment, once, state_times, thawed_from};
+ghost use Rattle.contest_objects.specs.StateObject.{come, final_from, last_update, later_moment};
+ghost use Rattle.contest_objects.specs.StateObject.{once, state_times, thawed_from};
 
 use contest_types::{Marks, Moment, Settings, end_of, freeze_of};
 
-/// The moments of the state object (Contest API 2023-06, contest state), each from when it has come on.
+/// The moments of the state object (Contest API 2023-06, contest state), each from when it has come
+/// on.
 #[derive(Clone, Copy)]
 pub struct StateTimes {
     /// The start.

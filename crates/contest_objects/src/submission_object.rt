@@ -1,12 +1,14 @@
 //! Submissions as they are served.
-ghost use Rattle.std.specs.Prelude.{◌≡◌, IfOk, None, Some, false, if◌then◌else◌, option_map, string_bytes};
+ghost use Rattle.std.specs.Prelude.{◌≡◌, IfOk, None, Some, false, if◌then◌else◌, option_map};
+ghost use Rattle.std.specs.Prelude.{string_bytes};
 ghost use Rattle.serde_json.specs.Data.{object, string};
 ghost use Rattle.serde_json.specs.View.{view};
 ghost use Rattle.serde_json.specs.Written.{has_float};
 ghost use Rattle.contest_types.specs.Sight.{program_for};
 ghost use Rattle.contest_types.specs.VisibleIds.{submission_id};
 ghost use Rattle.contest_objects.specs.Members.{shown as shown_as};
-ghost use Rattle.contest_objects.specs.Objects.{file_array, files_data, files_path, submission_data, submission_members};
+ghost use Rattle.contest_objects.specs.Objects.{file_array, files_data, files_path};
+ghost use Rattle.contest_objects.specs.Objects.{submission_data, submission_members};
 
 use crate::members::{Member, contest_time_value, moment_value, put_all, put_where};
 use crate::visible_ids::submission_id;

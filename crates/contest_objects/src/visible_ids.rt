@@ -12,8 +12,8 @@ use itoa::{Buffer, Integer};
 /// Room for the longest id.
 const ID: usize = 160;
 
-/// The id of the submission with a number of the team at a place, from 0: `s<team number>-<number>`,
-/// teams numbered from 1 (own). It takes no memory.
+/// The id of the submission with a number of the team at a place, from 0:
+/// `s<team number>-<number>`, teams numbered from 1 (own). It takes no memory.
 pub fn submission_id(team: usize, number: usize) -> ArrayString<ID>
     ensures bytes { result.bytes ≡ submission_id team number }
     ensures room { array_string_len result + 60 ≤ ID }

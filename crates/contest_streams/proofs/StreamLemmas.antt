@@ -1,8 +1,9 @@
 -- Counts of calls that failed, and what several reads or writes come to.
-use Rattle.std.proofs.Common.{◌≡◌, ◌≤◌, ◌==◌, ◌&&◌, ◌+◌, ◌++◌, ◌∷◌, [], ◌∙◌, if◌then◌else◌, refl, sym, ap, ℕ, suc, false, arith, nat_lt, List, Option, Some, None, length, take, append_assoc, length-append}
+use Rattle.std.proofs.Common.{◌≡◌, ◌≤◌, ◌==◌, ◌&&◌, ◌+◌, ◌++◌, ◌∷◌, [], ◌∙◌, if◌then◌else◌, refl, ap, ℕ, suc, false, arith, nat_lt, List, Option, length, take, length-append}
 use Rattle.std.proofs.lemmas.Bool.Decides.{nat_tests}
 use Rattle.std.proofs.lemmas.List.{take-append-le}
-use Rattle.std.specs.Io.KnownBytes.{Appends, Consumes}
+use Rattle.std.specs.Io.KnownBytes.{Appends}
+use Rattle.std.proofs.KnownBytes.{Appends-trans}
 use Rattle.contest_streams.specs.Streams.{AppendsFront, one_more}
 
 is_some : (count : ℕ) → (count ≡ 0 → ⊥) → (count == 0) ≡ false
@@ -12,22 +13,6 @@ is_some count some = grind (arith, nat_tests, some)
 pub some_taken : (count wanted old new : ℕ) → (count ≡ 0 → ⊥)
     → new ≡ (if (count == 0) && nat_lt 0 wanted then one_more old else old) → new ≡ old
 some_taken count wanted old new some e = e ∙ rw (is_some count some) refl
-
--- first `xs` is taken, and then `ys`
-pub consumes_both : (a b c : Option (List ℕ)) (xs ys : List ℕ)
-    → Consumes a b xs → Consumes b c ys → Consumes a c (xs ++ ys)
-consumes_both None b c xs ys p q = tt
-consumes_both (Some x) None c xs ys p q = absurd p
-consumes_both (Some x) (Some y) None xs ys p q = absurd q
-consumes_both (Some x) (Some y) (Some z) xs ys p q =
-    p ∙ ap (λ t. xs ++ t) q ∙ sym (append_assoc xs ys z)
-
--- first `xs` is written, and then `ys`
-pub appends_both : (a b c : Option (List ℕ)) (xs ys : List ℕ) → Appends a b xs → Appends b c ys → Appends a c (xs ++ ys)
-appends_both None b c xs ys p q = tt
-appends_both (Some t) None c xs ys p q = absurd p
-appends_both (Some t) (Some u) None xs ys p q = absurd q
-appends_both (Some t) (Some u) (Some v) xs ys p q = q ∙ ap (λ s. s ++ ys) p ∙ append_assoc t xs ys
 
 -- a front of the first text is one of both
 pub front_first : (a b : Option (List ℕ)) (xs ys : List ℕ) → AppendsFront a b xs → AppendsFront a b (xs ++ ys)
@@ -43,4 +28,4 @@ take_past (x ∷ xs) ys k = let e : length (x ∷ xs) + k ≡ suc (length xs + k
 -- the first text whole, and a front of the second, are a front of both
 pub front_second : (a b c : Option (List ℕ)) (xs ys : List ℕ) → Appends a b xs → AppendsFront b c ys → AppendsFront a c (xs ++ ys)
 front_second a b c xs ys p (k, within, q) =
-    (length xs + k, omega (arith, within, length-append xs ys), rw (take_past xs ys k) (appends_both a b c xs (take k ys) p q))
+    (length xs + k, omega (arith, within, length-append xs ys), rw (take_past xs ys k) (Appends-trans a b c xs (take k ys) p q))

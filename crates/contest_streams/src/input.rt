@@ -34,13 +34,13 @@ impl From<AllocError> for InputFault {
     }
 }
 
-/// All bytes that the reader has left. Reads at most `limit + 1` bytes, and tries an interrupted read
-/// again, 1,000 times in all.
+/// All bytes that the reader has left. Reads at most `limit + 1` bytes, and tries an interrupted
+/// read again, 1,000 times in all.
 ///
 /// # Errors
 ///
-/// `TooLarge` where more than `limit` bytes are left, `File` where a read fails, and `Memory` where a
-/// growth is refused; what was read until then is gone.
+/// `TooLarge` where more than `limit` bytes are left, `File` where a read fails, and `Memory` where
+/// a growth is refused; what was read until then is gone.
 pub fn read_limited<R: Read>(
     alloc: Global,
     reader: &mut Counted<R>,
@@ -94,8 +94,8 @@ fn read_by<R: Read>(
     Err(InputFault::TooLarge)
 }
 
-/// One read, which gives so many bytes at the front of `piece`; none at the end, or where `piece` has no
-/// room. An interrupted one is tried again as often as `retries` says, which counts down.
+/// One read, which gives so many bytes at the front of `piece`; none at the end, or where `piece`
+/// has no room. An interrupted one is tried again as often as `retries` says, which counts down.
 ///
 /// # Errors
 ///

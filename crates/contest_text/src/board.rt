@@ -5,7 +5,10 @@ ghost use Rattle.std.specs.List.{flat_map};
 ghost use Rattle.contest_types.specs.RelTimeText.{rel_time_text};
 ghost use Rattle.contest_text.specs.CellText.{cell_text};
 ghost use Rattle.contest_types.specs.ProblemPlaces.{label_at};
-ghost use Rattle.contest_text.specs.BoardText.{numbered_id, who_text, of_group_text, time_text, contest_time, word_of, word_at, title_end, title_line, name_width, right_field, front, heading_line, row_line, board_text};
+ghost use Rattle.contest_text.specs.BoardText.{numbered_id, who_text, of_group_text, time_text};
+ghost use Rattle.contest_text.specs.BoardText.{contest_time, word_of, word_at, title_end};
+ghost use Rattle.contest_text.specs.BoardText.{title_line, name_width, right_field, front};
+ghost use Rattle.contest_text.specs.BoardText.{heading_line, row_line, board_text};
 
 use crate::cell_text::write_cell;
 use crate::padding::{push_left, push_right};
@@ -19,9 +22,9 @@ use unicode_width::UnicodeWidthStr;
 /// Columns of a cell and of a problem's label.
 const CELL_COLUMNS: usize = 9;
 
-/// The text of a board of these settings for a caller at a moment: the contest's name, a title line,
-/// the heading with the labels of the board's columns, and a line for each of its rows. The title names
-/// the group whose board it is, if it is one, by its place in the settings, from 0.
+/// The text of a board of these settings for a caller at a moment: the contest's name, a title
+/// line, the heading with the labels of the board's columns, and a line for each of its rows. The
+/// title names the group whose board it is, if it is one, by its place in the settings, from 0.
 ///
 /// # Errors
 ///
@@ -145,8 +148,8 @@ fn push_reltime(out: &mut String, time: RelTime) -> Result<(), AllocError>
     }
 }
 
-/// The word that says where the contest stands: the first that holds of `before`, `final`, `frozen`,
-/// `ended` and `running`.
+/// The word that says where the contest stands: the first that holds of `before`, `final`,
+/// `frozen`, `ended` and `running`.
 fn word_at(settings: &Settings, marks: &Marks, now: Moment) -> &'static str
     ensures { result.now ≡ word_at settings.now marks.now now }
 {

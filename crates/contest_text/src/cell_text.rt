@@ -6,8 +6,8 @@ use contest_score::Cell;
 use contest_types::Minute;
 use std::alloc::AllocError;
 
-/// Writes a cell in place of what stood in the buffer: `+<judged>/<minute>` where it is solved, else
-/// `-<judged>`, then `?<pending>`; a dot where that is empty.
+/// Writes a cell in place of what stood in the buffer: `+<judged>/<minute>` where it is solved,
+/// else `-<judged>`, then `?<pending>`; a dot where that is empty.
 pub(crate) fn write_cell(out: &mut String, cell: &Cell) -> Result<(), AllocError>
     ensures { OnOk result (string_bytes out.new ≡ cell_text cell.now) }
 {

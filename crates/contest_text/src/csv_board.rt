@@ -3,7 +3,8 @@ ghost use Rattle.std.specs.Prelude.{◌≡◌, ◌++◌, OnOk, IfOk, [], map, st
 ghost use Rattle.std.specs.List.{flat_map};
 ghost use Rattle.csv.specs.Records.{fields_of, partial_of};
 ghost use Rattle.contest_types.specs.ProblemPlaces.{label_at};
-ghost use Rattle.contest_text.specs.BoardCsv.{board_csv, header_fields, last_text, row_fields, row_record};
+ghost use Rattle.contest_text.specs.BoardCsv.{board_csv, header_fields, last_text, row_fields};
+ghost use Rattle.contest_text.specs.BoardCsv.{row_record};
 ghost use Rattle.contest_text.specs.CellText.{cell_text};
 
 use crate::board::number_text;
@@ -14,8 +15,9 @@ use contest_types::{Minute, Settings};
 use csv::ByteRecord;
 use std::alloc::{AllocError, Global};
 
-/// The CSV of a board of these settings: the header `rank,team_id,team,solved,time,last` with the labels
-/// of the board's columns, and a record for each of its rows. `last` is empty if nothing is solved.
+/// The CSV of a board of these settings: the header `rank,team_id,team,solved,time,last` with the
+/// labels of the board's columns, and a record for each of its rows. `last` is empty if nothing is
+/// solved.
 ///
 /// # Errors
 ///

@@ -22,8 +22,8 @@ pub fn push_fields(fields: &mut ByteRecord, texts: &[&str]) -> Result<(), AllocE
     Ok(())
 }
 
-/// The text of a record, with the end of its line: a field is between quotes if it holds a quote, a comma
-/// or an end of line, and a quote in it stands twice.
+/// The text of a record, with the end of its line: a field is between quotes if it holds a quote, a
+/// comma or an end of line, and a quote in it stands twice.
 ///
 /// # Errors
 ///

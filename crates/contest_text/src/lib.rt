@@ -1,4 +1,5 @@
-//! A contest's results as text: the board that a terminal shows, and as CSV; the awards; records of CSV.
+//! A contest's results as text: the board that a terminal shows, and as CSV; the awards; records of
+//! CSV.
 #![tactic(auto)]
 
 mod awards;

@@ -1,5 +1,5 @@
-use Rattle.std.proofs.Common.{◌≡◌, ◌++◌, ◌+◌, ◌-◌, ◌∙◌, sym, ap, ℕ, List, Option, Some, None, take, drop, length, arith, append_assoc, take-add, length-drop}
-use Rattle.std.proofs.lemmas.List.{take_all}
+use Rattle.std.proofs.Common.{◌++◌, ◌+◌, ◌-◌, ◌∙◌, sym, ap, ℕ, List, Option, Some, None, take, drop, arith, append_assoc, take-add, length-drop}
+use Rattle.std.proofs.lemmas.List.{take_all, take_rest}
 use Rattle.std.specs.Io.KnownBytes.{Appends}
 use Rattle.contest_streams.proofs.StreamLemmas.{some_taken}
 use Rattle.contest_streams.proofs.output.write_all.Goals as goal
@@ -11,12 +11,9 @@ joins (Some x) (Some y) None xs i n p q = absurd q
 joins (Some x) (Some y) (Some z) xs i n p q =
     q ∙ ap (λ t. t ++ take n (drop i xs)) p ∙ append_assoc x (take i xs) (take n (drop i xs)) ∙ ap (λ t. x ++ t) (sym (take-add i n xs))
 
-rest : (xs : List ℕ) (i : ℕ) → take (length xs - i) (drop i xs) ≡ drop i xs
-rest xs i = grind (arith, take_all, length-drop)
-
 pub loop-sent-preserved : goal.loop-sent-preserved
 loop-sent-preserved g c =
-    let r = rest c.args.bytes.now c.loop-sent.sent in
+    let r = take_rest c.args.bytes.now c.loop-sent.sent in
     let e = c.in-Ok.ensures in
     let b = e.bytes in
     let n = e.bound in
