@@ -2,25 +2,18 @@
 use Rattle.std.proofs.Common.{◌≡◌, ℕ, ◌+◌, ◌<◌, get_or, take, drop, length, Bool, true, false, cond, List, [], ◌∷◌, ◌++◌, refl, sym, ap, ◌∙◌}
 use Rattle.std.specs.Prelude.{◌&&◌, ◌||◌, not}
 use Rattle.std.specs.Str.{bytes_eq}
-use Rattle.std.proofs.lemmas.Bool.{false≢true}
+use Rattle.std.proofs.lemmas.Bool.{false≢true, or_right, and_right}
 use Rattle.std.proofs.lemmas.List.{take_more, drop_more, take-append-drop}
 use Rattle.std.proofs.lemmas.List.Folds.{list_any-append}
 use Rattle.std.proofs.lemmas.Slice.Eq.{bytes_eq-Decides}
 use Rattle.contest_types.specs.Places.{is_among, are_different}
 use Rattle.contest_types.proofs.PlaceLemmas.{same_bytes, different_push}
-
-second_true : (a b : Bool) → b ≡ true → (a || b) ≡ true
-second_true true b h = refl
-second_true false b h = h
-
-second_false : (a b : Bool) → b ≡ false → (a && b) ≡ false
-second_false true b h = h
-second_false false b h = refl
+use Rattle.contest_types.proofs.Tests.{found_last}
 
 -- a text that stands behind others is among all of them
 among_behind : (xs : List (List ℕ)) (x y : List ℕ) (zs : List (List ℕ)) → bytes_eq y x ≡ true → is_among (xs ++ y ∷ zs) x ≡ true
 among_behind [] x y zs e = ap (λ b. b || is_among zs x) e
-among_behind (w ∷ ws) x y zs e = second_true (bytes_eq w x) _ (among_behind ws x y zs e)
+among_behind (w ∷ ws) x y zs e = or_right (bytes_eq w x) _ (among_behind ws x y zs e)
 
 -- texts aren't different if one comes again
 twice_next : (x : List ℕ) (xs : List (List ℕ)) (y : List ℕ) (zs : List (List ℕ)) (b : Bool) → bytes_eq x y ≡ b
@@ -28,17 +21,11 @@ twice_next : (x : List ℕ) (xs : List (List ℕ)) (y : List ℕ) (zs : List (Li
 twice_next x xs y zs true e more h =
     let same : bytes_eq y x ≡ true = (bytes_eq-Decides y x).1 (sym (same_bytes x y e)) in
     ap (λ b. not b && are_different (xs ++ y ∷ zs)) (among_behind xs x y zs same)
-twice_next x xs y zs false e more h = second_false (not (is_among (xs ++ y ∷ zs) x)) _ (more (rw e at h))
+twice_next x xs y zs false e more h = and_right (not (is_among (xs ++ y ∷ zs) x)) _ (more (rw e at h))
 
 twice : (xs : List (List ℕ)) (y : List ℕ) (zs : List (List ℕ)) → is_among xs y ≡ true → are_different (xs ++ y ∷ zs) ≡ false
 twice [] y zs h = absurd (false≢true h)
 twice (x ∷ xs) y zs h = twice_next x xs y zs (bytes_eq x y) refl (twice xs y zs) h
-
-found_last : (b had : Bool) → cond b true had ≡ (had || (b || false))
-found_last true true = refl
-found_last true false = refl
-found_last false true = refl
-found_last false false = refl
 
 -- what was seen, once one more was
 pub seen_more : (ids : List (List ℕ)) (i : ℕ) (id other : List ℕ) (had has : Bool) → i < length ids → id ≡ get_or ids i id

@@ -1,5 +1,6 @@
 //! The records of a CSV file, one after the other (RFC 4180 as the crate csv reads it).
-ghost use Rattle.std.specs.Prelude.{◌≡◌, ◌≤◌, ◌<◌, ◌^◌, ◌∷◌, [], Ok, Some, true, false, IfErr, length};
+ghost use Rattle.std.specs.Prelude.{◌≡◌, ◌≤◌, ◌<◌, ◌^◌, ◌∷◌, [], Ok, Some, true, false, IfErr};
+ghost use Rattle.std.specs.Prelude.{length};
 ghost use Rattle.csv.specs.Reading.{default_config, records, stops_reader, strip_bom};
 ghost use Rattle.csv.specs.Records.{field_at, fields_of};
 

@@ -1,6 +1,7 @@
 //! The values that the fields of a file's record spell.
 ghost use Rattle.std.specs.Prelude.{◌≡◌};
-ghost use Rattle.contest_files.specs.FieldTexts.{is_empty, flag_of, flag_or_empty, span_of, span_or_empty, ordinal_of};
+ghost use Rattle.contest_files.specs.FieldTexts.{is_empty, flag_of, flag_or_empty, span_of};
+ghost use Rattle.contest_files.specs.FieldTexts.{span_or_empty, ordinal_of};
 
 use contest_types::{RelTime, TimeSpan, decimal_number};
 

@@ -1,8 +1,11 @@
 //! Reading the members of a JSON object.
-ghost use Rattle.std.specs.Prelude.{◌≡◌, ◌<◌, Some, true, IfOk, IfErr, is_some, length, option_map, option_and_then};
+ghost use Rattle.std.specs.Prelude.{◌≡◌, ◌<◌, Some, true, IfOk, IfErr, is_some, length, option_map};
+ghost use Rattle.std.specs.Prelude.{option_and_then};
 ghost use Rattle.serde_json.specs.Find.{as_array};
 ghost use Rattle.serde_json.specs.View.{view};
-ghost use Rattle.contest_files.specs.JsonMembers.{data_of, flag_in, flag_or_false, id_in, name_in, number_in, number_or, number_to, only_item, optional_id_in, present_in, text_in};
+ghost use Rattle.contest_files.specs.JsonMembers.{data_of, flag_in, flag_or_false, id_in, name_in};
+ghost use Rattle.contest_files.specs.JsonMembers.{number_in, number_or, number_to, only_item};
+ghost use Rattle.contest_files.specs.JsonMembers.{optional_id_in, present_in, text_in};
 ghost use Rattle.contest_files.specs.Refused.{IsRefused};
 
 use contest_types::{Id, Name, Refusal};

@@ -1,5 +1,5 @@
-//! What the files and bodies of a contest director are made of: the records of CSV, the members of JSON
-//! objects, and the values that they spell.
+//! What the files and bodies of a contest director are made of: the records of CSV, the members of
+//! JSON objects, and the values that they spell.
 #![tactic(auto)]
 
 mod csv_records;

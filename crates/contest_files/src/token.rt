@@ -3,8 +3,8 @@ ghost use Rattle.std.specs.Prelude.{◌≡◌, ◌<◌, ◌≤◌, ◌==◌, IfS
 ghost use Rattle.std.specs.List.{list_all, position};
 ghost use Rattle.contest_files.specs.Tokens.{is_token, is_token_byte, token_bytes};
 
-/// Whether a text is a token: one or more of the letters, the digits and `-._~+/`, then any number of
-/// `=` (RFC 6750, section 2.1).
+/// Whether a text is a token: one or more of the letters, the digits and `-._~+/`, then any number
+/// of `=` (RFC 6750, section 2.1).
 pub fn is_token(text: &[u8]) -> bool
     ensures { result ≡ is_token text.now }
 {

@@ -38,9 +38,14 @@ no_text : rejudging_of (with_items (id (codes "s1-1") ∷ number (unsigned 1) �
 unfolding rejudging_of chars
 no_text = refl
 
-no_id : rejudging_of (with_items (id (codes "s1-1") ∷ id (codes "s1 2") ∷ [])) ≡ None
+-- a text that is no id is read, and names no submission
+no_id : rejudging_of (with_items (id (codes "s1 2") ∷ id [] ∷ [])) ≡ asked (codes "s1 2" ∷ [] ∷ [])
 unfolding rejudging_of chars
 no_id = refl
+
+no_id_twice : rejudging_of (with_items (id (codes "s1 2") ∷ id (codes "s1 2") ∷ [])) ≡ None
+unfolding rejudging_of chars
+no_id_twice = refl
 
 -- one of the two members is missing, null, or of another kind
 no_reason : rejudging_of (object (member (codes "submission_ids") (array (items_of (id (codes "s1-1") ∷ []))) no_members)) ≡ None

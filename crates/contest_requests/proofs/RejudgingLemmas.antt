@@ -11,9 +11,8 @@ use Rattle.contest_types.specs.declared.limits.TheConstants.{REJUDGING_MEMBERS}
 use Rattle.contest_types.specs.declared.refusal.Refusal.TheVariants.{Malformed}
 use Rattle.contest_types.proofs.PlaceLemmas.{and_left, and_right}
 use Rattle.contest_rules.specs.declared.opening.WantedRejudging.{WantedRejudging}
-use Rattle.contest_files.specs.IdArrays.{ids_in}
 use Rattle.contest_files.specs.JsonMembers.{data_of, name_in}
-use Rattle.contest_requests.specs.RejudgingBodies.{may_be_members, posted_rejudging, rejudging_in, rejudging_of, submissions_in}
+use Rattle.contest_requests.specs.RejudgingBodies.{may_be_members, posted_rejudging, rejudging_in, rejudging_of, submissions_in, texts_in}
 
 -- what passes a test is what was tested
 kept : (b : Bool) (xs ys : List (List ℕ)) → (if b then Some xs else None) ≡ Some ys → (b ≡ true) × (xs ≡ ys)
@@ -21,7 +20,7 @@ kept true xs ys is = (refl, cc is)
 kept false xs ys is = absurd (cc is)
 
 members_read : (d : Data) (ids : List (List ℕ)) → submissions_in d ≡ Some ids → may_be_members ids ≡ true
-members_read d ids is = option_and_then_some (λ found. if may_be_members found then Some found else None) (option_and_then ids_in (get (codes "submission_ids") d)) ids is
+members_read d ids is = option_and_then_some (λ found. if may_be_members found then Some found else None) (option_and_then texts_in (get (codes "submission_ids") d)) ids is
     (λ found _ passed. (let k = kept (may_be_members found) found ids passed in subst (λ xs. may_be_members xs ≡ true) k.1 k.0))
 
 -- the members of what is read are those that its object names

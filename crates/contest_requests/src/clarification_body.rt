@@ -3,7 +3,10 @@ ghost use Rattle.std.specs.Prelude.{◌≡◌, Some, None, true, IfOk, IfErr, is
 ghost use Rattle.std.specs.Option.{option_map};
 ghost use Rattle.serde_json.specs.View.{view};
 ghost use Rattle.contest_files.specs.Refused.{IsRefused};
-ghost use Rattle.contest_requests.specs.ClarificationBodies.{addressee_of, are_all, are_one, asked_in, asked_of, clarification_in, clarification_of, is_from, message_in, receivers_in};
+ghost use Rattle.contest_requests.specs.ClarificationBodies.{addressee_of, are_all, are_one};
+ghost use Rattle.contest_requests.specs.ClarificationBodies.{asked_in, asked_of, clarification_in};
+ghost use Rattle.contest_requests.specs.ClarificationBodies.{clarification_of, is_from, message_in};
+ghost use Rattle.contest_requests.specs.ClarificationBodies.{receivers_in};
 
 use crate::KeyField;
 use crate::submission_body::{is_own, key_in};
@@ -41,8 +44,9 @@ pub struct ClarificationBody {
 ///
 /// # Errors
 ///
-/// `Malformed` where the key or the body is off its form; where a team names another, or writes to one or to a
-/// group; or where the jury writes for a team, or to a team and a group at once. Else want of memory.
+/// `Malformed` where the key or the body is off its form; where a team names another, or writes to
+/// one or to a group; or where the jury writes for a team, or to a team and a group at once. Else
+/// want of memory.
 pub fn read_clarification(
     alloc: Global,
     team: Option<&[u8]>,
@@ -88,7 +92,8 @@ fn addressee_of(to: Receivers) -> WantedAddressee
     }
 }
 
-// Whether a team asks for itself and the jury alone; the jury writes for no team, and to a team or a group.
+// Whether a team asks for itself and the jury alone; the jury writes for no team, and to a team or
+// a group.
 fn is_from(team: Option<&[u8]>, clarification: &ClarificationBody) -> bool
     ensures { result ≡ is_from (option_map (λ id. id.now) team.entry) clarification.now }
 {

@@ -3,7 +3,8 @@ ghost use Rattle.std.specs.Prelude.{◌≡◌, ◌⊎◌, true, Some, Ok, Err, I
 ghost use Rattle.std.specs.Option.{option_map};
 ghost use Rattle.serde_json.specs.View.{view};
 ghost use Rattle.contest_files.specs.Refused.{IsRefused};
-ghost use Rattle.contest_requests.specs.ClockBodies.{clock_in, clock_of, is_named, moment_of, posted_clock, start_of, time_of, wanted_of};
+ghost use Rattle.contest_requests.specs.ClockBodies.{clock_in, clock_of, is_named, moment_of};
+ghost use Rattle.contest_requests.specs.ClockBodies.{posted_clock, start_of, time_of, wanted_of};
 
 use contest_files::value_of;
 use contest_rules::WantedClock;
@@ -11,7 +12,8 @@ use contest_types::{Id, Moment, Refusal};
 use serde_json::Value;
 use std::alloc::Global;
 
-/// What a caller asks in a body of the clock of the contest with this id, if it is an administrator.
+/// What a caller asks in a body of the clock of the contest with this id, if it is an
+/// administrator.
 ///
 /// # Errors
 ///
@@ -32,9 +34,9 @@ pub fn post_clock(
     read_clock(alloc, contest, body)
 }
 
-/// What a body asks of the clock of the contest with this id: it has one of `start_time`, a moment or
-/// null, and `scoreboard_thaw_time`, a moment, and not both. A member that is null is there. An `id` that
-/// is there is the contest's (Contest API 2023-06, contests: PATCH).
+/// What a body asks of the clock of the contest with this id: it has one of `start_time`, a moment
+/// or null, and `scoreboard_thaw_time`, a moment, and not both. A member that is null is there. An
+/// `id` that is there is the contest's (Contest API 2023-06, contests: PATCH).
 ///
 /// # Errors
 ///

@@ -20,7 +20,8 @@ pub struct JuryVerdict {
     pub wanted: WantedVerdict,
 }
 
-/// The verdict that a caller posts in a body, if it holds the account of a judge or an administrator.
+/// The verdict that a caller posts in a body, if it holds the account of a judge or an
+/// administrator.
 ///
 /// # Errors
 ///

@@ -7,6 +7,7 @@ mod jury_verdict;
 mod rejudging_body;
 mod request;
 mod submission_body;
+mod wanted_ids;
 
 pub use clarification_body::read_clarification;
 pub use clock_body::{post_clock, read_clock};

@@ -1,11 +1,15 @@
 //! The body of a posted submission.
-ghost use Rattle.std.specs.Prelude.{◌≡◌, ◌⊎◌, ◌≤◌, Some, Ok, Err, true, IfOk, IfErr, is_some, length};
+ghost use Rattle.std.specs.Prelude.{◌≡◌, ◌⊎◌, ◌≤◌, Some, Ok, Err, true, IfOk, IfErr, is_some};
+ghost use Rattle.std.specs.Prelude.{length};
 ghost use Rattle.serde_json.specs.View.{view};
 ghost use Rattle.base64.specs.GeneralPurpose.{decoded_of};
 ghost use Rattle.base64.specs.Engines.{standard};
 ghost use Rattle.contest_types.specs.declared.limits.TheConstants.{POSTED_FILE as posted_file};
 ghost use Rattle.contest_files.specs.Refused.{IsRefused};
-ghost use Rattle.contest_requests.specs.SubmissionBodies.{entry_point_in, file_in, is_own, key_in, refusal_of_decoding, submission_in, submission_of, wanted_in, wanted_of, within_limit};
+ghost use Rattle.contest_requests.specs.SubmissionBodies.{entry_point_in, file_in, is_own, key_in};
+ghost use Rattle.contest_requests.specs.SubmissionBodies.{refusal_of_decoding, submission_in};
+ghost use Rattle.contest_requests.specs.SubmissionBodies.{submission_of, wanted_in, wanted_of};
+ghost use Rattle.contest_requests.specs.SubmissionBodies.{within_limit};
 
 use crate::KeyField;
 use base64::DecodeAllocError;
@@ -36,8 +40,8 @@ pub struct SubmissionBody {
 ///
 /// # Errors
 ///
-/// `Malformed` where the key or the body is off its form, or names another team; then `BodyTooLarge`
-/// where the file is over its limit; else want of memory.
+/// `Malformed` where the key or the body is off its form, or names another team; then
+/// `BodyTooLarge` where the file is over its limit; else want of memory.
 pub fn read_submission(
     alloc: Global,
     team: &[u8],
