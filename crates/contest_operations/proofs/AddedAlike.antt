@@ -1,6 +1,6 @@
 -- A submission that a team adds to alike contests leaves them alike for it.
 use Rattle.std.proofs.Common.{◌≡◌, ◌∙◌, ◌+◌, ◌≤◌, ℕ, zero, suc, Bool, true, false, List, [], ◌∷◌, ◌++◌, length, map, refl, sym, ap, subst, arith}
-use Rattle.std.specs.Prelude.{◌==◌, ◌&&◌, ◌||◌, filter, if◌then◌else◌}
+use Rattle.std.specs.Prelude.{◌==◌, ◌&&◌, if◌then◌else◌}
 use Rattle.std.specs.List.{list_all, list_any, range_with_len}
 use Rattle.std.proofs.lemmas.Bool.{eq-eqb, eqb-true, false≢true}
 use Rattle.std.proofs.lemmas.Bool.Decides.{nat_tests}
@@ -21,6 +21,7 @@ use Rattle.contest_types.proofs.PlaceLemmas.{and_left, and_right}
 use Rattle.contest_types.proofs.ValidParts.{parts}
 use Rattle.contest_view.proofs.OwnNumbers.{number_of, own_numbers}
 use Rattle.contest_rules.proofs.SubmittingLemmas.{own_sight, own_alike}
+use Rattle.contest_types.proofs.Filters.{any_both}
 
 -- a team's submissions with one more
 pub own_more : (team : ℕ) (ss : List Submission) (s : Submission) → (s.team == team) ≡ true → submissions_of team (ss ++ s ∷ []) ≡ submissions_of team ss ++ s ∷ []
@@ -54,16 +55,6 @@ past_last (s ∷ ss) k n (suc m) all past =
     let rest : map number_of ss ≡ range_with_len (k + 1) m = cc all in
     let other : (s.number == n) ≡ false = not_it s.number k n (length ss) first past in
     rw other (past_last ss (k + 1) n m rest (omega (arith, past)))
-
--- none passes both tests where none of those that pass the first passes the second
-any_both : {X : Type 0} (p q : X → Bool) (xs : List X) → list_any (λ x. p x && q x) xs ≡ list_any q (filter p xs)
-any_both p q [] = refl
-any_both p q (x ∷ xs) =
-    let go : (b : Bool) → p x ≡ b → list_any (λ x. p x && q x) (x ∷ xs) ≡ list_any q (filter p (x ∷ xs)) = elim [
-      | true ↦ λ is. rw is (ap (λ rest. q x || rest) (any_both p q xs))
-      | false ↦ λ is. rw is (any_both p q xs)
-    ] in
-    go (p x) refl
 
 -- nothing is released on what isn't there
 no_release : (x : ContestState) (team n : ℕ) (vs : List Release) → has_submission x team n ≡ false → list_all (is_valid_release x) vs ≡ true → releases_on team n vs ≡ []

@@ -1,11 +1,10 @@
 -- A caller who is known speaks for a team that is there.
 use Rattle.std.proofs.Common.{◌≡◌, ◌+◌, ◌<◌, ◌≤◌, ◌^◌, ◌∙◌, ℕ, Bool, true, false, List, [], ◌∷◌, length, map, Option, Some, None, refl, sym, ap, subst, arith}
-use Rattle.std.specs.Prelude.{◌||◌, not, find, IfSome, is_some, nat_lt, if◌then◌else◌}
+use Rattle.std.specs.Prelude.{◌||◌, not, find, IfSome, is_some, if◌then◌else◌}
 use Rattle.std.specs.List.{list_all}
 use Rattle.std.specs.Option.{option_map}
 use Rattle.std.specs.Str.{bytes_eq}
-use Rattle.std.proofs.lemmas.Bool.{false≢true}
-use Rattle.std.proofs.lemmas.Bool.Decides.{nat_tests}
+use Rattle.std.proofs.lemmas.Bool.{false≢true, not-true, ltb-true}
 use Rattle.std.proofs.lemmas.Slice.Eq.{bytes_eq-Decides}
 use Rattle.sha2.specs.Sha256.{sha256}
 use Rattle.contest_types.specs.Places.{are_different, is_among}
@@ -17,7 +16,7 @@ use Rattle.contest_types.specs.ValidFixed.{is_valid_account}
 use Rattle.contest_types.specs.declared.account.Account.{Account}
 use Rattle.contest_types.specs.declared.account.Role.{Role}
 use Rattle.contest_types.specs.declared.account.Role.TheVariants as role
-use Rattle.contest_types.proofs.PlaceLemmas.{and_left, and_right, not_true, same_bytes}
+use Rattle.contest_types.proofs.PlaceLemmas.{and_left, and_right, same_bytes}
 use Rattle.contest_types.proofs.ValidParts.{parts, four}
 use Rattle.contest_rules.specs.Clarifying.{HasAudience}
 use Rattle.contest_rules.specs.Laws.{IsWriter}
@@ -38,12 +37,9 @@ find_passes {X} t p (y ∷ xs) x all at =
     ] in
     go (p y) at
 
-below : (a b : ℕ) → nat_lt a b ≡ true → a < b
-below a b h = grind (arith, nat_tests)
-
 -- an account that is valid speaks for a team that is there, if it speaks for one
 role_there : (s : Setup) (r : Role) → has_valid_role s r ≡ true → IfSome (team_for r) (λ team. team < length s.teams)
-role_there s (role.Team team) h = below team _ h
+role_there s (role.Team team) h = ltb-true team _ h
 role_there s role.Judge h = tt
 role_there s role.Admin h = tt
 
@@ -121,7 +117,7 @@ found_among p (b ∷ bs) a h =
 named_once : (p : Account → Bool) (accounts : List Account) (a : Account) → are_different (map (λ (b : Account). b.id) accounts) ≡ true → find p accounts ≡ Some a → account_named accounts a.id ≡ Some a
 named_once p [] a once h = absurd (cc h)
 named_once p (b ∷ bs) a once h =
-    let new : is_among (map (λ (c : Account). c.id) bs) b.id ≡ false = not_true _ (and_left (not (is_among (map (λ (c : Account). c.id) bs) b.id)) _ once) in
+    let new : is_among (map (λ (c : Account). c.id) bs) b.id ≡ false = not-true _ (and_left (not (is_among (map (λ (c : Account). c.id) bs) b.id)) _ once) in
     let go : (c : Bool) → (if c then Some b else find p bs) ≡ Some a → (d : Bool) → bytes_eq b.id a.id ≡ d → (if d then Some b else account_named bs a.id) ≡ Some a = elim [
       | true ↦ λ e. elim [ true ↦ λ same. e | false ↦ λ other. (let is : b ≡ a = cc e in absurd (false≢true (sym other ∙ (ap (λ (k : Account). bytes_eq k.id a.id) is ∙ (bytes_eq-Decides a.id a.id).1 refl)))) ]
       | false ↦ λ e. elim [

@@ -1,16 +1,15 @@
 -- What stands in the front of a list, where a contest has grown; and what two texts name there.
-use Rattle.std.proofs.Common.{◌≡◌, ◌∙◌, ◌+◌, ◌<◌, ℕ, zero, suc, Bool, true, false, List, [], ◌∷◌, ◌++◌, length, map, Option, Some, None, refl, sym, ap, arith}
-use Rattle.std.specs.Prelude.{◌==◌, find, slice_get, bytes_eq}
+use Rattle.std.proofs.Common.{◌≡◌, ◌∙◌, ◌+◌, ◌<◌, ℕ, suc, Bool, true, false, List, [], ◌∷◌, ◌++◌, length, map, Option, Some, None, refl, sym, ap, arith}
+use Rattle.std.specs.Prelude.{◌==◌, find, bytes_eq}
 use Rattle.std.specs.List.{position_from}
 use Rattle.std.specs.Option.{option_or}
 use Rattle.std.proofs.lemmas.Bool.{eq-eqb}
 use Rattle.std.proofs.lemmas.Bool.Decides.{nat_tests}
 use Rattle.std.proofs.lemmas.List.{map-append}
-use Rattle.std.proofs.lemmas.Slice.Eq.{bytes_eq-Decides}
 use Rattle.std.proofs.lemmas.List.Folds.{find-append}
 use Rattle.contest_types.specs.Places.{place_of}
 use Rattle.contest_types.specs.State.{ContestState, FixedPart}
-use Rattle.contest_types.proofs.PlaceLemmas.{differs, same_bytes}
+use Rattle.contest_types.proofs.PlaceLemmas.{differs, same_bytes, bytes_same}
 use Rattle.contest_rules.specs.Submitting.{same_text}
 use Rattle.contest_operations.specs.Growing.{Grows, HasRows, IsFront}
 
@@ -32,14 +31,6 @@ pub place_front : {T : Type 0} (id : T → List ℕ) (bytes : List ℕ) (xs ys :
 place_front id bytes xs ys i (more, e) h =
     ap (λ l. place_of bytes (map id l)) e ∙ (ap (place_of bytes) (map-append id xs more) ∙ position_front (bytes_eq bytes) 0 (map id xs) (map id more) i h)
 
-at_append : {X : Type 0} (xs more : List X) (i : ℕ) → i < length xs → slice_get (xs ++ more) i ≡ slice_get xs i
-at_append [] more i l = absurd (omega (arith, l))
-at_append (x ∷ xs) more zero l = refl
-at_append (x ∷ xs) more (suc i) l = at_append xs more i (omega (arith, l))
-
-pub at_front : {X : Type 0} (xs ys : List X) (i : ℕ) → IsFront xs ys → i < length xs → slice_get ys i ≡ slice_get xs i
-at_front xs ys i (more, e) l = ap (λ zs. slice_get zs i) e ∙ at_append xs more i l
-
 pub some_found : {X : Type 0} (p : X → Bool) (xs : List X) (x : X) → find p xs ≡ Some x → 0 < length xs
 some_found p [] x h = absurd (cc h)
 some_found p (y ∷ ys) x h = omega arith
@@ -60,9 +51,6 @@ apart n i k e = grind (arith, nat_tests, e)
 
 apart_from : (n i k : ℕ) → i ≡ (n + 1) + k → (i == n) ≡ false
 apart_from n i k e = grind (arith, nat_tests, e)
-
-pub bytes_same : (xs : List ℕ) → bytes_eq xs xs ≡ true
-bytes_same xs = (bytes_eq-Decides xs xs).1 refl
 
 pub same_place_from : (a b : List ℕ) (n : ℕ) (ids : List (List ℕ)) (i j : ℕ) → position_from (bytes_eq a) n ids ≡ Some i → position_from (bytes_eq b) n ids ≡ Some j → (i == j) ≡ bytes_eq a b
 same_place_from a b n [] i j h k = absurd (cc h)

@@ -1,5 +1,5 @@
 -- What may be added lets a contest grow.
-use Rattle.std.proofs.Common.{◌≡◌, ◌∙◌, ℕ, Bool, true, List, [], ◌∷◌, ◌++◌, append-nil, length, refl, sym, ap, subst, inl, inr, arith}
+use Rattle.std.proofs.Common.{◌≡◌, ◌∙◌, ℕ, Bool, true, List, [], ◌∷◌, ◌++◌, length, refl, sym, ap, subst, inl, inr, arith}
 use Rattle.std.specs.Prelude.{◌⊎◌, ◌<◌, ◌==◌, ◌&&◌}
 use Rattle.std.proofs.lemmas.Bool.{eqb-true}
 use Rattle.std.proofs.lemmas.List.{append_assoc}
@@ -10,12 +10,7 @@ use Rattle.contest_types.specs.declared.entry.Entry.{Entry}
 use Rattle.contest_types.specs.declared.entry.Entry.TheVariants.{NewSubmission, NewProposal, NewRelease, NewClarification, NewRejudging, SetMember, SetRejudging, SetStart, SetThaw, SetFinalized, NewType, NewLanguage, NewProblem, NewGroup, NewTeam, NewAccount}
 use Rattle.contest_types.proofs.PlaceLemmas.{and_left, and_right}
 use Rattle.contest_operations.specs.Growing.{Grows, HasRows, IsFront}
-
-pub front_same : {X : Type 0} (xs : List X) → IsFront xs xs
-front_same xs = ([], sym (append-nil xs))
-
-pub front_more : {X : Type 0} (xs : List X) (x : X) → IsFront xs (xs ++ x ∷ [])
-front_more xs x = (x ∷ [], refl)
+use Rattle.contest_types.proofs.GrownSettings.{front_same, front_more, HasFronts, one_type, one_language, one_problem, one_group, one_team}
 
 pub front_onward : {X : Type 0} (xs ys zs : List X) → IsFront xs ys → IsFront ys zs → IsFront xs zs
 front_onward xs ys zs (more, e) (rest, f) = (more ++ rest, f ∙ (ap (λ l. l ++ rest) e ∙ append_assoc xs more rest))
@@ -48,15 +43,14 @@ rows_grow x y same start submissions proposals releases clarifications =
     }
 
 -- changes of the settings alone
-settings_grow : (x : ContestState) (t : Setup) → t.head ≡ x.fixed.settings.head → IsFront x.fixed.settings.types t.types → IsFront x.fixed.settings.languages t.languages
-    → IsFront x.fixed.settings.problems t.problems → IsFront x.fixed.settings.groups t.groups → IsFront x.fixed.settings.teams t.teams → Grows x (with_settings x t)
-settings_grow x t head types languages problems groups teams = record {
+settings_grow : (x : ContestState) (t : Setup) → t.head ≡ x.fixed.settings.head → HasFronts x.fixed.settings t → Grows x (with_settings x t)
+settings_grow x t head lists = record {
   head = head;
-  types = types;
-  languages = languages;
-  problems = problems;
-  groups = groups;
-  teams = teams;
+  types = lists.types;
+  languages = lists.languages;
+  problems = lists.problems;
+  groups = lists.groups;
+  teams = lists.teams;
   start = λ some. refl;
   submissions = front_same x.submissions;
   proposals = front_same x.proposals;
@@ -105,11 +99,11 @@ entry_grows x (SetRejudging n state) h = rows_grow x _ refl (λ some. refl) (fro
 entry_grows x (SetStart start) h = rows_grow x _ refl (λ some. absurd (no_rows _ _ _ h some)) (front_same x.submissions) (front_same x.proposals) (front_same x.releases) (front_same x.clarifications)
 entry_grows x (SetThaw thaw) h = rows_grow x _ refl (λ some. refl) (front_same x.submissions) (front_same x.proposals) (front_same x.releases) (front_same x.clarifications)
 entry_grows x (SetFinalized finalized) h = rows_grow x _ refl (λ some. refl) (front_same x.submissions) (front_same x.proposals) (front_same x.releases) (front_same x.clarifications)
-entry_grows x (NewType t) h = let s = x.fixed.settings in settings_grow x _ refl (front_more s.types t) (front_same s.languages) (front_same s.problems) (front_same s.groups) (front_same s.teams)
-entry_grows x (NewLanguage l) h = let s = x.fixed.settings in settings_grow x _ refl (front_same s.types) (front_more s.languages l) (front_same s.problems) (front_same s.groups) (front_same s.teams)
-entry_grows x (NewProblem p) h = let s = x.fixed.settings in settings_grow x _ refl (front_same s.types) (front_same s.languages) (front_more s.problems p) (front_same s.groups) (front_same s.teams)
-entry_grows x (NewGroup g) h = let s = x.fixed.settings in settings_grow x _ refl (front_same s.types) (front_same s.languages) (front_same s.problems) (front_more s.groups g) (front_same s.teams)
-entry_grows x (NewTeam t) h = let s = x.fixed.settings in settings_grow x _ refl (front_same s.types) (front_same s.languages) (front_same s.problems) (front_same s.groups) (front_more s.teams t)
+entry_grows x (NewType t) h = settings_grow x _ refl (one_type x.fixed.settings t)
+entry_grows x (NewLanguage l) h = settings_grow x _ refl (one_language x.fixed.settings l)
+entry_grows x (NewProblem p) h = settings_grow x _ refl (one_problem x.fixed.settings p)
+entry_grows x (NewGroup g) h = settings_grow x _ refl (one_group x.fixed.settings g)
+entry_grows x (NewTeam t) h = settings_grow x _ refl (one_team x.fixed.settings t)
 entry_grows x (NewAccount a) h = rows_grow x _ refl (λ some. refl) (front_same x.submissions) (front_same x.proposals) (front_same x.releases) (front_same x.clarifications)
 
 pub entries_grow : (x : ContestState) (es : List Entry) → are_addable x es ≡ true → Grows x (add_all x es)

@@ -4,7 +4,7 @@ use Rattle.std.specs.Prelude.{◌==◌, ◌&&◌, find, is_some, nat_lt, if◌th
 use Rattle.std.specs.List.{list_any}
 use Rattle.std.specs.Option.{option_map, option_map_or, option_and_then, option_or}
 use Rattle.std.specs.Str.{bytes_eq}
-use Rattle.std.proofs.lemmas.Bool.{eq-eqb, eqb-true, false≢true}
+use Rattle.std.proofs.lemmas.Bool.{eq-eqb, eqb-true, false≢true, ltb-true}
 use Rattle.std.proofs.lemmas.List.Folds.{find-append}
 use Rattle.std.proofs.lemmas.Slice.Eq.{bytes_eq-Decides}
 use Rattle.serde_json.specs.Data.{Data, object}
@@ -26,9 +26,8 @@ use Rattle.contest_types.specs.declared.objects.Problem.{Problem}
 use Rattle.contest_types.specs.declared.objects.Team.{Team}
 use Rattle.contest_types.specs.declared.refusal.Refusal.TheVariants.{KeyReused as TheKeyReused}
 use Rattle.contest_types.proofs.AddClarification.{addressed_itself}
-use Rattle.contest_types.proofs.PlaceLemmas.{and_right, both_true, same_bytes}
+use Rattle.contest_types.proofs.PlaceLemmas.{and_right, both_true, same_bytes, and_left, bytes_same}
 use Rattle.contest_types.proofs.Rising.{find_passes}
-use Rattle.contest_types.proofs.SeenWhole.{below}
 use Rattle.contest_types.proofs.SightLemmas.{same_is_one}
 use Rattle.contest_types.proofs.ValidParts.{four}
 use Rattle.contest_objects.specs.ClarificationObjects.{clarification_members, group_of, reference_id, team_of}
@@ -51,9 +50,10 @@ use Rattle.contest_operations.specs.Outcomes.{Outcome, done_or_ruled, refusing, 
 use Rattle.contest_operations.specs.PostedClarifications.{clarification_outcome}
 use Rattle.contest_operations.specs.Replies.{answer}
 use Rattle.contest_operations.specs.declared.reply.Reply.{Reply}
-use Rattle.contest_operations.proofs.Fronts.{Extends, at_front, bytes_same, extends, find_front, place_front, same_as_itself, same_place_from, some_found}
-use Rattle.contest_operations.proofs.GrowLemmas.{front_more, front_onward}
+use Rattle.contest_operations.proofs.Fronts.{Extends, extends, find_front, place_front, same_as_itself, same_place_from, some_found}
+use Rattle.contest_operations.proofs.GrowLemmas.{front_onward}
 use Rattle.contest_operations.proofs.RuledLemmas.{ruled_refuses}
+use Rattle.contest_types.proofs.GrownSettings.{at_front, front_more}
 
 -- what a clarification names is still there
 
@@ -287,14 +287,10 @@ equal_places (Some i) None h = absurd (cc h)
 equal_replies : (r q : Option Reference) → same_reply r q ≡ true → r ≡ q
 equal_replies None None h = refl
 equal_replies (Some r) (Some q) h =
-    let to = same_is_one r.addressee q.addressee (and_first (same_addressee r.addressee q.addressee) (r.number == q.number) h) in
+    let to = same_is_one r.addressee q.addressee (and_left (same_addressee r.addressee q.addressee) (r.number == q.number) h) in
     let number = eqb-true r.number q.number (and_right (same_addressee r.addressee q.addressee) (r.number == q.number) h) in
     λ i. Some (made (to i) (number i))
   where
-    and_first : (a b : Bool) → (a && b) ≡ true → a ≡ true
-    and_first true b e = refl
-    and_first false b e = absurd (cc e)
-
     made : Addressee → ℕ → Reference
     made to number = record { addressee = to; number = number }
 equal_replies None (Some q) h = absurd (cc h)
@@ -327,19 +323,19 @@ whose_stays : (f g : FixedPart) (to : Addressee) → Extends f g → is_an_addre
 whose_stays f g addressee.All h there = refl
 whose_stays f g (addressee.Group group) h there = refl
 whose_stays f g (addressee.Team team) h there =
-    ap (λ o. Some (option_map_or (λ (u : Team). u.id) o [])) (at_front f.settings.teams g.settings.teams team h.teams (below team (length f.settings.teams) there))
+    ap (λ o. Some (option_map_or (λ (u : Team). u.id) o [])) (at_front f.settings.teams g.settings.teams team h.teams (ltb-true team (length f.settings.teams) there))
 
 group_stays : (f g : FixedPart) (to : Addressee) → Extends f g → is_an_addressee f to ≡ true → group_of g.settings to ≡ group_of f.settings to
 group_stays f g addressee.All h there = refl
 group_stays f g (addressee.Group group) h there =
-    ap (λ o. Some (option_map_or (λ (r : Group). r.id) o [])) (at_front f.settings.groups g.settings.groups group h.groups (below group (length f.settings.groups) there))
+    ap (λ o. Some (option_map_or (λ (r : Group). r.id) o [])) (at_front f.settings.groups g.settings.groups group h.groups (ltb-true group (length f.settings.groups) there))
 group_stays f g (addressee.Team team) h there = refl
 
 problem_stays : (f g : FixedPart) (problem : Option ℕ) → Extends f g → option_map_or (λ place. nat_lt place (length f.settings.problems)) problem true ≡ true
     → option_map (problem_id_at g.settings.problems) problem ≡ option_map (problem_id_at f.settings.problems) problem
 problem_stays f g None h there = refl
 problem_stays f g (Some at) h there =
-    ap (λ o. Some (option_map_or (λ (q : Problem). q.id) o [])) (at_front f.settings.problems g.settings.problems at h.problems (below at (length f.settings.problems) there))
+    ap (λ o. Some (option_map_or (λ (q : Problem). q.id) o [])) (at_front f.settings.problems g.settings.problems at h.problems (ltb-true at (length f.settings.problems) there))
 
 reply_stays : (s t : Setup) (reply : Option Reference) → option_and_then (heard_reference audience.Jury t) reply ≡ option_and_then (heard_reference audience.Jury s) reply
 reply_stays s t None = refl

@@ -22,7 +22,7 @@ use Rattle.contest_types.specs.declared.objects.Problem.{Problem}
 use Rattle.contest_types.specs.declared.objects.Team.{Team}
 use Rattle.contest_types.specs.declared.refusal.Refusal.TheVariants.{KeyReused as TheKeyReused}
 use Rattle.contest_types.specs.declared.submission.Submission.{Submission}
-use Rattle.contest_types.proofs.PlaceLemmas.{and_left, place_within, same_bytes}
+use Rattle.contest_types.proofs.PlaceLemmas.{and_left, place_within, same_bytes, bytes_same}
 use Rattle.contest_types.proofs.Rising.{find_passes}
 use Rattle.contest_types.proofs.ValidParts.{four}
 use Rattle.contest_objects.specs.Objects.{files_data, submission_members}
@@ -42,7 +42,8 @@ use Rattle.contest_operations.specs.declared.reply.Reply.{Reply}
 use Rattle.contest_operations.proofs.AddedAlike.{own_more}
 use Rattle.contest_view.proofs.OwnNumbers.{find_both}
 use Rattle.contest_operations.proofs.RuledLemmas.{ruled_refuses}
-use Rattle.contest_operations.proofs.Fronts.{Extends, at_front, bytes_same, equal_texts, extends, find_front, place_front, same_as_itself, same_place_from, some_found}
+use Rattle.contest_operations.proofs.Fronts.{Extends, equal_texts, extends, find_front, place_front, same_as_itself, same_place_from, some_found}
+use Rattle.contest_types.proofs.GrownSettings.{at_front}
 
 own_front : (team : ℕ) (xs ys : List Submission) → IsFront xs ys → IsFront (submissions_of team xs) (submissions_of team ys)
 own_front team xs ys (more, e) = (submissions_of team more, ap (submissions_of team) e ∙ filter-append (λ (s : Submission). s.team == team) xs more)

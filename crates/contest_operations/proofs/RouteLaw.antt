@@ -4,7 +4,7 @@ use Rattle.std.specs.Prelude.{◌⊎◌, ◌&&◌, ◌||◌, not, nat_lt, if◌t
 use Rattle.std.specs.List.{All, list_all}
 use Rattle.std.specs.Option.{option_map}
 use Rattle.std.specs.Str.{bytes_eq, is_utf8}
-use Rattle.std.proofs.lemmas.Bool.{false≢true}
+use Rattle.std.proofs.lemmas.Bool.{false≢true, not-true}
 use Rattle.std.proofs.lemmas.Slice.Eq.{bytes_eq-Decides}
 use Rattle.matchit.specs.Order.{placed}
 use Rattle.matchit.specs.Rows.{RowsOf, comes_before}
@@ -15,7 +15,7 @@ use Rattle.matchit.specs.declared.error.InsertError.{InsertError}
 use Rattle.matchit.proofs.OnLiterals.{matchit_on_literals}
 use Rattle.contest_types.specs.Order.{Has}
 use Rattle.contest_types.proofs.SeenWhole.{all_has}
-use Rattle.contest_types.proofs.PlaceLemmas.{and_left, and_right, not_true}
+use Rattle.contest_types.proofs.PlaceLemmas.{and_left, and_right}
 use Rattle.contest_operations.specs.declared.offer.Offer.{Offer}
 use Rattle.contest_operations.specs.RouteReading.{is_name, pieces, takes_piece, takes_pieces, goes_by}
 use Rattle.contest_operations.specs.Routes.{Routes, route_rows, routes, with_scan, with_route, with_routes, offer_at}
@@ -65,7 +65,7 @@ by_tokens [] [] plain = refl
 by_tokens [] (q ∷ path) plain = refl
 by_tokens (p ∷ ps) [] plain = refl
 by_tokens (p ∷ ps) (q ∷ path) plain =
-    rw (takes_itself p q (not_true (is_parameter p) (and_left (not (is_parameter p)) (list_all (λ piece. not (is_parameter piece)) ps) plain)), by_tokens ps path (and_right (not (is_parameter p)) (list_all (λ piece. not (is_parameter piece)) ps) plain)) refl
+    rw (takes_itself p q (not-true (is_parameter p) (and_left (not (is_parameter p)) (list_all (λ piece. not (is_parameter piece)) ps) plain)), by_tokens ps path (and_right (not (is_parameter p)) (list_all (λ piece. not (is_parameter piece)) ps) plain)) refl
 
 -- what a row of the table of texts is in matchit's table
 record InTable (row : List ℕ × Offer) (s : Scan) : Type 0 where

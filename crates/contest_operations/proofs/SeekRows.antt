@@ -4,6 +4,7 @@ use Rattle.std.specs.Prelude.{◌⊎◌, ◌==◌, ◌&&◌, ltb, nat_lt, if◌t
 use Rattle.std.specs.Cmp.Lexicographic.{pointwise}
 use Rattle.std.proofs.lemmas.Bool.{eq-eqb, eqb-true, false≢true}
 use Rattle.std.proofs.lemmas.Bool.Decides.{nat_tests}
+use Rattle.std.proofs.Math.Bool.{and-false}
 use Rattle.matchit.specs.Rows.{RowsOf}
 use Rattle.matchit.specs.Seek.{cuts, has_slash, longest_from, longest_suffix, or_else, own, param_step, seek, segment, step, with_suffix}
 use Rattle.matchit.proofs.ParamLemmas.{better-empty}
@@ -97,16 +98,12 @@ last_apart b (c ∷ path) e h =
     ] in
     go (c == 47) refl h
 
-neither : (c : Bool) → (c && false) ≡ false
-neither true = refl
-neither false = refl
-
 no_cut : (b : ℕ) (path : List ℕ) → (b == 47) ≡ false → has_slash path ≡ false → cuts (b ∷ segment path) (47 ∷ []) ≡ false
 no_cut b path e h =
     let one : length (b ∷ path) - 1 ≡ length path = omega arith in
     ap (λ s. cuts (b ∷ s) (47 ∷ [])) (no_slash_whole path h).0
     ∙ (ap (λ n. ltb 1 (length (b ∷ path)) && pointwise nat_eq (47 ∷ []) (drop n (b ∷ path))) one
-    ∙ (ap (λ c. ltb 1 (length (b ∷ path)) && c) (last_apart b path e h) ∙ neither (ltb 1 (length (b ∷ path)))))
+    ∙ (ap (λ c. ltb 1 (length (b ∷ path)) && c) (last_apart b path e h) ∙ and-false (ltb 1 (length (b ∷ path)))))
 
 cut : (b : ℕ) (path : List ℕ) → has_slash path ≡ true → cuts (b ∷ segment path) (47 ∷ []) ≡ true
 cut b path h =

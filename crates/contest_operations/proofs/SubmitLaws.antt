@@ -1,7 +1,7 @@
 -- A submission as a command: what its body and its caller give, and what every command keeps to.
-use Rattle.std.proofs.Common.{◌≡◌, ◌+◌, ◌<◌, ◌≤◌, ℕ, Bool, true, false, List, length, Option, Some, None, Result, Ok, Err, refl, sym, ap, subst, arith, inl, inr, option_and_then}
+use Rattle.std.proofs.Common.{◌≡◌, ◌+◌, ◌<◌, ◌≤◌, ℕ, Bool, true, false, List, length, Option, Some, None, Result, Ok, Err, refl, sym, ap, subst, inl, inr, option_and_then}
 use Rattle.std.specs.Prelude.{◌==◌, IfSome, nat_le, if◌then◌else◌}
-use Rattle.std.proofs.lemmas.Bool.Decides.{nat_tests}
+use Rattle.std.proofs.lemmas.Bool.{leb-true}
 use Rattle.contest_types.specs.Addable.{are_addable}
 use Rattle.contest_types.specs.Alike.{Alike}
 use Rattle.contest_types.specs.Refusals.{status_of}
@@ -31,13 +31,10 @@ abbrev IsSmall : Result WantedSubmission Refusal → Type 0
 IsSmall (Err e) = (status_of e == 503) ≡ false
 IsSmall (Ok wanted) = length wanted.file ≤ POSTED_FILE
 
-within : (a b : ℕ) → nat_le a b ≡ true → a ≤ b
-within a b h = grind (arith, nat_tests, h)
-
 small : (o : Option WantedSubmission) → IsSmall (within_limit o)
 small None = refl
 small (Some w) =
-    let go : (b : Bool) → nat_le (length w.file) POSTED_FILE ≡ b → IsSmall (if b then Ok w else Err BodyTooLarge) = elim [ true ↦ λ is. within (length w.file) POSTED_FILE is | false ↦ λ is. refl ] in
+    let go : (b : Bool) → nat_le (length w.file) POSTED_FILE ≡ b → IsSmall (if b then Ok w else Err BodyTooLarge) = elim [ true ↦ λ is. leb-true (length w.file) POSTED_FILE is | false ↦ λ is. refl ] in
     go (nat_le (length w.file) POSTED_FILE) refl
 
 body_small : (team : List ℕ) (request : Request) → IsSmall (wanted_in team request.key request.body)

@@ -1,10 +1,7 @@
 -- What a contest keeps of itself while rows are added to it (own).
-use Rattle.std.specs.Prelude.{◌≡◌, ◌⊎◌, ◌<◌, List, ◌++◌, length}
+use Rattle.std.specs.Prelude.{◌≡◌, ◌⊎◌, ◌<◌, length}
+pub use Rattle.contest_types.specs.Growing.{IsFront}
 use Rattle.contest_types.specs.State.{ContestState}
-
--- the first list is the front of the second
-abbrev pub IsFront : {X : Type 0} → (xs ys : List X) → Type 0
-IsFront {X} xs ys = (more : List X) × (ys ≡ xs ++ more)
 
 -- a submission or a clarification stands
 abbrev pub HasRows : ContestState → Type 0

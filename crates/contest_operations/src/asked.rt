@@ -12,9 +12,9 @@ use contest_requests::Method;
 use contest_types::Refusal;
 use matchit::Router;
 
-/// What a request asks for, or the reply that it can't be asked for: `NotFound` where its path has no
-/// route, names another contest or isn't served yet, and `Method` where its route doesn't offer its
-/// method. It takes no memory.
+/// What a request asks for, or the reply that it can't be asked for: `NotFound` where its path has
+/// no route, names another contest or isn't served yet, and `Method` where its route doesn't offer
+/// its method. It takes no memory.
 pub fn asked(
     table: &Router<Offer>,
     contest: &[u8],

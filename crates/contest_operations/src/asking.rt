@@ -1,5 +1,6 @@
 //! What a request asks of the desk.
-ghost use Rattle.std.specs.Prelude.{◌≡◌, ◌⊎◌, ◌+◌, ◌<◌, ◌^◌, Ok, Err, true, IfOk, IfErr, IfSome, OnErr};
+ghost use Rattle.std.specs.Prelude.{◌≡◌, ◌⊎◌, ◌+◌, ◌<◌, ◌^◌, Ok, Err, true, IfOk, IfErr, IfSome};
+ghost use Rattle.std.specs.Prelude.{OnErr};
 ghost use Rattle.contest_types.specs.State.{ContestState};
 ghost use Rattle.contest_types.specs.Valid.{is_valid};
 ghost use Rattle.contest_operations.specs.Callers.{team_of};
@@ -20,8 +21,8 @@ use contest_types::{Fixed, Refusal};
 use matchit::Router;
 use std::alloc::{AllocError, Global};
 
-/// What a request wishes, or the reply that refuses it: route, method, token, role and body are read
-/// in this order, and nothing of the contest but its fixed part.
+/// What a request wishes, or the reply that refuses it: route, method, token, role and body are
+/// read in this order, and nothing of the contest but its fixed part.
 ///
 /// # Errors
 ///

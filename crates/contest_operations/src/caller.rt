@@ -3,7 +3,9 @@ ghost use Rattle.std.specs.Prelude.{◌≡◌, ◌<◌, ◌+◌, ◌^◌, Option
 ghost use Rattle.std.specs.Option.{option_map};
 ghost use Rattle.contest_types.specs.declared.account.Account.{Account as TheAccount};
 ghost use Rattle.contest_types.specs.Masks.{audience_at};
-ghost use Rattle.contest_operations.specs.Callers.{audience_of, audience_for, caller_of, holder_of, is_admin, is_admin_by, judge_of, team_for, team_of};
+ghost use Rattle.contest_operations.specs.Callers.{audience_of, audience_for, caller_of, holder_of};
+ghost use Rattle.contest_operations.specs.Callers.{is_admin, is_admin_by, judge_of, team_for};
+ghost use Rattle.contest_operations.specs.Callers.{team_of};
 
 use contest_requests::Credential;
 use contest_types::{Account, Audience, Fixed, Id, Role};

@@ -1,7 +1,9 @@
 //! A team asks, or the jury writes: what it posts.
 ghost use Rattle.std.specs.Prelude.{◌≡◌, ◌⊎◌, Some, None, Ok, Err, true, is_some, IfOk, IfErr};
 ghost use Rattle.contest_requests.specs.ClarificationBodies.{asked_in};
-ghost use Rattle.contest_operations.specs.PostedClarifications.{clarifying_by, posted_clarification, sender_for, writing_team};
+ghost use Rattle.contest_operations.specs.PostedClarifications.{clarifying_by};
+ghost use Rattle.contest_operations.specs.PostedClarifications.{posted_clarification, sender_for};
+ghost use Rattle.contest_operations.specs.PostedClarifications.{writing_team};
 
 use crate::caller::{Caller, account_of};
 use contest_postings::Clarifying;

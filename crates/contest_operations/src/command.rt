@@ -1,10 +1,13 @@
-//! The commands. Each is a file of its own, a variant of both enums here and an arm of each function here.
+//! The commands. Each is a file of its own, a variant of both enums here and an arm of each
+//! function here.
 ghost use Rattle.std.specs.Prelude.{◌≡◌, ◌⊎◌, true, IfOk, IfErr};
 ghost use Rattle.contest_types.specs.State.{ContestState};
 ghost use Rattle.contest_types.specs.Valid.{is_valid};
 ghost use Rattle.contest_lists.specs.Lists.{loaded};
 ghost use Rattle.contest_postings.specs.OwnSubmissions.{file_at};
-ghost use Rattle.contest_operations.specs.Commands.{IsSoundPost, if_admin, if_judge, post_done, post_file, post_outcome, post_takes_memory, posted_by};
+ghost use Rattle.contest_operations.specs.Commands.{IsSoundPost, if_admin, if_judge, post_done};
+ghost use Rattle.contest_operations.specs.Commands.{post_file, post_outcome, post_takes_memory};
+ghost use Rattle.contest_operations.specs.Commands.{posted_by};
 ghost use Rattle.contest_operations.specs.Callers.{is_admin, judge_of};
 ghost use Rattle.contest_operations.specs.Replies.{IsOrdinary};
 
@@ -139,8 +142,8 @@ fn finalize(caller: &Caller<'_>) -> Result<Posted, Refusal>
     }
 }
 
-/// Whose file is needed to decide on what is posted: by the place of its team, from 0, and its number,
-/// from 1. Files are large, and no more than one is read.
+/// Whose file is needed to decide on what is posted: by the place of its team, from 0, and its
+/// number, from 1. Files are large, and no more than one is read.
 pub fn post_file(posted: &Posted, lists: &Lists) -> Option<(usize, usize)>
     ensures { result ≡ post_file posted.now lists.now }
 {

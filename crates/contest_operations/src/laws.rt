@@ -1,6 +1,7 @@
 //! Laws of the desk's steps: functions that do nothing, and whose contracts say what holds of every
 //! contest.
-ghost use Rattle.contest_operations.specs.Laws.{HeadIsGet, PostsAlike, ReadsAlike, RoutesRead, StepAlike, StepsKeepValid, StepsNeverFail};
+ghost use Rattle.contest_operations.specs.Laws.{HeadIsGet, PostsAlike, ReadsAlike, RoutesRead};
+ghost use Rattle.contest_operations.specs.Laws.{StepAlike, StepsKeepValid, StepsNeverFail};
 
 /// Until the thaw, valid contests with equal settings, accounts and marks that agree on all that a
 /// caller may learn answer each of its requests byte for byte alike, and agree on it afterwards.
@@ -36,9 +37,9 @@ pub fn steps_never_fail()
     ensures { StepsNeverFail }
 {}
 
-/// A path is offered what the row of the table of routes offers by which it goes, piece by piece between
-/// its slashes: a name in braces stands for any piece that isn't empty, every other piece for itself. By
-/// no row nothing is offered.
+/// A path is offered what the row of the table of routes offers by which it goes, piece by piece
+/// between its slashes: a name in braces stands for any piece that isn't empty, every other piece
+/// for itself. By no row nothing is offered.
 pub fn routes_read()
     ensures { RoutesRead }
 {}

@@ -1,5 +1,5 @@
-//! What may be asked of a contest, and what each request comes to, whoever keeps the contest: routes,
-//! callers, reads, commands, replies.
+//! What may be asked of a contest, and what each request comes to, whoever keeps the contest:
+//! routes, callers, reads, commands, replies.
 #![tactic(auto)]
 
 mod answering;

@@ -1,6 +1,7 @@
 //! What is offered on a route.
 ghost use Rattle.std.specs.Prelude.{◌≡◌};
-ghost use Rattle.contest_operations.specs.Offers.{is_served, methods_of, methods_text, operation_of};
+ghost use Rattle.contest_operations.specs.Offers.{is_served, methods_of, methods_text};
+ghost use Rattle.contest_operations.specs.Offers.{operation_of};
 
 use crate::command::Command;
 use crate::operation::{Operation, Reading};

@@ -1,6 +1,7 @@
 //! The pieces of a path between its slashes.
 ghost use Rattle.std.specs.Prelude.{◌≡◌, ◌<◌, IfSome, length};
-ghost use Rattle.contest_operations.specs.Paths.{after_slash, before_slash, contest_piece, is_of_contest, jury_piece, object_piece, slash_at};
+ghost use Rattle.contest_operations.specs.Paths.{after_slash, before_slash, contest_piece};
+ghost use Rattle.contest_operations.specs.Paths.{is_of_contest, jury_piece, object_piece, slash_at};
 
 /// Whether a path is of a contest, or of something in it. It takes no memory.
 pub fn is_of_contest(path: &[u8]) -> bool
@@ -16,8 +17,8 @@ pub fn contest_piece(path: &[u8]) -> &[u8]
     before_slash(after_slash(after_slash(path)))
 }
 
-/// The piece of a path of the jury's where an object's id stands: `/jury/<collection>/<this>..`. It takes
-/// no memory.
+/// The piece of a path of the jury's where an object's id stands: `/jury/<collection>/<this>..`. It
+/// takes no memory.
 pub fn jury_piece(path: &[u8]) -> &[u8]
     ensures { result.now ≡ jury_piece path.now }
 {

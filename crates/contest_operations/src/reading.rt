@@ -1,5 +1,5 @@
-//! What an audience that reads is answered. An endpoint of it is a variant in `operation`, and an arm of
-//! `array` and `object` here.
+//! What an audience that reads is answered. An endpoint of it is a variant in `operation`, and an
+//! arm of `array` and `object` here.
 ghost use Rattle.std.specs.Prelude.{◌≡◌, ℕ, false, true, IfOk, IfSome, Option, option_map};
 ghost use Rattle.serde_json.specs.Data.{Data};
 ghost use Rattle.serde_json.specs.View.{view};
@@ -9,7 +9,8 @@ ghost use Rattle.contest_types.specs.State.{ContestState};
 ghost use Rattle.contest_types.specs.Valid.{is_valid};
 ghost use Rattle.contest_view.specs.SeenLists.{Shows};
 ghost use Rattle.contest_postings.specs.OwnSubmissions.{file_at};
-ghost use Rattle.contest_operations.specs.Readings.{all_data, file_told, jury_found, object_found, read, read_file, told};
+ghost use Rattle.contest_operations.specs.Readings.{all_data, file_told, jury_found, object_found};
+ghost use Rattle.contest_operations.specs.Readings.{read, read_file, told};
 ghost use Rattle.contest_operations.specs.Replies.{IsOrdinary};
 
 use crate::Reply;
@@ -26,8 +27,8 @@ use contest_view::{
 use serde_json::Value;
 use std::alloc::{AllocError, Global};
 
-/// Whose file is needed to answer an audience that reads a path: by the place of its team, from 0, and
-/// its number, from 1. No file is needed that the audience may not read.
+/// Whose file is needed to answer an audience that reads a path: by the place of its team, from 0,
+/// and its number, from 1. No file is needed that the audience may not read.
 pub fn read_file(
     lists: &Lists,
     audience: Audience,
@@ -50,7 +51,8 @@ pub fn read_file(
     }
 }
 
-/// What an audience that reads a path is answered, over a contest's lists and the file that is needed.
+/// What an audience that reads a path is answered, over a contest's lists and the file that is
+/// needed.
 ///
 /// # Errors
 ///

@@ -1,6 +1,7 @@
 //! What the desk answers.
 ghost use Rattle.std.specs.Prelude.{◌≡◌};
-ghost use Rattle.contest_operations.specs.Replies.{answer_with, file_answer, refused, refused_method};
+ghost use Rattle.contest_operations.specs.Replies.{answer_with, file_answer, refused};
+ghost use Rattle.contest_operations.specs.Replies.{refused_method};
 
 use crate::offer::AllowedMethods;
 use contest_types::Refusal;

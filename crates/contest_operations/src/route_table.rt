@@ -1,7 +1,8 @@
 //! The one table of routes: what is offered on which paths.
 ghost use Rattle.std.specs.Prelude.{◌≡◌, true, [], IfOk, OnOk, map, option_map};
 ghost use Rattle.matchit.specs.Seek.{first};
-ghost use Rattle.contest_operations.specs.Routes.{offer_in, route_rows, routes, takes_route, with_route};
+ghost use Rattle.contest_operations.specs.Routes.{offer_in, route_rows, routes, takes_route};
+ghost use Rattle.contest_operations.specs.Routes.{with_route};
 
 use crate::command::Command;
 use crate::offer::Offer;
@@ -16,8 +17,8 @@ const NOTHING: Offer = Offer {
     patch: None,
 };
 
-/// The text of each route, as matchit reads it, and what is offered there (paths are the Contest API
-/// 2023-06's; a group's scoreboard and those under `/jury/` are own).
+/// The text of each route, as matchit reads it, and what is offered there (paths are the Contest
+/// API 2023-06's; a group's scoreboard and those under `/jury/` are own).
 static ROUTES: [(&str, Offer); 32] = [
     (
         "/contests",

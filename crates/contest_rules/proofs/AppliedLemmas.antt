@@ -3,7 +3,7 @@ use Rattle.std.proofs.Common.{◌≡◌, ◌∙◌, ◌+◌, ℕ, Bool, true, fa
 use Rattle.std.specs.Prelude.{◌&&◌, ◌||◌, ◌==◌, IfSome, nat_lt, not}
 use Rattle.std.specs.List.{cons_option, filter_map, list_all, list_any}
 use Rattle.std.specs.Option.{option_map}
-use Rattle.std.proofs.lemmas.Bool.{eq-eqb, eqb-true, false≢true}
+use Rattle.std.proofs.lemmas.Bool.{eq-eqb, eqb-true, false≢true, not-true}
 use Rattle.std.proofs.lemmas.List.Elements.{filter-append}
 use Rattle.contest_types.specs.Addable.{are_addable, is_addable}
 use Rattle.contest_types.specs.Order.{Has}
@@ -18,7 +18,7 @@ use Rattle.contest_types.specs.declared.rejudging.MemberState.TheVariants.{Empty
 use Rattle.contest_types.specs.declared.rejudging.Rejudging.{Rejudging}
 use Rattle.contest_types.specs.declared.rejudging.RejudgingState.TheVariants.{Applied}
 use Rattle.contest_types.specs.declared.submission.Release.{Release}
-use Rattle.contest_types.proofs.PlaceLemmas.{and_left, and_right, both_true, not_true, or_left, or_right}
+use Rattle.contest_types.proofs.PlaceLemmas.{and_left, and_right, both_true, or_left, or_right}
 use Rattle.contest_types.proofs.SeenWhole.{all_has}
 use Rattle.contest_types.proofs.ValidParts.{parts}
 use Rattle.contest_rules.specs.Laws.{AppliedIsAddable}
@@ -66,7 +66,7 @@ released_all : (y : ContestState) (vs : List Release) (now number : ℕ) (ms : L
     → are_addable y (map NewRelease (filter_map (release_of vs now) ms) ++ SetRejudging number Applied ∷ []) ≡ true
 released_all y vs now number [] apart next = refl
 released_all y vs now number (m ∷ ms) apart next =
-    let alone = not_true (list_any (is_same_member m) ms) (and_left (not (list_any (is_same_member m) ms)) _ apart) in
+    let alone = not-true (list_any (is_same_member m) ms) (and_left (not (list_any (is_same_member m) ms)) _ apart) in
     let rest = and_right (not (list_any (is_same_member m) ms)) _ apart in
     let go : (o : Option ℕ) → ready_verdict m.state ≡ o
     → are_addable y (map NewRelease (cons_option (option_map {U = Release} (λ verdict. record { team = m.team; number = m.number; round = length (releases_on m.team m.number vs) + 1; verdict = verdict; time = now }) o) (filter_map (release_of vs now) ms)) ++ SetRejudging number Applied ∷ []) ≡ true = elim [

@@ -4,7 +4,7 @@ use Rattle.std.specs.Prelude.{◌&&◌, ◌==◌, not, nat_le, nat_lt, filter, f
 use Rattle.std.specs.List.{count_by, list_any, filter_map}
 use Rattle.std.specs.Option.{option_map, option_map_or, option_and_then}
 use Rattle.std.specs.Str.{bytes_eq}
-use Rattle.std.proofs.lemmas.Bool.{false≢true, eq-eqb}
+use Rattle.std.proofs.lemmas.Bool.{false≢true, eq-eqb, lt-ltb, or_right, or_left}
 use Rattle.std.proofs.lemmas.Bool.Decides.{nat_tests}
 use Rattle.std.proofs.lemmas.List.Sums.{length-filter}
 use Rattle.contest_types.specs.Accounts.{account_named}
@@ -41,8 +41,8 @@ use Rattle.contest_rules.specs.declared.rule_refusal.RuleRefusal.TheVariants.{Ke
 use Rattle.contest_rules.specs.Clarifying.{addressee_for, audience_of, clarification_on, clarify, clarify_on, has_begun, has_this_key, heard_clarification, if_asked, may_write, most_by, named_clarification, next_clarification, problem_for, reference_of, said_again, said_anew, says_the_same, scope_for, written_by, written_under}
 use Rattle.contest_rules.specs.Laws.{IsWriter}
 use Rattle.contest_rules.specs.Submitting.{is_running}
-use Rattle.contest_rules.proofs.ProposedLemmas.{or_first, or_second}
-use Rattle.contest_rules.proofs.TakenLemmas.{below}
+use Rattle.contest_types.proofs.AddLemmas.{has_start}
+use Rattle.contest_types.proofs.ValidParts.{all_four}
 
 abbrev pub Decided : Type 0
 Decided = Result (Decision Clarification Clarification) RuleRefusal
@@ -138,20 +138,20 @@ named_on f s heard w n h =
 
 pub to_there : (f : FixedPart) (s : Sender) (account : List ℕ) (to : WantedAddressee) (a : Addressee) → IsWriter f s account → addressee_for f s to ≡ Some a → is_an_addressee f a ≡ true
 to_there f (sender.Team team) account to a writer e =
-    let there : nat_lt team (length f.settings.teams) ≡ true = below team (length f.settings.teams) writer.0 in
+    let there : nat_lt team (length f.settings.teams) ≡ true = lt-ltb team (length f.settings.teams) writer.0 in
     subst (λ o. option_map_or (is_an_addressee f) o false ≡ true) e there
 to_there f sender.Jury account WantsAll a writer e = subst (λ o. option_map_or (is_an_addressee f) o false ≡ true) e refl
 to_there f sender.Jury account (WantsGroup id) a writer e =
     let go : (o : Option ℕ) → place_of id (map (λ (g : Group). g.id) f.settings.groups) ≡ o → option_map (λ group. addressee.Group group) o ≡ Some a → is_an_addressee f a ≡ true = elim [
       | None ↦ λ p k. absurd (cc k)
-      | (Some group) ↦ λ p k. (let there = below group (length f.settings.groups) (place_within (λ (g : Group). g.id) id f.settings.groups group p) in
+      | (Some group) ↦ λ p k. (let there = lt-ltb group (length f.settings.groups) (place_within (λ (g : Group). g.id) id f.settings.groups group p) in
           subst (λ o. option_map_or (is_an_addressee f) o false ≡ true) k there)
     ] in
     go (place_of id (map (λ (g : Group). g.id) f.settings.groups)) refl e
 to_there f sender.Jury account (WantsTeam id) a writer e =
     let go : (o : Option ℕ) → place_of id (map (λ (t : Team). t.id) f.settings.teams) ≡ o → option_map (λ team. addressee.Team team) o ≡ Some a → is_an_addressee f a ≡ true = elim [
       | None ↦ λ p k. absurd (cc k)
-      | (Some team) ↦ λ p k. (let there = below team (length f.settings.teams) (place_within (λ (t : Team). t.id) id f.settings.teams team p) in
+      | (Some team) ↦ λ p k. (let there = lt-ltb team (length f.settings.teams) (place_within (λ (t : Team). t.id) id f.settings.teams team p) in
           subst (λ o. option_map_or (is_an_addressee f) o false ≡ true) k there)
     ] in
     go (place_of id (map (λ (t : Team). t.id) f.settings.teams)) refl e
@@ -162,7 +162,7 @@ problem_there f (Some id) found e =
     let go : (o : Option ℕ) → place_of id (map (λ (p : Problem). p.id) f.settings.problems) ≡ o → option_map (λ place. Some place) o ≡ Some found
     → option_map_or (λ place. nat_lt place (length f.settings.problems)) found true ≡ true = elim [
       | None ↦ λ p k. absurd (cc k)
-      | (Some place) ↦ λ p k. (let there : nat_lt place (length f.settings.problems) ≡ true = below place (length f.settings.problems) (place_within (λ (q : Problem). q.id) id f.settings.problems place p) in
+      | (Some place) ↦ λ p k. (let there : nat_lt place (length f.settings.problems) ≡ true = lt-ltb place (length f.settings.problems) (place_within (λ (q : Problem). q.id) id f.settings.problems place p) in
           subst (λ o. option_map_or (λ (q : Option ℕ). option_map_or (λ at. nat_lt at (length f.settings.problems)) q true) o true ≡ true) k there)
     ] in
     go (place_of id (map (λ (p : Problem). p.id) f.settings.problems)) refl e
@@ -183,10 +183,10 @@ heard_there f s (c ∷ cs) id r h =
     → option_map reference_of (if b then Some c else find (λ (d : Clarification). sees_clarification (audience_of s) f.settings d && bytes_eq (clarification_id d.addressee d.number) id) cs) ≡ Some r
     → (list_any (is_here r) (c ∷ cs) ≡ true) × (hears (audience_of s) f.settings r.addressee ≡ true) = elim [
       | true ↦ λ t e. (let same : reference_of c ≡ r = cc e in (
-        or_first (is_here r c) (list_any (is_here r) cs) (subst (λ q. is_here q c ≡ true) same (here_itself c)),
+        or_left (is_here r c) (list_any (is_here r) cs) (subst (λ q. is_here q c ≡ true) same (here_itself c)),
         subst (λ (q : Reference). hears (audience_of s) f.settings q.addressee ≡ true) same (and_left (sees_clarification (audience_of s) f.settings c) _ t),
       ))
-      | false ↦ λ t e. (let rest = heard_there f s cs id r e in (or_second (is_here r c) (list_any (is_here r) cs) rest.0, rest.1))
+      | false ↦ λ t e. (let rest = heard_there f s cs id r e in (or_right (is_here r c) (list_any (is_here r) cs) rest.0, rest.1))
     ] in
     go test refl h
 
@@ -257,10 +257,6 @@ runs : (started ended none : Bool) → (is_running (if not started then phase.Be
 runs true ended none h = refl
 runs false ended none h = absurd (false≢true h)
 
-has_start : (start : Option ℕ) (now : ℕ) → reached start now ≡ true → is_some start ≡ true
-has_start None now h = absurd (false≢true h)
-has_start (Some at) now h = refl
-
 started : (f : FixedPart) (s : Sender) (now : ℕ) → may_write f s now ≡ true → is_some f.marks.start ≡ true
 started f (sender.Team team) now h = has_start f.marks.start now (runs (reached f.marks.start now) (reached (end_of f.settings f.marks) now) (is_none f.marks.finalized) h)
 started f sender.Jury now h = has_start f.marks.start now (begun (reached f.marks.start now) (reached (end_of f.settings f.marks) now) (is_none f.marks.finalized) h)
@@ -318,9 +314,6 @@ clarified_is_addable x now s account w c writer e =
     let next = next_clarification now s account x.clarifications t.n w in
     let valid : is_valid_clarification x next ≡ true = five (is_an_addressee f t.n.addressee) (is_some (account_named f.accounts account)) _ _ (is_well_sent f next)
     (to_there f s account w.to t.n.addressee writer named.to) (writer_there f s account writer) (problem_there f w.problem t.n.problem named.problem) reply.0 (well_sent x now account w t.n s writer named.to reply.1) in
-    let addable : is_addable x (NewClarification next) ≡ true = four_true (is_some f.marks.start) (is_valid_clarification x next) _ _ (started f s now t.may) valid
+    let addable : is_addable x (NewClarification next) ≡ true = all_four (is_some f.marks.start) (is_valid_clarification x next) _ _ (started f s now t.may) valid
     (is_next x now account w t.n s t.room) (own_key x now account w t.n s named.to t.new_key) in
     subst (λ r. is_addable x (NewClarification r) ≡ true) (sym t.is) addable
-  where
-    four_true : (a b c d : Bool) → a ≡ true → b ≡ true → c ≡ true → d ≡ true → (a && b && c && d) ≡ true
-    four_true a b c d ta tb tc td = rw (ta, tb, tc, td) refl

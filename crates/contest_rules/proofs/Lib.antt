@@ -13,5 +13,6 @@ pub mod CandidateLemmas
 pub mod OpenedLemmas
 pub mod AppliedLemmas
 pub mod RejudgedLemmas
-pub mod ReleasedLemmas
 pub mod ClockLemmas
+pub mod JudgedLemmas
+pub mod NamedLemmas

@@ -4,7 +4,7 @@ use Rattle.std.specs.Prelude.{◌&&◌, ◌||◌, ◌==◌, not, nat_le, nat_lt,
 use Rattle.std.specs.List.{list_all, list_any}
 use Rattle.std.specs.Option.{option_map, option_and_then}
 use Rattle.std.specs.Str.{bytes_eq}
-use Rattle.std.proofs.lemmas.Bool.{false≢true, eqb-true}
+use Rattle.std.proofs.lemmas.Bool.{false≢true, eqb-true, not-true}
 use Rattle.std.proofs.lemmas.Bool.Decides.{nat_tests}
 use Rattle.std.proofs.lemmas.List.{length-map}
 use Rattle.std.proofs.lemmas.Slice.Eq.{bytes_eq-Decides}
@@ -21,7 +21,7 @@ use Rattle.contest_types.specs.declared.rejudging.Rejudging.{Rejudging}
 use Rattle.contest_types.specs.declared.rejudging.RejudgingState.TheVariants.{Open}
 use Rattle.contest_types.specs.declared.submission.Release.{Release}
 use Rattle.contest_types.specs.declared.submission.Submission.{Submission}
-use Rattle.contest_types.proofs.PlaceLemmas.{and_left, and_right, both_true, not_true, or_left, or_right, same_bytes}
+use Rattle.contest_types.proofs.PlaceLemmas.{and_left, and_right, both_true, or_left, or_right, same_bytes}
 use Rattle.contest_types.proofs.Rising.{find_passes}
 use Rattle.contest_types.proofs.ValidParts.{parts}
 use Rattle.contest_rules.specs.Laws.{OpenedIsAddable}
@@ -88,7 +88,7 @@ one_of vs rs s (r ∷ refs) h =
 different_members : (vs : List Release) (rs : List Rejudging) (refs : List SubmissionRef) → are_different (map id_of refs) ≡ true → are_different_members (map member_of (map (candidate_of vs rs) refs)) ≡ true
 different_members vs rs [] h = refl
 different_members vs rs (s ∷ refs) h =
-    let new = not_true (is_among (map id_of refs) (id_of s)) (and_left (not (is_among (map id_of refs) (id_of s))) _ h) in
+    let new = not-true (is_among (map id_of refs) (id_of s)) (and_left (not (is_among (map id_of refs) (id_of s))) _ h) in
     both_true _ _ (ap not (one_of vs rs s refs new)) (different_members vs rs refs (and_right (not (is_among (map id_of refs) (id_of s))) _ h))
 
 -- and each of them has a release
@@ -129,7 +129,7 @@ joined : (vs : List Release) (rs : List Rejudging) (ms : List Member) (refs : Li
     → are_different_members (ms ++ map member_of (map (candidate_of vs rs) refs)) ≡ true
 joined vs rs [] refs old new none = new
 joined vs rs (m ∷ ms) refs old new none =
-    let alone = not_true (list_any (is_same_member m) ms) (and_left (not (list_any (is_same_member m) ms)) _ old) in
+    let alone = not-true (list_any (is_same_member m) ms) (and_left (not (list_any (is_same_member m) ms)) _ old) in
     let others = apart_from vs rs m refs (none_first m ms refs none) in
     both_true _ _ (ap not (any_append (is_same_member m) ms (map member_of (map (candidate_of vs rs) refs)) alone others))
     (joined vs rs ms refs (and_right (not (list_any (is_same_member m) ms)) _ old) new (none_rest m ms refs none))

@@ -4,7 +4,7 @@ use Rattle.std.specs.Prelude.{◌||◌, ◌==◌, nat_le, nat_lt, filter, find, 
 use Rattle.std.specs.List.{list_any}
 use Rattle.std.specs.Option.{option_map, option_and_then}
 use Rattle.std.specs.Str.{bytes_eq}
-use Rattle.std.proofs.lemmas.Bool.{eq-eqb}
+use Rattle.std.proofs.lemmas.Bool.{eq-eqb, lt-ltb, or_right as or_second, or_left as or_first}
 use Rattle.std.proofs.lemmas.Bool.Decides.{nat_tests}
 use Rattle.std.proofs.lemmas.List.Sums.{length-filter}
 use Rattle.contest_types.specs.Accounts.{account_named}
@@ -29,18 +29,9 @@ use Rattle.contest_rules.specs.Verdicts.{first_release, named_verdict, submissio
 use Rattle.contest_rules.specs.declared.proposing.NewVerdict.{NewVerdict}
 use Rattle.contest_rules.specs.declared.verdicts.NamedVerdict.{NamedVerdict}
 use Rattle.contest_rules.specs.declared.verdicts.WantedVerdict.{WantedVerdict}
-use Rattle.contest_rules.proofs.TakenLemmas.{below}
 
 names_itself : (r : SubmissionRef) → names r.team r.number r ≡ true
 names_itself r = both_true (r.team == r.team) (r.number == r.number) (eq-eqb r.team r.team refl) (eq-eqb r.number r.number refl)
-
-pub or_second : (a b : Bool) → b ≡ true → (a || b) ≡ true
-or_second true b h = refl
-or_second false b h = h
-
-pub or_first : (a b : Bool) → a ≡ true → (a || b) ≡ true
-or_first true b h = refl
-or_first false b h = absurd (cc h)
 
 -- a submission that is named by its id is there
 submission_there : (id : List ℕ) (ss : List Submission) (r : SubmissionRef) → submission_named id ss ≡ Some r → list_any (λ s. names r.team r.number (of_submission s)) ss ≡ true
@@ -121,7 +112,7 @@ first_round n h = rw h refl
 pub release_fits : (y : ContestState) (now team number verdict : ℕ) → has_submission y team number ≡ true → verdict < length y.fixed.settings.types → is_released team number y.releases ≡ false
     → is_addable y (NewRelease (record { team = team; number = number; round = 1; verdict = verdict; time = now })) ≡ true
 release_fits y now team number verdict there typed unreleased =
-    both_true _ _ (both_true _ _ there (below verdict (length y.fixed.settings.types) typed))
+    both_true _ _ (both_true _ _ there (lt-ltb verdict (length y.fixed.settings.types) typed))
     (first_round (length (releases_on team number y.releases)) (none_kept (λ (v : Release). names team number (of_release v)) y.releases unreleased))
 
 verdict_fits : (x : ContestState) (now : ℕ) (account : List ℕ) (n : NamedVerdict) → is_some (account_named x.fixed.accounts account) ≡ true → IsNamed x n
@@ -133,7 +124,7 @@ verdict_fits x now account n known named unreleased room =
     let few : nat_lt (length (proposals_for n.team n.number x.proposals)) PROPOSALS ≡ true =
     has_room (proposals_made n.team n.number x.proposals) (length (proposals_for n.team n.number x.proposals)) room (length-filter (λ (q : Proposal). names n.team n.number (of_proposal q)) x.proposals) in
     let proposed : is_addable x (NewProposal p) ≡ true =
-    both_true _ _ (both_true _ _ (both_true _ _ named.there (below n.verdict (length x.fixed.settings.types) named.is_type)) known) (both_true _ _ few refl) in
+    both_true _ _ (both_true _ _ (both_true _ _ named.there (lt-ltb n.verdict (length x.fixed.settings.types) named.is_type)) known) (both_true _ _ few refl) in
     let go : (b : Bool) → are_addable y (elim (if b then None else Some (first_release now n)) as (λ _. List Entry) [ None ↦ [] | (Some v) ↦ NewRelease v ∷ [] ]) ≡ true = elim [
       | true ↦ refl
       | false ↦ both_true _ _ (release_fits y now n.team n.number n.verdict named.there named.is_type unreleased) refl

@@ -1,6 +1,7 @@
 -- The state that a member takes by a verdict may be set.
 use Rattle.std.proofs.Common.{◌≡◌, ◌<◌, ℕ, Bool, true, false, List, length, Option, Some, None, Result, Ok, Err, refl, subst}
 use Rattle.std.specs.Prelude.{◌||◌, not, is_some, if◌then◌else◌}
+use Rattle.std.proofs.lemmas.Bool.{lt-ltb}
 use Rattle.contest_types.specs.Accounts.{account_named}
 use Rattle.contest_types.specs.State.{ContestState}
 use Rattle.contest_types.specs.ValidRejudgings.{is_open, is_valid_state}
@@ -17,14 +18,13 @@ use Rattle.contest_rules.specs.declared.rule_refusal.RuleRefusal.{RuleRefusal}
 use Rattle.contest_rules.specs.declared.rule_refusal.RuleRefusal.TheVariants.{RejudgingClosed, UnknownReference}
 use Rattle.contest_rules.specs.declared.verdicts.NamedVerdict.{NamedVerdict}
 use Rattle.contest_rules.proofs.ProposedLemmas.{named_there}
-use Rattle.contest_rules.proofs.TakenLemmas.{below}
 
 state_fits : (x : ContestState) (verification : Bool) (account : List ℕ) (verdict : ℕ) (s : MemberState) → is_some (account_named x.fixed.accounts account) ≡ true → verdict < length x.fixed.settings.types
     → is_valid_state x.fixed (member_after verification account verdict s) ≡ true
 state_fits x verification account verdict s known typed =
     let go : (b : Bool) → is_valid_state x.fixed (if b then Ready verdict else Proposed verdict account) ≡ true = elim [
-      | true ↦ below verdict (length x.fixed.settings.types) typed
-      | false ↦ both_true _ _ (below verdict (length x.fixed.settings.types) typed) known
+      | true ↦ lt-ltb verdict (length x.fixed.settings.types) typed
+      | false ↦ both_true _ _ (lt-ltb verdict (length x.fixed.settings.types) typed) known
     ] in
     go (not verification || settles account verdict s)
 

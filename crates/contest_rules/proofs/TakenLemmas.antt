@@ -1,10 +1,10 @@
 -- A submission that is taken may be added.
 use Rattle.std.proofs.Common.{cond, ◌≡◌, ◌∙◌, ◌<◌, ◌≤◌, ◌+◌, ◌-◌, ℕ, suc, Bool, true, false, List, [], ◌∷◌, length, map, Option, Some, None, Result, Ok, Err, refl, sym, ap, subst, arith}
-use Rattle.std.specs.Prelude.{◌&&◌, ◌==◌, not, nat_le, nat_lt, filter, find, slice_get, if◌then◌else◌, IfSome}
+use Rattle.std.specs.Prelude.{◌&&◌, ◌==◌, not, nat_le, nat_lt, find, slice_get, if◌then◌else◌, IfSome}
 use Rattle.std.specs.List.{list_all, filter_map}
 use Rattle.std.specs.Option.{option_map}
 use Rattle.std.specs.Str.{bytes_eq}
-use Rattle.std.proofs.lemmas.Bool.{false≢true, eq-eqb, le-leb}
+use Rattle.std.proofs.lemmas.Bool.{false≢true, eq-eqb, le-leb, lt-ltb}
 use Rattle.std.proofs.lemmas.Bool.Decides.{nat_tests}
 use Rattle.std.proofs.lemmas.List.{length-map}
 use Rattle.std.proofs.lemmas.List.Folds.{list_all-map}
@@ -25,7 +25,7 @@ use Rattle.contest_rules.specs.declared.rule_refusal.RuleRefusal.TheVariants.{No
 use Rattle.contest_types.specs.declared.submission.Submission.{Submission}
 use Rattle.contest_types.proofs.PlaceLemmas.{and_left, and_right, both_true, place_within}
 use Rattle.contest_types.proofs.SetupLemmas.{all_wider}
-use Rattle.contest_types.proofs.ValidParts.{parts, four, all_four}
+use Rattle.contest_types.proofs.ValidParts.{parts, four, all_four, all_six}
 use Rattle.contest_types.proofs.SeriesLemmas.{in_any}
 use Rattle.contest_types.proofs.AddLemmas.{one_team}
 use Rattle.contest_rules.specs.declared.decision.Decision.{Decision}
@@ -34,6 +34,7 @@ use Rattle.contest_rules.specs.declared.rule_refusal.RuleRefusal.{RuleRefusal}
 use Rattle.contest_rules.specs.declared.submitting.OwnSoFar.{OwnSoFar}
 use Rattle.contest_rules.specs.declared.submitting.WantedSubmission.{WantedSubmission}
 use Rattle.contest_rules.specs.Submitting.{asks_the_same, lacks_entry_point, has_key, repeated, is_running, takes_submissions, later, next_submission, fresh, so_far, standing_under, submit_to, submit}
+use Rattle.contest_types.proofs.AccountLemmas.{all_filtered}
 
 abbrev problem_ids : FixedPart → List (List ℕ)
 problem_ids f = map (λ (p : Problem). p.id) f.settings.problems
@@ -153,13 +154,6 @@ some_map : {X Y : Type 0} (f : X → Y) (P : Y → Type 0) (o : Option X) → If
 some_map f P None h = h
 some_map f P (Some x) h = h
 
-all_kept : {X : Type 0} (p q : X → Bool) (xs : List X) → list_all p xs ≡ true → list_all p (filter q xs) ≡ true
-all_kept p q [] h = refl
-all_kept p q (x ∷ xs) h =
-    let rest = all_kept p q xs (and_right (p x) _ h) in
-    let go : (b : Bool) → list_all p (if b then x ∷ filter q xs else filter q xs) ≡ true = elim [ true ↦ both_true _ _ (and_left (p x) _ h) rest | false ↦ rest ] in
-    go (q x)
-
 -- none of times that never fall is past the last
 none_past : (ts : List ℕ) (t : ℕ) → never_fall ts ≡ true → IfSome (last_of ts) (λ u. u ≤ t) → list_all (λ u. nat_le u t) ts ≡ true
 none_past [] t h l = refl
@@ -193,15 +187,6 @@ new_key : (key : Option (List ℕ)) (own : List Submission) → standing_under k
 new_key None own h = refl
 new_key (Some key) own h = let none = keyless key own h in rw none refl
 
-six : (a b c d e f : Bool) → a ≡ true → b ≡ true → c ≡ true → d ≡ true → e ≡ true → f ≡ true → (a && b && c && d && e && f) ≡ true
-six a b c d e f ta tb tc td te tf = rw (ta, tb, tc, td, te, tf) refl
-
-pub below : (a b : ℕ) → a < b → nat_lt a b ≡ true
-below a b h = grind (arith, nat_tests, h)
-
-within : (a b : ℕ) → a ≤ b → nat_le a b ≡ true
-within a b h = grind (arith, nat_tests, h)
-
 not_full : (n : ℕ) → nat_le TEAM_SUBMISSIONS n ≡ false → nat_lt n TEAM_SUBMISSIONS ≡ true
 not_full n h = grind (arith, nat_tests, h)
 
@@ -228,8 +213,8 @@ next_is_valid f now team problem language own w t p l small takes valid =
     let before : not (reached end now) ≡ true = rw r.1 refl in
     let all : list_all (λ (s : Submission). not (reached end s.time)) own ≡ true = all_wider (is_valid_submission f) (λ (s : Submission). not (reached end s.time)) (early f) own valid in
     let lasts : IfSome last (λ u. not (reached end u) ≡ true) = some_map (λ (s : Submission). s.time) (λ u. not (reached end u) ≡ true) (last_of own) (last_passes (λ (s : Submission). not (reached end s.time)) own all) in
-    six _ _ _ _ _ _ (below _ _ t) (below _ _ p) (below _ _ l) (reached_on f.marks.start now (later last now) (from_now last now) r.0)
-    (later_passes (λ u. not (reached end u)) last now before lasts) (within _ _ small)
+    all_six _ _ _ _ _ _ (lt-ltb _ _ t) (lt-ltb _ _ p) (lt-ltb _ _ l) (reached_on f.marks.start now (later last now) (from_now last now) r.0)
+    (later_passes (λ u. not (reached end u)) last now before lasts) (le-leb _ _ small)
 
 next_follows : (now team problem language : ℕ) (own : List Submission) (w : WantedSubmission)
     → never_fall (map (λ (s : Submission). s.time) own) ≡ true → standing_under w.key own ≡ None → nat_le TEAM_SUBMISSIONS (length own) ≡ false
@@ -251,7 +236,7 @@ submitted_is_addable x now team w s valid there small e =
     let t = taken f now team (so_far w.key own) w s e in
     let n = next_submission now team (so_far w.key own) t.problem t.language w in
     let lists = (parts x valid).submissions in
-    let rows = all_kept (is_valid_submission f) (λ (r : Submission). r.team == team) x.submissions (and_left (list_all (is_valid_submission f) x.submissions) _ lists) in
+    let rows = all_filtered (is_valid_submission f) (λ (r : Submission). r.team == team) x.submissions (and_left (list_all (is_valid_submission f) x.submissions) _ lists) in
     let series : are_valid_submissions own ≡ true = in_any of_one_team are_valid_submissions one_team refl x.submissions n (and_right (list_all (is_valid_submission f) x.submissions) _ lists) in
     let falls = (four (count_up (map (λ (r : Submission). r.number) own)) (never_fall (map (λ (r : Submission). r.time) own)) _ _ series).second in
     let problem : t.problem < length f.settings.problems = place_within (λ (p : Problem). p.id) w.problem f.settings.problems t.problem t.is_problem in

@@ -8,5 +8,4 @@ pub mod Opening
 pub mod Candidates
 pub mod Rejudging
 pub mod ClockChanges
-pub mod ReleasedSubmissions
 pub mod Laws

@@ -3,7 +3,11 @@ ghost use Rattle.std.specs.Prelude.{◌≡◌, ◌≤◌, ◌&&◌, find, length
 ghost use Rattle.std.specs.Option.{option_map};
 ghost use Rattle.contest_types.specs.State.{clarifications_to};
 ghost use Rattle.contest_types.specs.ValidClarifications.{same_scope, scope_of};
-ghost use Rattle.contest_rules.specs.Clarifying.{HasAudience, addressee_for, audience_of, clarification_on, clarify_on, has_this_key, is_by, may_write, most_by, problem_for, said_again, said_anew, says_the_same, scope_for, written_by, written_under};
+ghost use Rattle.contest_rules.specs.Clarifying.{HasAudience, addressee_for, audience_of};
+ghost use Rattle.contest_rules.specs.Clarifying.{clarification_on, clarify_on, has_this_key, is_by};
+ghost use Rattle.contest_rules.specs.Clarifying.{may_write, most_by, problem_for, said_again};
+ghost use Rattle.contest_rules.specs.Clarifying.{said_anew, says_the_same, scope_for, written_by};
+ghost use Rattle.contest_rules.specs.Clarifying.{written_under};
 
 use crate::{Decision, RuleRefusal};
 use contest_types::limits::{JURY_CLARIFICATIONS, TEAM_REQUESTS};
@@ -22,8 +26,8 @@ pub enum Sender {
 }
 
 impl Sender {
-    /// What a sender hears it hears as this audience. A contest never has so many teams that a number
-    /// doesn't fit.
+    /// What a sender hears it hears as this audience. A contest never has so many teams that a
+    /// number doesn't fit.
     pub fn audience(self) -> Audience
         ensures { HasAudience self → result ≡ audience_of self }
     {
@@ -34,7 +38,8 @@ impl Sender {
     }
 }
 
-/// To whom the jury writes, as it is asked for. What a team asks goes to the jury, whatever this says.
+/// To whom the jury writes, as it is asked for. What a team asks goes to the jury, whatever this
+/// says.
 #[derive(Drop)]
 pub enum WantedAddressee {
     /// All.
@@ -86,8 +91,8 @@ impl<'a> Model for SaidBefore<'a> {
     ghost view = { λ s. s.clarification.now };
 }
 
-/// What a clarification names, given the clarification that its reply names and that the sender hears;
-/// none where the problem, the group, the team or that clarification isn't there.
+/// What a clarification names, given the clarification that its reply names and that the sender
+/// hears; none where the problem, the group, the team or that clarification isn't there.
 pub fn clarification_on(
     fixed: &Fixed,
     sender: Sender,
@@ -115,7 +120,8 @@ pub fn clarification_on(
     }
 }
 
-// Whose it will be: a team's requests are its own, and the jury writes to a team, to a group or to all.
+// Whose it will be: a team's requests are its own, and the jury writes to a team, to a group or to
+// all.
 fn addressee_for(fixed: &Fixed, sender: Sender, to: &WantedAddressee) -> Option<Addressee>
     ensures { result ≡ addressee_for fixed.now sender to.now }
 {
@@ -146,18 +152,18 @@ fn problem_for(fixed: &Fixed, problem: &Option<Id>) -> Option<Option<usize>>
     }
 }
 
-/// What becomes of a clarification that somebody writes now, of what it names and over the contest's
-/// clarifications. It takes no memory.
+/// What becomes of a clarification that somebody writes now, of what it names and over the
+/// contest's clarifications. It takes no memory.
 ///
 /// # Errors
 ///
-/// `UnknownReference` where a problem, a group, a team or a clarification that it names isn't there, or isn't
-/// heard by the sender. A key that stands answers for itself, whatever now is: with equal content its
-/// clarification stands, with other content it is refused (`KeyReused`). Keys are told apart by team,
-/// whoever of its accounts writes, and by the account of the jury. Then come the clock (`NotOpen`: a
-/// team asks while the contest runs, the jury writes from the start on, and nobody once a finalized
-/// mark is set) and the limits (`TeamLimit`): 200 requests of a team, and 100,000 of the jury to one
-/// addressee.
+/// `UnknownReference` where a problem, a group, a team or a clarification that it names isn't
+/// there, or isn't heard by the sender. A key that stands answers for itself, whatever now is: with
+/// equal content its clarification stands, with other content it is refused (`KeyReused`). Keys are
+/// told apart by team, whoever of its accounts writes, and by the account of the jury. Then come
+/// the clock (`NotOpen`: a team asks while the contest runs, the jury writes from the start on, and
+/// nobody once a finalized mark is set) and the limits (`TeamLimit`): 200 requests of a team, and
+/// 100,000 of the jury to one addressee.
 pub fn decide_clarification<'a>(
     fixed: &Fixed,
     named: Option<NamedClarification>,

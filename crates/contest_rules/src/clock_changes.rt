@@ -1,18 +1,18 @@
 //! An administrator sets the start or the thaw, and makes the results final.
-ghost use Rattle.std.specs.Prelude.{◌≡◌, not, IfOk};
+ghost use Rattle.std.specs.Prelude.{◌≡◌, not};
 ghost use Rattle.std.specs.List.{list_any};
 ghost use Rattle.contest_types.specs.Clock.{end_of, phase_at, reached};
 ghost use Rattle.contest_types.specs.ValidRejudgings.{is_open};
-ghost use Rattle.contest_rules.specs.ClockChanges.{final_change, finalize, has_end, has_ended, is_untouched, may_close, may_start, may_thaw, set_clock, start_change, thaw_change};
+ghost use Rattle.contest_rules.specs.ClockChanges.{all_released, final_change, finalize, has_end};
+ghost use Rattle.contest_rules.specs.ClockChanges.{has_ended, is_untouched, may_close, may_start};
+ghost use Rattle.contest_rules.specs.ClockChanges.{may_thaw, set_clock, start_change, thaw_change};
 
-use crate::RuleRefusal;
-use crate::released_submissions::are_all_released;
+use crate::{Judged, RuleRefusal};
 use contest_types::limits::LAST_MOMENT;
 use contest_types::{
-    Clarification, Entry, Fixed, Marks, Moment, Phase, Rejudging, RejudgingState, Release,
-    Submission, TimeSpan, end_of, freeze_of, is_thawed, phase,
+    Clarification, Entry, Fixed, Marks, Moment, Phase, Rejudging, RejudgingState, Submission,
+    TimeSpan, end_of, freeze_of, is_thawed, phase,
 };
-use std::alloc::{AllocError, Global};
 
 /// What is asked for of the clock (Contest API 2023-06, contests: PATCH).
 #[derive(Clone, Copy)]
@@ -37,10 +37,10 @@ pub struct ClockChange {
 ///
 /// # Errors
 ///
-/// `ClockRefused`. A start is refused where a submission or a clarification stands, where the thaw or the
-/// final results are set, where the old start has come, and where the new one has or its end is past the
-/// last moment. A thaw is refused where there is no freeze moment, where the old thaw has come, and where
-/// the new one is before the end.
+/// `ClockRefused`. A start is refused where a submission or a clarification stands, where the thaw
+/// or the final results are set, where the old start has come, and where the new one has or its end
+/// is past the last moment. A thaw is refused where there is no freeze moment, where the old thaw
+/// has come, and where the new one is before the end.
 pub fn decide_clock(
     fixed: &Fixed,
     submissions: &[Submission],
@@ -157,30 +157,34 @@ fn is_after_end(fixed: &Fixed, moment: Moment) -> bool
     }
 }
 
-/// What becomes of results that are to be final from now on, over the contest's submissions, releases and
-/// rejudgings: in one pass over each.
+/// What becomes of results that are to be final from now on, over the contest's submissions and
+/// rejudgings, in one pass over each, after these verdicts. It takes no memory.
 ///
 /// # Errors
 ///
-/// Want of memory; or `ClockRefused` where the contest hasn't ended, where the results are final already,
-/// where a submission has no release, and where a rejudging is open.
-pub fn decide_final(
-    alloc: Global,
+/// `ClockRefused` where the contest hasn't ended, where the results are final already, where a
+/// submission has no release, and where a rejudging is open.
+pub fn decide_final<J: Judged>(
     fixed: &Fixed,
     submissions: &[Submission],
-    releases: &[Release],
+    judged: &J,
     rejudgings: &[Rejudging],
     now: Moment,
-) -> Result<Result<ClockChange, RuleRefusal>, AllocError>
-    ensures { IfOk result (λ r. r ≡ finalize fixed.now submissions.now releases.now rejudgings.now now) }
+) -> Result<ClockChange, RuleRefusal>
+    ensures { result ≡ finalize fixed.now submissions.now (J.releases judged.now) rejudgings.now now }
 {
-    if !may_close(fixed, rejudgings, now) {
-        return Ok(Err(RuleRefusal::ClockRefused));
+    if may_close(fixed, rejudgings, now) && are_all_released(submissions, judged) {
+        Ok(final_change(&fixed.marks, now))
+    } else {
+        Err(RuleRefusal::ClockRefused)
     }
-    if !are_all_released(alloc, releases, submissions)? {
-        return Ok(Err(RuleRefusal::ClockRefused));
-    }
-    Ok(Ok(final_change(&fixed.marks, now)))
+}
+
+// Whether each submission has a release.
+fn are_all_released<J: Judged>(submissions: &[Submission], judged: &J) -> bool
+    ensures { result ≡ all_released (J.releases judged.now) submissions.now }
+{
+    submissions.iter().all(|submission| judged.is_released(submission.team, submission.number))
 }
 
 fn final_change(marks: &Marks, finalized: Moment) -> ClockChange

@@ -10,8 +10,8 @@ ghost use Rattle.contest_rules.specs.Verifying.{last_proposal};
 
 use contest_types::Proposal;
 
-/// The verdicts on each submission so far. A submission is named by the place of its team, from 0, and its
-/// number, from 1.
+/// The verdicts on each submission so far. A submission is named by the place of its team, from 0,
+/// and its number, from 1.
 pub trait Judged {
     /// All verdicts that were proposed.
     ghost proposals: { Self → List TheProposal };

@@ -1,6 +1,10 @@
 //! Laws of the decisions: functions that do nothing, and whose contracts say what holds of every
 //! contest.
-ghost use Rattle.contest_rules.specs.Laws.{AlikeClarifyAlike, AlikeSubmitAlike, AppliedIsAddable, ClarifiedIsAddable, ClockIsAddable, ComeStays, FinalIsAddable, OpenedIsAddable, ProposedIsAddable, RejudgedIsAddable, SubmittedIsAddable, VerifiedIsAddable};
+ghost use Rattle.contest_rules.specs.Laws.{AlikeClarifyAlike, AlikeSubmitAlike, AppliedIsAddable};
+ghost use Rattle.contest_rules.specs.Laws.{ClarifiedIsAddable, ClockIsAddable, ComeStays};
+ghost use Rattle.contest_rules.specs.Laws.{FinalIsAddable, OpenedIsAddable, ProposedIsAddable};
+ghost use Rattle.contest_rules.specs.Laws.{RejudgedIsAddable, SubmittedIsAddable};
+ghost use Rattle.contest_rules.specs.Laws.{VerifiedIsAddable};
 
 /// A submission that is taken keeps a valid contest valid.
 pub fn submitted_is_addable()
@@ -27,8 +31,8 @@ pub fn clarified_is_addable()
     ensures { ClarifiedIsAddable }
 {}
 
-/// Nothing that a team can't learn decides what becomes of what it asks: not what others ask and are
-/// told, and not under which keys.
+/// Nothing that a team can't learn decides what becomes of what it asks: not what others ask and
+/// are told, and not under which keys.
 pub fn alike_clarify_alike()
     ensures { AlikeClarifyAlike }
 {}

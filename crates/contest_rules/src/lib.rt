@@ -10,11 +10,11 @@ pub mod laws;
 mod opening;
 mod proposing;
 mod rejudging;
-mod released_submissions;
 mod rule_refusal;
 mod submitting;
 mod verdicts;
 mod verifying;
+mod wanted_id;
 
 pub use clarifying::{
     NamedClarification, SaidBefore, Sender, WantedAddressee, WantedClarification, clarification_on,
@@ -30,3 +30,4 @@ pub use rule_refusal::RuleRefusal;
 pub use submitting::{OwnSoFar, Standing, WantedSubmission, decide_submission, has_key};
 pub use verdicts::{NamedVerdict, WantedVerdict, verdict_on};
 pub use verifying::decide_verify;
+pub use wanted_id::WantedId;

@@ -1,13 +1,14 @@
 //! The jury opens a rejudging.
 ghost use Rattle.std.specs.Prelude.{◌≡◌, Some, IfOk, map};
 ghost use Rattle.contest_types.specs.State.{of_submission};
-ghost use Rattle.contest_rules.specs.Opening.{are_released, is_any_rejudged, member_of, open_named, opening_refusal};
+ghost use Rattle.contest_rules.specs.Opening.{are_released, is_any_rejudged, member_of, open_named};
+ghost use Rattle.contest_rules.specs.Opening.{opening_refusal};
 
 use crate::candidates::{Candidate, candidates_of};
-use crate::{Judged, RuleRefusal};
+use crate::{Judged, RuleRefusal, WantedId};
 use contest_types::limits::REJUDGINGS;
 use contest_types::{
-    Fixed, Id, Member, MemberState, Name, Rejudging, RejudgingState, Rows, Submission,
+    Fixed, Member, MemberState, Name, Rejudging, RejudgingState, Rows, Submission,
 };
 use std::alloc::{AllocError, Global};
 
@@ -16,18 +17,18 @@ use std::alloc::{AllocError, Global};
 pub struct WantedRejudging {
     /// Why.
     pub reason: Name,
-    /// The ids of the submissions that are judged again, each once.
-    pub submissions: Rows<Id>,
+    /// What is given as the ids of the submissions that are judged again, each text once.
+    pub submissions: Rows<WantedId>,
 }
 
-/// What becomes of a rejudging that is opened for a reason over these submissions, after these verdicts and
-/// rejudgings: the rejudging that is added.
+/// What becomes of a rejudging that is opened for a reason over these submissions, after these
+/// verdicts and rejudgings: the rejudging that is added.
 ///
 /// # Errors
 ///
-/// Want of memory; or `NotOpen` once a mark of final results is set, then `RejudgingIncomplete` where a
-/// submission has no release, `InRejudging` where one is in an open rejudging, and `TeamLimit` where as
-/// many rejudgings stand as there may be.
+/// Want of memory; or `NotOpen` once a mark of final results is set, then `RejudgingIncomplete`
+/// where a submission has no release, `InRejudging` where one is in an open rejudging, and
+/// `TeamLimit` where as many rejudgings stand as there may be.
 pub fn decide_opening<J: Judged>(
     alloc: Global,
     fixed: &Fixed,

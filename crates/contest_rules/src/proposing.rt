@@ -1,11 +1,14 @@
 //! A judge proposes a verdict.
-ghost use Rattle.std.specs.Prelude.{◌≡◌};
-ghost use Rattle.contest_rules.specs.Proposing.{propose_for, propose_named, release_at_once};
+ghost use Rattle.std.specs.Prelude.{◌≡◌, ◌⊎◌, ◌++◌, [], ◌∷◌, OnErr, OnOk};
+ghost use Rattle.contest_types.specs.declared.entry.Entry.TheVariants.{NewProposal};
+ghost use Rattle.contest_rules.specs.Proposing.{entries_of, propose_for, propose_named};
+ghost use Rattle.contest_rules.specs.Proposing.{release_at_once};
 
 use crate::verdicts::{NamedVerdict, first_release};
 use crate::{Judged, RuleRefusal};
 use contest_types::limits::PROPOSALS;
-use contest_types::{Fixed, Id, Moment, Proposal, Proposer, Release};
+use contest_types::{Entry, Fixed, Id, Moment, Proposal, Proposer, Release, Rows};
+use std::alloc::AllocError;
 
 /// What a proposal adds.
 #[derive(Drop)]
@@ -16,13 +19,33 @@ pub struct NewVerdict {
     pub release: Option<Release>,
 }
 
+impl NewVerdict {
+    /// Puts what it adds at the end: the proposal, then its release, if it has one.
+    ///
+    /// # Errors
+    ///
+    /// Want of memory alone. The entries are then as before, or have the proposal alone.
+    pub fn push_into(self, entries: &mut Rows<Entry>) -> Result<(), AllocError>
+        ensures ok { OnOk result (entries.new ≡ entries.old ++ entries_of self) }
+        ensures err { OnErr result
+            ((entries.new ≡ entries.old) ⊎ (entries.new ≡ entries.old ++ NewProposal self.proposal ∷ [])) }
+    {
+        entries.push(Entry::NewProposal(self.proposal))?;
+        if let Some(release) = self.release {
+            entries.push(Entry::NewRelease(release))?;
+        }
+        Ok(())
+    }
+}
+
 /// What becomes of the verdict that the account with this id proposes now (DOMjudge manual,
 /// "Judging": verification), of what it names and after the verdicts so far. It takes no memory.
 ///
 /// # Errors
 ///
-/// `UnknownReference` where the submission or the judgement type isn't there; then `AlreadyReleased`
-/// where the submission has a release; then `TeamLimit` where 1,000 proposals stand for it.
+/// `UnknownReference` where the submission or the judgement type isn't there; then
+/// `AlreadyReleased` where the submission has a release; then `TeamLimit` where 1,000 proposals
+/// stand for it.
 pub fn decide_proposal<J: Judged>(
     fixed: &Fixed,
     named: Option<NamedVerdict>,

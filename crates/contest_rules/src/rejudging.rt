@@ -1,7 +1,9 @@
 //! A judge judges a member of a rejudging again; the jury applies a rejudging, or cancels it.
 ghost use Rattle.std.specs.Prelude.{◌≡◌, ◌<◌, length, IfOk, IfSome};
 ghost use Rattle.std.specs.List.{filter_map, list_all};
-ghost use Rattle.contest_rules.specs.Rejudging.{apply_on, apply_refusal, cancel_on, is_ready, member_after, member_at, ready_verdict, rejudge_in, rejudge_on, release_of, settles};
+ghost use Rattle.contest_rules.specs.Rejudging.{apply_on, apply_refusal, cancel_on, is_ready};
+ghost use Rattle.contest_rules.specs.Rejudging.{member_after, member_at, ready_verdict, rejudge_in};
+ghost use Rattle.contest_rules.specs.Rejudging.{rejudge_on, release_of, settles};
 
 use crate::verdicts::NamedVerdict;
 use crate::{Judged, RuleRefusal};
@@ -17,14 +19,14 @@ pub struct MemberChange {
     pub state: MemberState,
 }
 
-/// What becomes of a verdict that the account with this id gives to a member of a rejudging, if what the
-/// verdict names is there. With verification another account has to give the same before it stands
-/// (DOMjudge manual, "Judging": verification).
+/// What becomes of a verdict that the account with this id gives to a member of a rejudging, if
+/// what the verdict names is there. With verification another account has to give the same before
+/// it stands (DOMjudge manual, "Judging": verification).
 ///
 /// # Errors
 ///
-/// `UnknownReference` where the submission or the judgement type isn't there, or the submission is no
-/// member; then `RejudgingClosed` where the rejudging is applied or cancelled.
+/// `UnknownReference` where the submission or the judgement type isn't there, or the submission is
+/// no member; then `RejudgingClosed` where the rejudging is applied or cancelled.
 pub fn decide_member(
     verification: bool,
     rejudging: &Rejudging,
@@ -98,8 +100,8 @@ fn settles(state: &MemberState, verdict: usize, account: &Id) -> bool
 ///
 /// # Errors
 ///
-/// Want of memory; or `RejudgingClosed` where it is applied or cancelled, then `RejudgingIncomplete`
-/// where a member's verdict doesn't stand.
+/// Want of memory; or `RejudgingClosed` where it is applied or cancelled, then
+/// `RejudgingIncomplete` where a member's verdict doesn't stand.
 pub fn decide_apply<J: Judged>(
     alloc: Global,
     rejudging: &Rejudging,

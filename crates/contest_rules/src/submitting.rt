@@ -1,6 +1,7 @@
 //! A team submits.
 ghost use Rattle.std.specs.Prelude.{◌≡◌, None};
-ghost use Rattle.contest_rules.specs.Submitting.{asks_the_same, fresh, has_key, lacks_entry_point, later, repeated, submit, takes_submissions};
+ghost use Rattle.contest_rules.specs.Submitting.{asks_the_same, fresh, has_key, lacks_entry_point};
+ghost use Rattle.contest_rules.specs.Submitting.{later, repeated, submit, takes_submissions};
 
 use crate::{Decision, RuleRefusal};
 use contest_types::limits::TEAM_SUBMISSIONS;
@@ -57,8 +58,8 @@ pub struct OwnSoFar<'a> {
 /// A problem or a language that isn't there is refused first (`UnknownReference`), then a missing
 /// entry point (`EntryPointMissing`). A key that stands answers for itself, whatever now is: with
 /// equal content its submission stands, with other content it is refused (`KeyReused`). Then come
-/// the clock (`NotOpen` unless the contest runs and no finalized mark is set) and the team's limit of
-/// 500 (`TeamLimit`). A submission counts as of now, but never before the team's last (own).
+/// the clock (`NotOpen` unless the contest runs and no finalized mark is set) and the team's limit
+/// of 500 (`TeamLimit`). A submission counts as of now, but never before the team's last (own).
 pub fn decide_submission<'a>(
     fixed: &Fixed,
     own: OwnSoFar<'a>,

@@ -26,7 +26,8 @@ pub struct NamedVerdict {
     pub verdict: usize,
 }
 
-/// What a verdict for a submission names; none where the submission or the judgement type isn't there.
+/// What a verdict for a submission names; none where the submission or the judgement type isn't
+/// there.
 pub fn verdict_on(
     fixed: &Fixed,
     submission: Option<&Submission>,

@@ -6,15 +6,16 @@ use crate::verdicts::{NamedVerdict, first_release};
 use crate::{Judged, RuleRefusal};
 use contest_types::{Id, Moment, Proposal, Proposer, Release};
 
-/// What becomes of the verdict that the account with this id verifies now (DOMjudge manual, "Judging":
-/// verification), of what it names and after the verdicts so far: the release that is added. It takes no
-/// memory.
+/// What becomes of the verdict that the account with this id verifies now (DOMjudge manual,
+/// "Judging": verification), of what it names and after the verdicts so far: the release that is
+/// added. It takes no memory.
 ///
 /// # Errors
 ///
-/// `UnknownReference` where the submission or the judgement type isn't there; then `AlreadyReleased`
-/// where the submission has a release, `NothingToVerify` where nothing was proposed for it, `SameJudge`
-/// where this account made the last proposal, and `TypeDiffers` where that one names another type.
+/// `UnknownReference` where the submission or the judgement type isn't there; then
+/// `AlreadyReleased` where the submission has a release, `NothingToVerify` where nothing was
+/// proposed for it, `SameJudge` where this account made the last proposal, and `TypeDiffers` where
+/// that one names another type.
 pub fn decide_verify<J: Judged>(
     named: Option<NamedVerdict>,
     judged: &J,

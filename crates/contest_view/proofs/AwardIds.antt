@@ -10,7 +10,7 @@ use Rattle.contest_types.specs.declared.audience.Audience.TheVariants.{Jury}
 use Rattle.contest_types.specs.declared.objects.Group.{Group}
 use Rattle.contest_types.specs.declared.objects.Problem.{Problem}
 use Rattle.contest_types.proofs.Different.{one_place}
-use Rattle.contest_types.proofs.InOrderLemmas.{filter_has, map_has}
+use Rattle.contest_types.proofs.InOrderLemmas.{filter_has, map_has, has_either}
 use Rattle.contest_types.proofs.SettingsTest.{is_settings}
 use Rattle.contest_types.proofs.ValidParts.{parts}
 use Rattle.contest_score.specs.Awards.{awards_of, first_to_solve, group_order, group_winner, medals, shows_awards, winner}
@@ -57,13 +57,6 @@ record Given (s : Setup) (rows : List Row) (solves : List Solve) (w : Award) : T
   is : w ≡ award_at s rows solves kind place
   told : kind_of w.id ≡ kind
 
-in_either : {X : Type 0} (xs ys : List X) (x : X) → Has (xs ++ ys) x → Has xs x ⊎ Has ys x
-in_either [] ys x h = inr h
-in_either (z ∷ xs) ys x h = elim h [
-  | inl e ↦ inl (inl e)
-  | inr t ↦ elim (in_either xs ys x t) [ inl k ↦ inl (inr k) | inr k ↦ inr k ]
-]
-
 -- each award is one of a kind
 given : (s : Setup) (rows : List Row) (solves : List Solve) (w : Award) → IsValid s → Has (awards_of s rows solves) w → Given s rows solves w
 given s rows solves w v h =
@@ -86,7 +79,7 @@ given s rows solves w v h =
     let all : Has (winner rows ∷ (medals s rows ++ (firsts ++ groups))) w = (filter_has (λ (u : Award). nat_lt 0 (length u.teams)) (winner rows ∷ (medals s rows ++ (firsts ++ groups))) w h).0 in
     elim all [
       | inl e ↦ plain 0 refl refl e
-      | inr k ↦ elim (in_either (medals s rows) (firsts ++ groups) w k) [ inl m ↦ medal m | inr l ↦ late (in_either firsts groups w l) ]
+      | inr k ↦ elim (has_either (medals s rows) (firsts ++ groups) w k) [ inl m ↦ medal m | inr l ↦ late (has_either firsts groups w l) ]
     ]
 
 -- of one kind there are no two with one id

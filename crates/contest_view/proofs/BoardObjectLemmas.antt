@@ -1,5 +1,5 @@
 -- The tokens of an array are those of its values, and a scoreboard's two times hold no float.
-use Rattle.std.proofs.Common.{◌≡◌, ◌∙◌, ◌⊎◌, ◌++◌, ℕ, List, [], ◌∷◌, Option, Some, None, ap, append-nil, append_assoc, drop, map, false, inl, inr, refl, sym}
+use Rattle.std.proofs.Common.{◌≡◌, ◌∙◌, ◌⊎◌, ◌++◌, ℕ, List, [], ◌∷◌, Option, Some, None, ap, append-nil, append_assoc, drop, map, inl, inr, refl, sym}
 use Rattle.std.specs.List.{flat_map, zip}
 use Rattle.std.specs.Prelude.{codes}
 use Rattle.json.specs.Token.{Token, begin_array, end_array, end_object}
@@ -9,11 +9,10 @@ use Rattle.serde_json.specs.Data.{Data, array, member, no_members, object}
 use Rattle.serde_json.proofs.OnLiterals.{serde_json_on_literals}
 use Rattle.serde_json.specs.View.{items_of}
 use Rattle.json.specs.Print.{print}
-use Rattle.serde_json.specs.Written.{compact_text, has_float, items_outline, members_outline}
+use Rattle.serde_json.specs.Written.{compact_text, items_outline, members_outline}
 use Rattle.serde_json.proofs.Texts.{print-outline}
 use Rattle.contest_types.specs.declared.minute.Minute.{Minute}
 use Rattle.contest_objects.specs.Objects.{member_where}
-use Rattle.contest_objects.specs.Times.{contest_time_data}
 use Rattle.contest_view.specs.JsonTokens.{Wrote, data_tokens, minute_member}
 use Rattle.contest_view.specs.Scoreboards.{minute_data}
 
@@ -39,10 +38,6 @@ array_written f xs first values last = in_words (data_tokens (array (items_of (m
 pub minute_written : (minute : Option Minute) → members_tokens (members_outline (member_where (minute_data minute) (codes "time") no_members)) ≡ minute_member (codes "time") minute ++ end_object ∷ []
 minute_written None = refl
 minute_written (Some m) = refl
-
-pub time_has_none : (start : Option ℕ) (now : ℕ) → has_float (contest_time_data start now) ≡ false
-time_has_none None now = refl
-time_has_none (Some s) now = refl
 
 -- where one of two lists has ended, nothing is left of both
 none_left : {X Y : Type 0} (xs : List X) (ys : List Y) → (xs ≡ []) ⊎ (ys ≡ []) → zip xs ys ≡ []

@@ -22,8 +22,9 @@ use Rattle.contest_view.specs.Clarifications.{clarification_found, clarification
 use Rattle.contest_objects.specs.ClarificationObjects.{clarification_item}
 use Rattle.contest_objects.specs.Items.{Item, IsListed, array_of, found_in}
 use Rattle.contest_view.proofs.Listed.{HaveOwnIds, IsSeenOf, Serves, array_is, found_is}
-use Rattle.contest_objects.proofs.ListingLemmas.{ShownOf, all_served, shown_where, tied, where_shown}
+use Rattle.contest_objects.proofs.ListingLemmas.{ShownOf, all_served, shown_where, where_shown}
 use Rattle.contest_view.proofs.SeriesApart.{apart}
+use Rattle.contest_types.proofs.InOrderLemmas.{is_equal}
 
 -- an id tells the clarification
 told_apart : (x : ContestState) → is_valid x ≡ true → (c d : Clarification) → Has x.clarifications c → Has x.clarifications d → clarification_id c.addressee c.number ≡ clarification_id d.addressee d.number
@@ -45,7 +46,7 @@ heard_of a x valid =
       total = heard_total;
       apart = apart (λ (c d : Clarification). same_addressee c.addressee d.addressee) (λ c. addressed_itself c.addressee) (λ (c : Clarification). c.number) (eq_by_cmp heard_cmp) x.clarifications
           (λ c. record { first = 1; numbers = ((tests x valid).series c).numbers })
-          (λ c d hc hd e. (let both = told_apart x valid d c hd hc (sym (exact_bytes _ _ (both_equal _ _ (tied (heard_cmp c d) e)).1)) in (both.0, sym both.1)));
+          (λ c d hc hd e. (let both = told_apart x valid d c hd hc (sym (exact_bytes _ _ (both_equal _ _ (is_equal (heard_cmp c d) e)).1)) in (both.0, sym both.1)));
       keeps = λ c d v w f g. sym (ap (λ u. clarification_cmp u w) (is c v f) ∙ ap (clarification_cmp (seen_clarification a st c)) (is d w g));
       has = λ v. ((λ h. shown v (listed_heard a x v h)), (λ f. heard_listed a x valid v (heard v f)));
       alone = λ vs up same. one_list a x valid vs up (λ v. ((λ h. heard v ((same v).0 h)), (λ i. (same v).1 (shown v i))));

@@ -15,19 +15,19 @@ use Rattle.contest_types.specs.declared.audience.Audience.{Audience}
 use Rattle.contest_types.specs.declared.limits.TheConstants.{TEAMS}
 use Rattle.contest_types.specs.declared.submission.Release.{Release}
 use Rattle.contest_types.specs.declared.submission.Submission.{Submission}
-use Rattle.contest_types.proofs.AddSettings.{tests_of}
+use Rattle.contest_types.proofs.SettingsTest.{is_settings}
 use Rattle.contest_types.proofs.SeenWhole.{one_submission, team_there}
 use Rattle.contest_types.proofs.ValidParts.{parts}
 use Rattle.contest_objects.specs.Items.{Item, IsListed, array_of, found_in}
 use Rattle.contest_view.specs.Rows.{row_cmp}
 use Rattle.contest_objects.proofs.ListingLemmas.{mapped_served}
-use Rattle.contest_view.proofs.SeenApart.{number_small, within_limit}
+use Rattle.contest_view.proofs.SeenApart.{number_small}
 use Rattle.contest_view.proofs.SeenOrder.{HaveOwnIds, ServesSeen, array_is, found_is}
 use Rattle.contest_view.specs.Judgements.{item_of, judgement_found, judgement_row, judgements_data, seen_of}
 use Rattle.contest_objects.specs.JudgementObjects.{judgement_item}
 use Rattle.contest_lists.specs.RowsOn.{last_row}
 use Rattle.contest_view.proofs.JudgementIds.{one_submission_id}
-use Rattle.contest_view.proofs.LastRowLemmas.{last_mapped}
+use Rattle.contest_types.proofs.LastLemmas.{last_mapped}
 
 -- what is seen by the last releases is what is seen of the contest
 seen_is : (a : Audience) (now : ℕ) (x : ContestState) (last : ℕ → ℕ → Option Release) (s : Submission)
@@ -60,7 +60,7 @@ own_id a now f last s i e =
 
 own_ids : (a : Audience) (now : ℕ) (x : ContestState) (last : ℕ → ℕ → Option Release) → is_valid x ≡ true → HaveOwnIds x (judgement_row a now x.fixed last)
 own_ids a now x last valid s t i j hs ht is it same =
-    let few : length x.fixed.settings.teams ≤ TEAMS = within_limit (length x.fixed.settings.teams) TEAMS (tests_of x (parts x valid).settings).few_teams in
+    let few : length x.fixed.settings.teams ≤ TEAMS = (is_settings x (parts x valid).settings).few_teams in
     let team_s = team_there x s valid hs in
     let team_t = team_there x t valid ht in
     let number_s = number_small x valid s hs in

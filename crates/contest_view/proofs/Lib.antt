@@ -16,7 +16,6 @@ pub mod AwardReads
 pub mod AwardIds
 mod ExamplesBoards
 mod ExamplesAwards
-pub mod LastRowLemmas
 pub mod JudgementLemmas
 pub mod JudgementIds
 pub mod JudgementLaws

@@ -15,8 +15,9 @@ use Rattle.serde_json.specs.Data.{Data}
 use Rattle.contest_types.specs.Order.{Has, IsInOrder}
 use Rattle.contest_types.proofs.InOrderLemmas.{map_has}
 use Rattle.contest_objects.specs.Items.{Item, IsListed, array_of, found_in}
-use Rattle.contest_objects.proofs.ListingLemmas.{ShownOf, find_alike, of_shown, served_all, shown_in_order, shown_of, sorted_unmap, unmap}
+use Rattle.contest_objects.proofs.ListingLemmas.{ShownOf, find_alike, served_all, shown_in_order, shown_of, sorted_unmap, unmap}
 use Rattle.contest_objects.proofs.Sorting.{moved_has, rises}
+use Rattle.contest_types.proofs.JudgementLemmas.{some_from}
 
 -- what is seen of rows, in order: no two rows tie, and whoever lists just that in order has the same list
 pub record IsSeenOf {X V : Type 0} (rows : List X) (show : X → Option V) (R : X → X → Ordering) (S : V → V → Ordering) (seen : List V) : Type 0 where
@@ -35,7 +36,7 @@ in_turn {X} {V} rows show R S seen s ys p up =
     let keeps : (x y : X) (v w : V) → show x ≡ Some v → show y ≡ Some w → is_lt (R x y) ≡ true → is_lt (S v w) ≡ true = λ x y v w f g h. ap is_lt (sym (s.keeps x y v w f g)) ∙ h in
     s.alone (filter_map show ys) (shown_in_order (λ x y. is_lt (R x y)) (λ v w. is_lt (S v w)) show keeps ys (rises s.total ys up apart)) (λ v. (
       (λ h. let f = shown_of show ys v h in record { row = f.row; there = moved_has ys rows f.row (IsPermutation-sym rows ys p) f.there; is = f.is }),
-      (λ f. of_shown show ys f.row v (moved_has rows ys f.row p f.there) f.is),
+      (λ f. some_from show ys f.row v (moved_has rows ys f.row p f.there) f.is),
     ))
 
 -- what is served of a row as it is loaded is what is served of what is seen of it
@@ -62,11 +63,11 @@ found_is {X} {Y} {V} rows show load T S seen s item of serves own id =
     let same : loaded ≡ filter_map of (filter_map show rows) = served_all item load show of serves rows in
     let to : (i : Item) → Has loaded i → Has (filter_map of seen) i = λ i h.
     (let f = shown_of of (filter_map show rows) i (subst (λ is. Has is i) same h) in
-    of_shown of seen f.row i ((s.has f.row).1 (shown_of show rows f.row f.there)) f.is) in
+    some_from of seen f.row i ((s.has f.row).1 (shown_of show rows f.row f.there)) f.is) in
     let from : (i : Item) → Has (filter_map of seen) i → Has loaded i = λ i h.
     (let f = shown_of of seen i h in
     let g = (s.has f.row).0 f.there in
-    subst (λ is. Has is i) (sym same) (of_shown of (filter_map show rows) f.row i (of_shown show rows g.row f.row g.there g.is) f.is)) in
+    subst (λ is. Has is i) (sym same) (some_from of (filter_map show rows) f.row i (some_from show rows g.row f.row g.there g.is) f.is)) in
     let one : (i j : Item) → Has loaded i → Has loaded j → bytes_eq i.id id ≡ true → bytes_eq j.id id ≡ true → i ≡ j = λ i j hi hj pi pj.
     (let f = shown_of item (map load rows) i hi in
     let g = shown_of item (map load rows) j hj in

@@ -15,7 +15,7 @@ use Rattle.contest_types.specs.Valid.{is_valid}
 use Rattle.contest_types.specs.VisibleIds.{submission_id}
 use Rattle.contest_types.specs.declared.limits.TheConstants.{TEAMS}
 use Rattle.contest_types.specs.declared.submission.Submission.{Submission}
-use Rattle.contest_types.proofs.AddSettings.{tests_of}
+use Rattle.contest_types.proofs.SettingsTest.{is_settings}
 use Rattle.contest_types.proofs.DashedNumbers.{dashed}
 use Rattle.contest_types.proofs.InOrderLemmas.{find_has}
 use Rattle.contest_types.proofs.PlaceLemmas.{and_left, and_right, both_true}
@@ -24,18 +24,14 @@ use Rattle.contest_types.proofs.SeenWhole.{team_there}
 use Rattle.contest_types.proofs.ValidParts.{parts}
 use Rattle.contest_view.specs.Reads.{named_submission}
 use Rattle.contest_objects.proofs.CollectionLemmas.{find_mapped}
-use Rattle.contest_view.proofs.SeenApart.{number_small, within_limit}
-use Rattle.contest_view.proofs.OwnNumbers.{number_of, find_both, own_loaded, own_numbers}
+use Rattle.contest_view.proofs.SeenApart.{number_small}
+use Rattle.contest_view.proofs.OwnNumbers.{number_of, find_both, own_numbers}
+use Rattle.contest_types.proofs.Ranges.{first_is, rest_is}
+use Rattle.contest_types.proofs.OwnLemmas.{own_loaded}
 
 find_agree : {X : Type 0} (p q : X → Bool) (xs : List X) → ((x : X) → Has xs x → p x ≡ q x) → find p xs ≡ find q xs
 find_agree p q [] same = refl
 find_agree p q (x ∷ xs) same = rw (same x (inl refl), find_agree p q xs (λ y h. same y (inr h))) refl
-
-first_is : (n k m : ℕ) (ns : List ℕ) → n ∷ ns ≡ range_with_len k (suc m) → n ≡ k
-first_is n k m ns e = cc e
-
-rest_is : (n k m : ℕ) (ns : List ℕ) → n ∷ ns ≡ range_with_len k (suc m) → ns ≡ range_with_len (k + 1) m
-rest_is n k m ns e = cc e
 
 differs : (a k i : ℕ) → a ≡ k → (a == k + suc i) ≡ false
 differs a k i e = grind (arith, nat_tests, e)
@@ -68,7 +64,7 @@ record IsSmall (s : Submission) : Type 0 where
 
 small : (x : ContestState) → is_valid x ≡ true → (s : Submission) → Has x.submissions s → IsSmall s
 small x valid s there =
-    let few : length x.fixed.settings.teams ≤ TEAMS = within_limit (length x.fixed.settings.teams) TEAMS (tests_of x (parts x valid).settings).few_teams in
+    let few : length x.fixed.settings.teams ≤ TEAMS = (is_settings x (parts x valid).settings).few_teams in
     record { team = omega (arith, few, team_there x s valid there); number = omega (arith, number_small x valid s there) }
 
 -- an id tells the team and the number

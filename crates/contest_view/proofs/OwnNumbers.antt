@@ -1,9 +1,9 @@
 -- A team's submissions are numbered one after another, with or without their files.
-use Rattle.std.proofs.Common.{None, ◌≡◌, ℕ, Bool, true, false, cond, List, [], ◌∷◌, length, map, Some, refl, ap}
-use Rattle.std.specs.Prelude.{◌==◌, ◌&&◌, find, filter}
+use Rattle.std.proofs.Common.{◌≡◌, ℕ, Bool, true, false, cond, List, [], ◌∷◌, length, map, Some, refl, ap}
+use Rattle.std.specs.Prelude.{◌&&◌, find, filter}
 use Rattle.std.specs.List.{range_with_len, list_all}
 use Rattle.std.proofs.lemmas.Slice.Eq.{bytes_eq-Decides}
-use Rattle.contest_types.specs.Loads.{without_file}
+use Rattle.contest_types.specs.PlainRows.{plain_submission}
 use Rattle.contest_types.specs.State.{ContestState, submissions_of}
 use Rattle.contest_types.specs.Series.{count_up}
 use Rattle.contest_types.specs.Valid.{is_valid}
@@ -32,17 +32,7 @@ pub own_numbers : (x : ContestState) (team : ℕ) → is_valid x ≡ true
     → map number_of (submissions_of team x.submissions) ≡ range_with_len 1 (length (map number_of (submissions_of team x.submissions)))
 own_numbers x team valid =
     let own = submissions_of team x.submissions in
-    let one : Submission = record { team = team; number = 0; time = 0; problem = 0; language = 0; entry_point = None; file = []; key = None } in
+    let one : Submission = plain_submission team 0 0 0 0 in
     let series : are_valid_submissions own ≡ true = in_any of_one_team are_valid_submissions one_team refl x.submissions one (and_right (list_all (is_valid_submission x.fixed) x.submissions) _ (parts x valid).submissions) in
     let counted : count_up (map number_of own) ≡ true = (four (count_up (map number_of own)) _ _ _ series).first in
     (bytes_eq-Decides (map number_of own) (range_with_len 1 (length (map number_of own)))).0 counted
-
--- a team's submissions without their files are its among those without their files
-pub own_loaded : (team : ℕ) (ss : List Submission) → submissions_of team (map without_file ss) ≡ map without_file (submissions_of team ss)
-own_loaded team [] = refl
-own_loaded team (s ∷ ss) =
-    let go : (b : Bool) → (s.team == team) ≡ b → submissions_of team (map without_file (s ∷ ss)) ≡ map without_file (submissions_of team (s ∷ ss)) = elim [
-      | true ↦ λ is. rw is (ap (λ rest. without_file s ∷ rest) (own_loaded team ss))
-      | false ↦ λ is. rw is (own_loaded team ss)
-    ] in
-    go (s.team == team) refl

@@ -24,7 +24,7 @@ use Rattle.contest_objects.proofs.ListingLemmas.{mapped_served}
 use Rattle.contest_view.proofs.SeenOrder.{ServesSeen, array_is}
 use Rattle.contest_lists.specs.RowsOn.{last_row}
 use Rattle.contest_view.specs.Proposals.{open_of, proposal_item, proposal_row, proposals_data}
-use Rattle.contest_view.proofs.LastRowLemmas.{last_mapped}
+use Rattle.contest_types.proofs.LastLemmas.{last_mapped}
 
 -- what stands proposed by the last rows waits in the contest, as the jury sees it
 open_is : (now : ℕ) (x : ContestState) (last : ℕ → ℕ → Option Proposal) (released : ℕ → ℕ → Option Release) (s : Submission)

@@ -7,11 +7,11 @@ use Rattle.serde_json.specs.Data.{array}
 use Rattle.serde_json.specs.View.{items_of}
 use Rattle.contest_view.specs.Laws.{OnlyTheJuryReadsRejudgings}
 use Rattle.contest_view.specs.Rejudgings.{named_rejudging, numbered_data}
-use Rattle.contest_view.proofs.JudgementLaws.{no_jury}
+use Rattle.contest_types.proofs.SightLemmas.{not_jury}
 
 pub only_the_jury : OnlyTheJuryReadsRejudgings
 only_the_jury a x other =
-    let no = no_jury a other in (
+    let no = not_jury a other in (
       ap (λ b. array (items_of (if b then map (numbered_data x.fixed.settings) (enumerate_from 1 x.rejudgings) else []))) no,
       λ id. ap (λ b. if b then option_map (numbered_data x.fixed.settings) (named_rejudging id x.rejudgings) else None) no,
     )

@@ -8,6 +8,7 @@ use Rattle.std.specs.Str.{bytes_eq}
 use Rattle.std.proofs.lemmas.Fmt.{decimal_injective}
 use Rattle.std.proofs.lemmas.List.{append_assoc, drop_more}
 use Rattle.std.proofs.lemmas.Slice.Eq.{bytes_eq-Decides}
+use Rattle.std.proofs.lemmas.Bool.{leb-true}
 use Rattle.serde_json.specs.Data.{array}
 use Rattle.serde_json.specs.View.{items_of}
 use Rattle.serde_json.specs.Written.{has_float}
@@ -22,7 +23,6 @@ use Rattle.contest_types.proofs.PlaceLemmas.{and_right}
 use Rattle.contest_types.proofs.ValidParts.{parts}
 use Rattle.contest_objects.proofs.RejudgingObjectLemmas.{rejudging_has_no_float}
 use Rattle.contest_view.specs.Rejudgings.{named_rejudging, numbered_data}
-use Rattle.contest_view.proofs.SeenApart.{within_limit}
 
 abbrev has_this_number : (id : List ℕ) → ℕ × Rejudging → Bool
 has_this_number id p = bytes_eq (decimal p.0) id
@@ -55,7 +55,7 @@ none_has (r ∷ rs) first id never =
 
 few : (x : ContestState) → is_valid x ≡ true → length x.rejudgings ≤ REJUDGINGS
 few x valid =
-    within_limit (length x.rejudgings) REJUDGINGS (and_right (list_all (is_valid_rejudging x) x.rejudgings && are_different_members (open_members x.rejudgings)) _ (parts x valid).rejudgings)
+    leb-true (length x.rejudgings) REJUDGINGS (and_right (list_all (is_valid_rejudging x) x.rejudgings && are_different_members (open_members x.rejudgings)) _ (parts x valid).rejudgings)
 
 pub named_at : (x : ContestState) → is_valid x ≡ true → (n place : ℕ) (id : List ℕ) → n ≡ 1 + place → n < 2 ^ 64 → decimal n ≡ id
     → named_rejudging id x.rejudgings ≡ option_map (λ (r : Rejudging). (n, r)) (slice_get x.rejudgings place)

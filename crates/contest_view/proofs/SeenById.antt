@@ -12,7 +12,7 @@ use Rattle.contest_types.specs.Valid.{is_valid}
 use Rattle.contest_types.specs.declared.audience.Audience.{Audience}
 use Rattle.contest_types.specs.declared.limits.TheConstants.{TEAMS}
 use Rattle.contest_types.specs.declared.submission.Submission.{Submission}
-use Rattle.contest_types.proofs.AddSettings.{tests_of}
+use Rattle.contest_types.proofs.SettingsTest.{is_settings}
 use Rattle.contest_types.proofs.InOrderLemmas.{find_has, found_in, none_passes}
 use Rattle.contest_types.proofs.PlaceLemmas.{and_left, and_right, both_true}
 use Rattle.contest_types.proofs.Rising.{find_passes}
@@ -24,7 +24,7 @@ use Rattle.contest_objects.specs.Objects.{submission_object}
 use Rattle.contest_view.specs.Rows.{if_seen}
 use Rattle.contest_view.specs.Reads.{named_submission, submission_item, submission_found}
 use Rattle.contest_objects.proofs.CollectionLemmas.{find_mapped}
-use Rattle.contest_view.proofs.SeenApart.{number_small, within_limit}
+use Rattle.contest_view.proofs.SeenApart.{number_small}
 use Rattle.contest_objects.proofs.SubmissionIds.{one_id}
 
 -- this one is asked for
@@ -37,7 +37,7 @@ has_this_id id v = bytes_eq (submission_id v.team v.number) id
 -- of a valid contest, one submission has an id
 pub one_with_id : (x : ContestState) → is_valid x ≡ true → (s t : Submission) → Has x.submissions s → Has x.submissions t → submission_id s.team s.number ≡ submission_id t.team t.number → s ≡ t
 one_with_id x valid s t hs ht e =
-    let few : length x.fixed.settings.teams ≤ TEAMS = within_limit (length x.fixed.settings.teams) TEAMS (tests_of x (parts x valid).settings).few_teams in
+    let few : length x.fixed.settings.teams ≤ TEAMS = (is_settings x (parts x valid).settings).few_teams in
     let team_s = team_there x s valid hs in
     let team_t = team_there x t valid ht in
     let number_s = number_small x valid s hs in

@@ -6,31 +6,47 @@ ghost use Rattle.contest_types.specs.State.{ContestState};
 ghost use Rattle.contest_types.specs.declared.audience.Audience.TheVariants.{Jury};
 ghost use Rattle.contest_score.specs.Awards.{awards_of, shown_awards};
 ghost use Rattle.contest_score.specs.Contest.{board_for, solves_of};
-ghost use Rattle.contest_view.specs.Awards.{award_found, awards_data};
+ghost use Rattle.contest_view.specs.Awards.{audience_awards, award_found, awards_data};
 ghost use Rattle.contest_view.specs.SeenLists.{Shows};
 
 use crate::Seen;
-use crate::cells::board_for;
+use crate::cells::{board_for, is_audience};
 use contest_objects::{Collection, Whole, award_value, get_whole, list_whole};
 use contest_score::{Award, Awards, Solve, awards, can_be_scored, contest_solves, shows_awards};
 use contest_types::{Audience, Refusal, Rows, Settings};
 use serde_json::Value;
 use std::alloc::{AllocError, Global};
 
-/// The awards that an audience is shown (Contest API 2023-06, awards): those of the jury's board, to the
-/// jury once results are final, to everybody else once it is thawed too, or if there is no freeze
-/// moment (own). Until then there are none.
+/// The awards that an audience is shown (Contest API 2023-06, awards): those of the jury's board,
+/// to the jury once results are final, to everybody else once it is thawed too, or if there is no
+/// freeze moment (own). Until then there are none.
 ///
 /// # Errors
 ///
 /// Want of memory alone.
-pub fn awards_for(alloc: Global, seen: &Seen<'_>) -> Result<Awards, AllocError>
+pub(crate) fn awards_for(alloc: Global, seen: &Seen<'_>) -> Result<Awards, AllocError>
     ensures { (x : ContestState) → Shows seen.entry.now x → IfOk result (λ w. w ≡ shown_awards seen.entry.now.audience seen.entry.now.now x) }
 {
     if shows_awards(seen.audience, seen.lists.fixed(), seen.now) {
         final_awards(alloc, seen)
     } else {
         Ok(Rows::new(alloc))
+    }
+}
+
+/// The awards that an audience is shown, if it is there: a team may not be.
+///
+/// # Errors
+///
+/// Want of memory alone.
+pub fn audience_awards(alloc: Global, seen: &Seen<'_>) -> Result<Option<Awards>, AllocError>
+    ensures { (x : ContestState) → Shows seen.entry.now x → IfOk result (λ o. o ≡ audience_awards seen.entry.now.audience seen.entry.now.now x) }
+{
+    if is_audience(&seen.lists.fixed().settings, seen.audience) {
+        let awards = awards_for(alloc, seen)?;
+        Ok(Some(awards))
+    } else {
+        Ok(None)
     }
 }
 
@@ -114,8 +130,8 @@ pub fn awards_value(alloc: Global, seen: &Seen<'_>) -> Result<Value, AllocError>
     Ok(value)
 }
 
-/// The award with an id, byte for byte, if the audience is shown it: one that isn't shown yet is as one
-/// that isn't there. An award's id may be longer than an id.
+/// The award with an id, byte for byte, if the audience is shown it: one that isn't shown yet is as
+/// one that isn't there. An award's id may be longer than an id.
 ///
 /// # Errors
 ///

@@ -24,7 +24,8 @@ pub fn cells_for<'a>(seen: &Seen<'a>) -> SeenCells<'a>
     }
 }
 
-/// The board that an audience sees: the whole one, or that of the group at a place in the settings, from 0.
+/// The board that an audience sees: the whole one, or that of the group at a place in the settings,
+/// from 0.
 ///
 /// # Errors
 ///
@@ -41,8 +42,8 @@ pub fn board_for(alloc: Global, seen: &Seen<'_>, group: Option<usize>) -> Result
     }
 }
 
-/// The board that an audience sees, the whole one or that of the group at a place, from 0, if it is there: a
-/// team may not be, nor the group.
+/// The board that an audience sees, the whole one or that of the group at a place, from 0, if it is
+/// there: a team may not be, nor the group.
 ///
 /// # Errors
 ///
@@ -63,7 +64,8 @@ pub fn board_found(
     }
 }
 
-fn is_audience(settings: &Settings, audience: Audience) -> bool
+/// Whether an audience is there: a team may not be.
+pub(crate) fn is_audience(settings: &Settings, audience: Audience) -> bool
     ensures { result ≡ is_audience settings.now audience }
 {
     match audience {

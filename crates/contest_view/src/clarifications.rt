@@ -74,8 +74,8 @@ pub fn clarifications_value(alloc: Global, seen: &Seen<'_>) -> Result<Value, All
     Ok(value)
 }
 
-/// The clarification with an id, if the audience hears it: one that it doesn't hear is as one that isn't
-/// there.
+/// The clarification with an id, if the audience hears it: one that it doesn't hear is as one that
+/// isn't there.
 ///
 /// # Errors
 ///

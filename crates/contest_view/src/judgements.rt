@@ -95,8 +95,8 @@ pub fn judgements_value(alloc: Global, seen: &Seen<'_>) -> Result<Value, AllocEr
     Ok(value)
 }
 
-/// The judgement with an id, if the audience sees one that has it: one that it doesn't see, or that isn't
-/// the last of its submission, is as one that isn't there. The id is compared as a text.
+/// The judgement with an id, if the audience sees one that has it: one that it doesn't see, or that
+/// isn't the last of its submission, is as one that isn't there. The id is compared as a text.
 ///
 /// # Errors
 ///

@@ -1,9 +1,16 @@
 //! Laws of what is shown: functions that do nothing, and whose contracts say what holds of every
 //! contest.
-ghost use Rattle.contest_view.specs.Laws.{AlikeReadTheSame, AlikeReadTheSameFiles, SeenIsFound, NothingElseIsFound, FilesAreForTheirTeams, PlacedFileIsFound, AlikeReadTheSameJudgements, AlikeReadTheSameProposals, AlikeReadTheSameClarifications, AlikeShowTheSameScoreboard, AlikeReadTheSameAwards, NoAwardIsReadBeforeTheThaw, ShownAwardIsFound, OnlyTheJuryReadsRejudgings};
+ghost use Rattle.contest_view.specs.Laws.{AlikeReadTheSame, AlikeReadTheSameFiles, SeenIsFound};
+ghost use Rattle.contest_view.specs.Laws.{NothingElseIsFound, FilesAreForTheirTeams};
+ghost use Rattle.contest_view.specs.Laws.{PlacedFileIsFound, AlikeReadTheSameJudgements};
+ghost use Rattle.contest_view.specs.Laws.{AlikeReadTheSameProposals};
+ghost use Rattle.contest_view.specs.Laws.{AlikeReadTheSameClarifications};
+ghost use Rattle.contest_view.specs.Laws.{AlikeShowTheSameScoreboard, AlikeReadTheSameAwards};
+ghost use Rattle.contest_view.specs.Laws.{NoAwardIsReadBeforeTheThaw, ShownAwardIsFound};
+ghost use Rattle.contest_view.specs.Laws.{OnlyTheJuryReadsRejudgings};
 
-/// Until the thaw, contests that are alike for an audience give it the same submissions to read, all
-/// of them and by any id.
+/// Until the thaw, contests that are alike for an audience give it the same submissions to read,
+/// all of them and by any id.
 pub fn submissions_alike()
     ensures { AlikeReadTheSame }
 {}
@@ -13,8 +20,8 @@ pub fn files_alike()
     ensures { AlikeReadTheSameFiles }
 {}
 
-/// In a valid contest a submission is found by its id where the audience sees it, and nothing is found
-/// where it doesn't.
+/// In a valid contest a submission is found by its id where the audience sees it, and nothing is
+/// found where it doesn't.
 pub fn seen_is_found()
     ensures { SeenIsFound }
 {}
@@ -35,8 +42,8 @@ pub fn placed_file_is_found()
     ensures { PlacedFileIsFound }
 {}
 
-/// Until the thaw, contests that are alike for an audience give it the same judgements to read, all of
-/// them and by any id.
+/// Until the thaw, contests that are alike for an audience give it the same judgements to read, all
+/// of them and by any id.
 pub fn judgements_alike()
     ensures { AlikeReadTheSameJudgements }
 {}
@@ -52,14 +59,14 @@ pub fn only_the_jury_reads_rejudgings()
     ensures { OnlyTheJuryReadsRejudgings }
 {}
 
-/// Contests that are alike for an audience give it the same clarifications to read, all of them and by
-/// any id: those between others change nothing.
+/// Contests that are alike for an audience give it the same clarifications to read, all of them and
+/// by any id: those between others change nothing.
 pub fn clarifications_alike()
     ensures { AlikeReadTheSameClarifications }
 {}
 
-/// Until the thaw, contests that are alike for an audience show it the same scoreboard, the whole one and
-/// each group's.
+/// Until the thaw, contests that are alike for an audience show it the same scoreboard, the whole
+/// one and each group's.
 pub fn scoreboard_alike()
     ensures { AlikeShowTheSameScoreboard }
 {}
@@ -70,7 +77,8 @@ pub fn awards_alike()
     ensures { AlikeReadTheSameAwards }
 {}
 
-/// Where there is a freeze moment, nobody but the jury reads an award before the thaw, nor by any id.
+/// Where there is a freeze moment, nobody but the jury reads an award before the thaw, nor by any
+/// id.
 pub fn no_award_is_read_before_the_thaw()
     ensures { NoAwardIsReadBeforeTheThaw }
 {}

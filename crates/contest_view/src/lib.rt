@@ -15,7 +15,7 @@ mod scoreboard;
 mod seen;
 mod submissions;
 
-pub use awards::{award_by_id, awards_for, awards_value};
+pub use awards::{audience_awards, award_by_id, awards_value};
 pub use cells::{board_for, board_found, cells_for};
 pub use clarifications::{clarification_by_id, clarifications_value};
 pub use judgements::{judgement_by_id, judgements_value};

@@ -11,7 +11,8 @@ use contest_lists::Lists;
 use contest_objects::{rejudging_number, submission_numbers};
 use contest_types::{Rejudging, Submission};
 
-/// The submission with an id, byte for byte, whoever sees it. It is as quick whatever was submitted.
+/// The submission with an id, byte for byte, whoever sees it. It is as quick whatever was
+/// submitted.
 pub fn named_submission<'a>(lists: &'a Lists, id: &[u8]) -> Option<&'a Submission>
     ensures { (x : ContestState) → is_valid x ≡ true → lists.now.submissions ≡ loaded_submissions x
         → named_submission id.now (loaded_submissions x) ≡ option_map (λ s. s.now) result }
@@ -42,8 +43,8 @@ pub struct NumberedRejudging<'a> {
     pub rejudging: &'a Rejudging,
 }
 
-/// The rejudging whose number an id is, in decimal digits without leading zeros. It is as quick whatever
-/// was opened.
+/// The rejudging whose number an id is, in decimal digits without leading zeros. It is as quick
+/// whatever was opened.
 pub fn named_rejudging<'a>(lists: &'a Lists, id: &[u8]) -> Option<NumberedRejudging<'a>>
     ensures { (x : ContestState) → is_valid x ≡ true → lists.now.rejudgings ≡ x.rejudgings
         → named_rejudging id.now x.rejudgings ≡ option_map (λ r. (r.number, r.rejudging.now)) result }

@@ -75,8 +75,8 @@ impl<'a> Ordered for Proposals<'a> {
     ghost total = { λ c. row_total c.lists.now.fixed.settings };
 }
 
-/// The array of the proposals that the jury has still to verify: the last one for each submission without
-/// a release, in the order of the submissions (own). Who isn't of the jury sees none.
+/// The array of the proposals that the jury has still to verify: the last one for each submission
+/// without a release, in the order of the submissions (own). Who isn't of the jury sees none.
 ///
 /// # Errors
 ///

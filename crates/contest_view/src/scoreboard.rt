@@ -8,7 +8,9 @@ ghost use Rattle.contest_types.specs.State.{ContestState};
 ghost use Rattle.contest_score.specs.declared.cell.Cell.{Cell as TheCell};
 ghost use Rattle.contest_view.specs.JsonTokens.{Wrote, data_tokens};
 ghost use Rattle.contest_view.specs.SeenLists.{Shows};
-ghost use Rattle.contest_view.specs.Scoreboards.{board_data, cell_data, cells_data, row_data, rows_data, score_data, group_scoreboard_found, scoreboard_data};
+ghost use Rattle.contest_view.specs.Scoreboards.{board_data, cell_data, cells_data, row_data};
+ghost use Rattle.contest_view.specs.Scoreboards.{rows_data, score_data, group_scoreboard_found};
+ghost use Rattle.contest_view.specs.Scoreboards.{scoreboard_data};
 
 use crate::Seen;
 use crate::cells::board_for;
@@ -23,9 +25,9 @@ use json::Writer;
 use serde_json::Value;
 use std::alloc::{AllocError, Global};
 
-/// The text of the scoreboard as an audience is served it at a moment (Contest API 2023-06, scoreboard):
-/// an object of `contest_time`, `rows`, `state` and `time`. It is the whole one, or that of the group at a
-/// place in the settings, from 0.
+/// The text of the scoreboard as an audience is served it at a moment (Contest API 2023-06,
+/// scoreboard): an object of `contest_time`, `rows`, `state` and `time`. It is the whole one, or
+/// that of the group at a place in the settings, from 0.
 ///
 /// # Errors
 ///

@@ -115,8 +115,9 @@ pub fn submission_by_id(
     Ok(found)
 }
 
-/// Whose file an audience reads by an id: by the place of the team, from 0, and the submission's number,
-/// from 1. None where it doesn't see the one with the id, or isn't shown its program. It takes no memory.
+/// Whose file an audience reads by an id: by the place of the team, from 0, and the submission's
+/// number, from 1. None where it doesn't see the one with the id, or isn't shown its program. It
+/// takes no memory.
 pub fn file_place(
     fixed: &Fixed,
     audience: Audience,
