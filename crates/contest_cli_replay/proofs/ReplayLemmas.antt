@@ -1,6 +1,7 @@
 -- What an input that is read to its end, or not, says of the text.
-use Rattle.std.proofs.Common.{◌≡◌, ◌≤◌, ◌<◌, ◌+◌, ◌⊎◌, inl, inr, refl, subst, ℕ, List, true, false, Option, Some, None, IfSome, Result, Ok, Err, length, arith, nat_lt, string_bytes}
-use Rattle.std.proofs.lemmas.Bool.Decides.{nat_tests}
+use Rattle.std.proofs.Common.{◌≡◌, ◌+◌, ◌⊎◌, inl, inr, refl, subst, ℕ, List, Option, Some, None, IfSome, Result, Ok, Err, length, arith, string_bytes}
+use Rattle.std.proofs.lemmas.Bool.{le-ltb, lt-ltb}
+use Rattle.std.proofs.KnownBytes.{Keeps-refl}
 use Rattle.clap.specs.Walk.{Text}
 use Rattle.contest_types.specs.declared.refusal.Refusal.{Refusal}
 use Rattle.contest_types.specs.declared.refusal.Refusal.TheVariants.{BodyTooLarge, Memory}
@@ -12,17 +13,11 @@ use Rattle.contest_cli_words.specs.CommandErrors.{stop_of, exit_status_of, line_
 use Rattle.contest_cli_words.specs.Endings.{Shows}
 use Rattle.contest_cli_words.specs.declared.command_error.CommandError.{CommandError}
 use Rattle.contest_cli_words.specs.declared.command_error.CommandError.TheVariants.{Usage, Refused, File, Clock, Net}
-use Rattle.contest_cli_words.proofs.StreamLemmas.{is_longer, keeps_same}
+use Rattle.contest_cli_words.proofs.StreamLemmas.{is_longer}
 use Rattle.contest_cli_replay.specs.Asked.{Asks}
 use Rattle.contest_cli_replay.specs.Replay.{replay_of, Gives, StopsBy, Replays}
 use Rattle.contest_cli_replay.specs.ReplayText.{board_of}
 use Rattle.contest_cli_replay.specs.declared.replay_words.ReplayWords.{ReplayWords}
-
-not_over : (m n : ℕ) → n ≤ m → nat_lt m n ≡ false
-not_over m n h = grind (arith, nat_tests)
-
-over : (m n : ℕ) → m < n → nat_lt m n ≡ true
-over m n h = grind (arith, nat_tests)
 
 -- the whole input is a file within the limit
 whole_file : (asked : ReplayWords) (a b : Option (List ℕ)) (bytes : List ℕ) (given : Result (List ℕ) Refusal)
@@ -31,7 +26,7 @@ whole_file : (asked : ReplayWords) (a b : Option (List ℕ)) (bytes : List ℕ) 
 whole_file asked None b bytes given r e = tt
 whole_file asked (Some left) b bytes given r e =
     let P : List ℕ → Type 0 = λ xs. replay_of asked xs ≡ given in
-    let here : P bytes = rw (not_over IMPORTED_FILE (length bytes) r.within) e in
+    let here : P bytes = rw (le-ltb IMPORTED_FILE (length bytes) r.within) e in
     subst P r.whole here
 
 -- what the whole input gives
@@ -56,7 +51,7 @@ large_file : (asked : ReplayWords) (a b : Option (List ℕ))
 large_file asked None b t = tt
 large_file asked (Some left) None t = absurd t.2
 large_file asked (Some left) (Some rest) t =
-    rw (over IMPORTED_FILE (length left) (is_longer left t.0 rest IMPORTED_FILE t.2 t.1)) refl
+    rw (lt-ltb IMPORTED_FILE (length left) (is_longer left t.0 rest IMPORTED_FILE t.2 t.1)) refl
 
 -- what a fault of the input stops by
 pub fault_stops : (words : List Text) (asked : ReplayWords) (old new : Stream) (f : InputFault)
@@ -75,18 +70,18 @@ stopped words in_old in_new out err_old err_new (Usage text) status stops is tol
   statuses = omega (arith, is);
   done = λ e. absurd (omega (arith, is, e));
   refused = λ e. absurd (omega (arith, is, e));
-  faulty = λ e. (stops, keeps_same out.bytes, string_bytes text, told);
+  faulty = λ e. (stops, Keeps-refl out.bytes, string_bytes text, told);
 }
 stopped words in_old in_new out err_old err_new (Refused r) status stops is told = record {
   statuses = omega (arith, is);
   done = λ e. absurd (omega (arith, is, e));
-  refused = λ e. (Refused r, refl, told, inl (stops, keeps_same out.bytes));
+  refused = λ e. (Refused r, refl, told, inl (stops, Keeps-refl out.bytes));
   faulty = λ e. absurd (omega (arith, is, e));
 }
 stopped words in_old in_new out err_old err_new File status stops is told = record {
   statuses = omega (arith, is);
   done = λ e. absurd (omega (arith, is, e));
-  refused = λ e. (File, refl, told, inl (stops, keeps_same out.bytes));
+  refused = λ e. (File, refl, told, inl (stops, Keeps-refl out.bytes));
   faulty = λ e. absurd (omega (arith, is, e));
 }
 stopped words in_old in_new out err_old err_new Clock status stops is told = absurd stops

@@ -1,4 +1,5 @@
-//! The command `replay`, over any reader and writers: its words, and the board of the contest that is read.
+//! The command `replay`, over any reader and writers: its words, and the board of the contest that
+//! is read.
 #![tactic(auto)]
 
 mod replay_command;

@@ -12,8 +12,8 @@ use std::alloc::Global;
 use std::io::{Read, Write};
 
 /// Runs `replay`: reads the words, of which the first is the command's own, then the contest, and
-/// writes its board on `out`. Answers the exit status: 0 for a board, 1 for a refusal or a stream that
-/// failed, 2 for words that have a fault. Where it isn't 0, `err` is told why.
+/// writes its board on `out`. Answers the exit status: 0 for a board, 1 for a refusal or a stream
+/// that failed, 2 for words that have a fault. Where it isn't 0, `err` is told why.
 pub fn replay<R: Read, O: Write, E: Write>(
     alloc: Global,
     words: &[&str],
@@ -32,8 +32,8 @@ pub fn replay<R: Read, O: Write, E: Write>(
     }
 }
 
-// The text of the board that the words ask for, or the first fault of the words, of the stream or of
-// what it holds.
+// The text of the board that the words ask for, or the first fault of the words, of the stream or
+// of what it holds.
 fn board_text<R: Read>(
     alloc: Global,
     words: &[&str],

@@ -1,7 +1,9 @@
 //! The text that `replay` gives of a file.
-ghost use Rattle.std.specs.Prelude.{◌≡◌, ◌⊎◌, ◌<◌, ◌^◌, Ok, Err, IfOk, IfErr, All, length, string_bytes};
+ghost use Rattle.std.specs.Prelude.{◌≡◌, ◌⊎◌, ◌<◌, ◌^◌, Ok, Err, IfOk, IfErr, All, length};
+ghost use Rattle.std.specs.Prelude.{string_bytes};
 ghost use Rattle.contest_score.specs.MaskedCells.{IsAdmitted};
-ghost use Rattle.contest_cli_replay.specs.ReplayText.{board_of, audience_for, moment_for, board_text_of};
+ghost use Rattle.contest_cli_replay.specs.ReplayText.{board_of, audience_for, moment_for};
+ghost use Rattle.contest_cli_replay.specs.ReplayText.{board_text_of};
 
 use crate::replay_words::ReplayWords;
 use contest_replay::read_replay_csv;
@@ -10,8 +12,8 @@ use contest_text::board_text;
 use contest_types::{Audience, Marks, Moment, Refusal, RelTime, Settings, TimeSpan};
 use std::alloc::Global;
 
-/// The text of the board that the words ask for, at a contest time or at the end, of the contest that
-/// the bytes spell. The error is the bytes' first fault, or want of memory.
+/// The text of the board that the words ask for, at a contest time or at the end, of the contest
+/// that the bytes spell. The error is the bytes' first fault, or want of memory.
 pub(crate) fn replay_text(
     alloc: Global,
     asked: &ReplayWords,

@@ -19,15 +19,13 @@ use Rattle.contest_score.specs.Ranking.{board_of, is_public}
 use Rattle.contest_score.specs.declared.submission.JudgedSubmission.{JudgedSubmission}
 use Rattle.contest_replay.specs.ReplayLists.{team_submissions}
 use Rattle.contest_replay.specs.ReplayContest.{Numbered, numbered_after, released, releases_of, replay_contest}
+use Rattle.contest_replay.proofs.ReplayStateLemmas.{apart}
 
 abbrev pub count : ℕ → List JudgedSubmission → ℕ
 count team us = length (team_submissions team us)
 
 below : (a b : ℕ) → b < a → nat_eq a b ≡ false
 below a b h = grind (arith, nat_tests)
-
-above : (a b : ℕ) → a < b → nat_eq a b ≡ false
-above a b h = grind (arith, nat_tests)
 
 -- a submission more
 count_more : (team : ℕ) (us : List JudgedSubmission) (u : JudgedSubmission) → count team (us ++ u ∷ []) ≡ count team us + count team (u ∷ [])
@@ -50,15 +48,12 @@ own_releases : (n : Numbered) (verdict : Option ℕ) → releases_on n.row.team 
 own_releases n None = refl
 own_releases n (Some v) = rw (eq-eqb n.row.team n.row.team refl, eq-eqb n.number n.number refl) refl
 
-same : (a b : ℕ) → nat_eq a b ≡ true → a ≡ b
-same a b h = eqb-true a b h
-
 -- a team's number is past those of its earlier submissions
 later : (earlier : List JudgedSubmission) (u : JudgedSubmission) (team number : ℕ) → number ≤ count team earlier
     → releases_on team number (released (record { number = count u.team earlier + 1; row = u }) u.verdict) ≡ []
 later earlier u team number h = elim (cases_Bool (nat_eq u.team team)) [
   | inl t ↦ other_number (record { number = count u.team earlier + 1; row = u }) u.verdict team number true t
-      (below (count u.team earlier + 1) number (omega (arith, h, ap (λ k. count k earlier) (same u.team team t))))
+      (below (count u.team earlier + 1) number (omega (arith, h, ap (λ k. count k earlier) (eqb-true u.team team t))))
   | inr f ↦ other_team (record { number = count u.team earlier + 1; row = u }) u.verdict team number f
 ]
 
@@ -90,7 +85,7 @@ is_before_more earlier vs u h team number l =
     let n : Numbered = record { number = count u.team earlier + 1; row = u } in
     let none : releases_on team number (released n u.verdict) ≡ [] = elim (cases_Bool (nat_eq u.team team)) [
       | inl t ↦ other_number n u.verdict team number true t
-          (above (count u.team earlier + 1) number (omega (arith, l, count_more team earlier u, count_own u, ap (λ k. count k earlier) (same u.team team t), ap (λ k. count k (u ∷ [])) (same u.team team t))))
+          (apart (count u.team earlier + 1) number (omega (arith, l, count_more team earlier u, count_own u, ap (λ k. count k earlier) (eqb-true u.team team t), ap (λ k. count k (u ∷ [])) (eqb-true u.team team t))))
       | inr f ↦ other_team n u.verdict team number f
     ] in
     filter-append _ vs (released n u.verdict) ∙ rw (none, h team number (omega (arith, l, count_more team earlier u))) refl

@@ -2,7 +2,7 @@
 use Rattle.std.proofs.Common.{ℕ, ◌≡◌, ◌≢◌, ◌+◌, ◌<◌, ◌≤◌, ◌⊎◌, inl, inr, Bool, true, false, cond, List, [], ◌∷◌, ◌++◌, length, map, get_or, Option, Some, None, refl, sym, ap, subst, ◌∙◌, arith, All, append-nil, add-zero}
 use Rattle.std.specs.Prelude.{◌==◌, nat_eq, nat_le, filter, fold, max, IfSome, slice_set, sum_by}
 use Rattle.std.specs.List.{list_all}
-use Rattle.std.proofs.lemmas.Bool.{cases_Bool, false≢true, eqb-true, eq-eqb, le-leb}
+use Rattle.std.proofs.lemmas.Bool.{cases_Bool, false≢true, eqb-true, eq-eqb, le-leb, ne_eqb}
 use Rattle.std.proofs.lemmas.Bool.Decides.{nat_tests}
 use Rattle.std.proofs.Math.Seq.{get_or-append_seam}
 use Rattle.std.proofs.lemmas.List.{length-append, map-append, get_or_append_left, get_or-set_same, get_or-set_other, length-set}
@@ -29,14 +29,8 @@ any_name = refl
 kept : (team : ℕ) (u : JudgedSubmission) (us : List JudgedSubmission) (b : Bool) → nat_eq u.team team ≡ b → team_submissions team (us ++ u ∷ []) ≡ team_submissions team us ++ cond b (u ∷ []) []
 kept team u us b h = filter-append (λ v. v.team == team) us (u ∷ []) ∙ (rw h refl)
 
-same_team : (a b : ℕ) → nat_eq a b ≡ true → a ≡ b
-same_team a b h = eqb-true a b h
-
-apart : (a b : ℕ) → a < b → nat_eq a b ≡ false
+pub apart : (a b : ℕ) → a < b → nat_eq a b ≡ false
 apart a b h = grind (arith, nat_tests)
-
-differ : (a b : ℕ) → a ≢ b → nat_eq a b ≡ false
-differ a b h = elim (cases_Bool (nat_eq a b)) [ inl t ↦ absurd (h (eqb-true a b t)) | inr f ↦ f ]
 
 -- a team that isn't there has no submission
 none_of : (team : ℕ) (us : List JudgedSubmission) → All (λ u. u.team < team) us → team_submissions team us ≡ []
@@ -145,7 +139,7 @@ rising_more : (us : List JudgedSubmission) (u : JudgedSubmission) → last_time 
 rising_more us u late team h =
     let time : JudgedSubmission → ℕ = λ v. v.time in
     let own : nat_eq u.team team ≡ true → never_fall (times_of team (us ++ u ∷ [])) ≡ true = λ t.
-    (let e : last_time team us ≤ u.time = subst (λ k. last_time k us ≤ u.time) (same_team u.team team t) late in
+    (let e : last_time team us ≤ u.time = subst (λ k. last_time k us ≤ u.time) (eqb-true u.team team t) late in
     let grown : times_of team (us ++ u ∷ []) ≡ times_of team us ++ u.time ∷ [] = ap (map time) (kept team u us true t) ∙ map-append time (team_submissions team us) (u ∷ []) in
     rw grown (never_fall_push (times_of team us) u.time h (none_past 0 (times_of team us) u.time e))) in
     elim (cases_Bool (nat_eq u.team team)) [
@@ -170,21 +164,21 @@ IsReplayed-submission s us teams p old time r there at room short =
       last = sym (more.0 ∙ (rw (← old_told.last) (latest old.last time)));
       count = sym (more.1 ∙ ap (λ n. n + 1) (sym old_told.count));
     } in
-    let other_told = λ (i : ℕ) (t : TeamProgress) (e : i ≢ p.team) (o : TellsProgress us i t). (let same = pushed_other i u us (differ p.team i (λ f. e (sym f))) in let r : TellsProgress (us ++ u ∷ []) i t = record { last = o.last ∙ sym (ap (λ vs. fold max 0 (map (λ (v : JudgedSubmission). v.time) vs)) same); count = o.count ∙ sym (ap length same) } in r) in
+    let other_told = λ (i : ℕ) (t : TeamProgress) (e : i ≢ p.team) (o : TellsProgress us i t). (let same = pushed_other i u us (ne_eqb p.team i (λ f. e (sym f))) in let r : TellsProgress (us ++ u ∷ []) i t = record { last = o.last ∙ sym (ap (λ vs. fold max 0 (map (λ (v : JudgedSubmission). v.time) vs)) same); count = o.count ∙ sym (ap length same) } in r) in
     let long = length-set teams p.team new in
     let swapped : sum_by count_in (slice_set teams p.team new) + old.count ≡ sum_by count_in teams + (old.count + 1) = rw (← at) at (sum_by-set count_in teams p.team new old low) in
     record {
       all = long ∙ all;
       told = λ i d l. elim (cases_Bool (nat_eq i p.team)) [
-        | inl t ↦ rw (same_team i p.team t, get_or-set_same teams p.team new d low) new_told
+        | inl t ↦ rw (eqb-true i p.team t, get_or-set_same teams p.team new d low) new_told
         | inr f ↦ (let e : i ≢ p.team = λ h. false≢true (sym f ∙ eq-eqb i p.team h) in rw (get_or-set_other teams p.team i new d e) (other_told i _ e (r.told i d (omega arith))))
       ];
       early = λ i d l. elim (cases_Bool (nat_eq i p.team)) [
-        | inl t ↦ rw (same_team i p.team t, get_or-set_same teams p.team new d low) (omega arith)
+        | inl t ↦ rw (eqb-true i p.team t, get_or-set_same teams p.team new d low) (omega arith)
         | inr f ↦ (let e : i ≢ p.team = λ h. false≢true (sym f ∙ eq-eqb i p.team h) in rw (get_or-set_other teams p.team i new d e) (r.early i d (omega arith)))
       ];
       few = λ i d l. elim (cases_Bool (nat_eq i p.team)) [
-        | inl t ↦ rw (same_team i p.team t, get_or-set_same teams p.team new d low) (omega arith)
+        | inl t ↦ rw (eqb-true i p.team t, get_or-set_same teams p.team new d low) (omega arith)
         | inr f ↦ (let e : i ≢ p.team = λ h. false≢true (sym f ∙ eq-eqb i p.team h) in rw (get_or-set_other teams p.team i new d e) (r.few i d (omega arith)))
       ];
       total = omega (arith, length-append us (u ∷ []), r.total, swapped);

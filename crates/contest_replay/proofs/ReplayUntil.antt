@@ -17,6 +17,7 @@ use Rattle.contest_replay.specs.ReplayContest.{replay_contest, marks_for, up_to}
 use Rattle.contest_replay.specs.ReplayState.{reading_marks, IsReplay, IsReplayed, ReadsValid}
 use Rattle.contest_replay.proofs.ReplayStateLemmas.{no_submissions, fewer}
 use Rattle.contest_replay.proofs.ReplayValid.{contest_store_valid}
+use Rattle.contest_types.proofs.Filters.{filters_swap}
 
 -- what the state keeps says that its submissions are those of a valid contest
 pub reads_valid : (s : Setup) (us : List JudgedSubmission) (teams : List TeamProgress) → IsReplayed s us teams → ReadsValid s us
@@ -27,16 +28,6 @@ reads_valid s us teams r =
     let most = r.few team no_submissions low in
     omega (arith, told.count, most)) in
     record { spoken = r.spoken; admitted = r.admitted; within = r.within; few = few; rising = r.rising }
-
--- two tests keep the same in either order
-swapped : {X : Type 0} (p q : X → Bool) (xs : List X) → filter p (filter q xs) ≡ filter q (filter p xs)
-swapped p q [] = refl
-swapped p q (x ∷ xs) =
-    let rest = swapped p q xs in
-    elim (cases_Bool (p x)) [
-      | inl a ↦ elim (cases_Bool (q x)) [ inl b ↦ rw (a, b, a) (ap (λ r. x ∷ r) rest) | inr b ↦ rw (a, b) rest ]
-      | inr a ↦ elim (cases_Bool (q x)) [ inl b ↦ rw (b, a) rest | inr b ↦ rw (a, b) rest ]
-    ]
 
 all_kept : {X : Type 0} (f : X → ℕ) (q : ℕ → Bool) (p : X → Bool) (xs : List X) → list_all q (map f xs) ≡ true → list_all q (map f (filter p xs)) ≡ true
 all_kept f q p [] h = refl
@@ -61,7 +52,7 @@ rising_kept f p (x ∷ xs) h =
 -- what is left of the submissions makes a valid contest too
 pub reads_valid_kept : (s : Setup) (p : JudgedSubmission → Bool) (us : List JudgedSubmission) → ReadsValid s us → ReadsValid s (filter p us)
 reads_valid_kept s p us r =
-    let same = λ (team : ℕ). swapped (λ (u : JudgedSubmission). u.team == team) p us in
+    let same = λ (team : ℕ). filters_swap (λ (u : JudgedSubmission). u.team == team) p us in
     record {
       spoken = r.spoken;
       admitted = All-filter p (IsAdmitted s reading_marks) us r.admitted;

@@ -1,9 +1,9 @@
 -- A replayed contest is valid: it is valid with no submission, and each one may follow those before it.
 use Rattle.std.proofs.Common.{ℕ, ◌≡◌, ◌+◌, ◌<◌, inl, inr, Bool, true, false, List, [], ◌∷◌, ◌++◌, length, map, get_or, Option, Some, None, refl, sym, ap, subst, ◌∙◌, arith, append-nil, append_assoc}
-use Rattle.std.specs.Prelude.{◌==◌, ◌&&◌, ◌||◌, not, nat_eq, nat_le, nat_lt, IfSome}
+use Rattle.std.specs.Prelude.{◌==◌, ◌&&◌, not, nat_eq, nat_le, nat_lt, IfSome}
 use Rattle.std.specs.List.{list_all, list_any}
 use Rattle.std.proofs.Math.Seq.{get_or-append_seam}
-use Rattle.std.proofs.lemmas.Bool.{cases_Bool, eq-eqb, le-leb, lt-ltb}
+use Rattle.std.proofs.lemmas.Bool.{cases_Bool, eq-eqb, lt-ltb, or_right}
 use Rattle.std.proofs.lemmas.Bool.Decides.{nat_tests}
 use Rattle.std.proofs.lemmas.Grind.{flat_map-append}
 use Rattle.std.proofs.lemmas.List.{length-append, length-map, map-append}
@@ -14,7 +14,6 @@ use Rattle.contest_types.specs.MomentText.{latest}
 use Rattle.contest_types.specs.Series.{never_fall}
 use Rattle.contest_types.specs.State.{add, releases_on, submissions_of as rows_of}
 use Rattle.contest_types.specs.declared.entry.Entry.TheVariants.{NewSubmission}
-use Rattle.contest_types.specs.ValidFixed.{has_valid_settings}
 use Rattle.contest_types.specs.ValidSubmissions.{is_valid_submission, has_submission}
 use Rattle.contest_types.specs.Valid.{is_valid}
 use Rattle.contest_types.specs.Addable.{is_addable, is_next_submission}
@@ -23,7 +22,8 @@ use Rattle.contest_types.specs.declared.limits.TheConstants.{TEAM_SUBMISSIONS, L
 use Rattle.contest_types.specs.declared.submission.Submission.{Submission}
 use Rattle.contest_types.specs.declared.submission.Release.{Release}
 use Rattle.contest_types.proofs.PlaceLemmas.{and_left, and_right, both_true}
-use Rattle.contest_types.proofs.ValidParts.{Parts, whole, all_four}
+use Rattle.contest_types.proofs.SettingsTest.{has_settings}
+use Rattle.contest_types.proofs.ValidParts.{Parts, whole, all_four, all_six}
 use Rattle.contest_types.proofs.AddLemmas.{adding_submission, adding_release}
 use Rattle.contest_score.specs.MaskedCells.{IsAdmitted}
 use Rattle.contest_score.specs.declared.submission.JudgedSubmission.{JudgedSubmission}
@@ -35,13 +35,6 @@ use Rattle.contest_replay.proofs.ReplayContestLemmas.{count, IsBefore, is_before
 -- what is before the end isn't at it
 not_yet : (duration time : ℕ) → time < duration → not (nat_le (0 + duration) time) ≡ true
 not_yet duration time h = let f : nat_le (0 + duration) time ≡ false = grind (arith, nat_tests) in rw f refl
-
-all_six : (a b c d e f : Bool) → a ≡ true → b ≡ true → c ≡ true → d ≡ true → e ≡ true → f ≡ true → (a && b && c && d && e && f) ≡ true
-all_six a b c d e f ta tb tc td te tf = rw (ta, tb, tc, td, te, tf) refl
-
-all_thirteen : (a b c d e f g h i j k l m : Bool) → (a ≡ true) × (b ≡ true) × (c ≡ true) × (d ≡ true) × (e ≡ true) × (f ≡ true) × (g ≡ true) × (h ≡ true) × (i ≡ true) × (j ≡ true) × (k ≡ true) × (l ≡ true) × (m ≡ true)
-    → (a && b && c && d && e && f && g && h && i && j && k && l && m) ≡ true
-all_thirteen a b c d e f g h i j k l m (ta, tb, tc, td, te, tf, tg, th, ti, tj, tk, tl, tm) = rw (ta, tb, tc, td, te, tf, tg, th, ti, tj, tk, tl, tm) refl
 
 -- the submission may follow these
 record Follows (s : Setup) (us : List JudgedSubmission) (u : JudgedSubmission) : Type 0 where
@@ -100,10 +93,6 @@ times_told team earlier (u ∷ us) =
       | inr f ↦ rw f rest
     ]
 
-or_right : (a b : Bool) → b ≡ true → (a || b) ≡ true
-or_right true b h = refl
-or_right false b h = h
-
 last_among : {X : Type 0} (p : X → Bool) (xs : List X) (x : X) → p x ≡ true → list_any p (xs ++ x ∷ []) ≡ true
 last_among p [] x h = rw h refl
 last_among p (y ∷ xs) x h = or_right (p y) _ (last_among p xs x h)
@@ -161,10 +150,6 @@ all_more s thaw earlier (u ∷ us) r h =
     let regrouped : (earlier ++ u ∷ []) ++ us ≡ earlier ++ u ∷ us = append_assoc earlier (u ∷ []) us in
     subst (Stands s thaw) regrouped (all_more s thaw (earlier ++ u ∷ []) us (subst (ReadsValid s) (sym regrouped) r) (one_more s thaw earlier u (follows s earlier us u r) h))
 
--- settings in the order of the contest's tests
-settings_valid : (s : Setup) (thaw : Option ℕ) → IsValid s → has_valid_settings (replay_contest s (replay_marks thaw) []) ≡ true
-settings_valid s thaw v = all_thirteen _ _ _ _ _ _ _ _ _ _ _ _ _ (v.head, v.types, le-leb _ _ v.few_types, v.languages, le-leb _ _ v.few_languages, v.problems, v.labels, le-leb _ _ v.few_problems, v.groups, le-leb _ _ v.few_groups, v.teams, le-leb _ _ v.few_teams, v.references)
-
 -- no contest is longer than what fits before the last moment
 not_long : (h : ContestHead) → is_valid_head h ≡ true → nat_le h.duration LONGEST_CONTEST ≡ true
 not_long h v =
@@ -179,7 +164,7 @@ empty_stands : (s : Setup) (thaw : Option ℕ) → IsValid s → Stands s thaw [
 empty_stands s thaw v =
     let x = replay_contest s (replay_marks thaw) [] in
     let result : Parts x = record {
-      settings = settings_valid s thaw v;
+      settings = has_settings x v;
       clock = both_true _ _ (ends s.head.duration (not_long s.head v.head)) refl;
       accounts = refl;
       submissions = refl;

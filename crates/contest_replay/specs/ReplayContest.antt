@@ -2,6 +2,7 @@
 -- accounts and no keys; each verdict is released at its submission's time, with no proposal kept.
 use Rattle.std.specs.Prelude.{ℕ, ◌+◌, Bool, List, [], ◌∷◌, ◌++◌, filter, length, map, Option, Some, None, if◌then◌else◌, nat_le}
 use Rattle.std.specs.List.{flat_map}
+use Rattle.contest_types.specs.PlainRows.{plain_submission}
 use Rattle.contest_types.specs.Setup.{Setup}
 use Rattle.contest_types.specs.State.{ContestState}
 use Rattle.contest_types.specs.declared.marks.Marks.{Marks}
@@ -21,7 +22,7 @@ numbered_after earlier [] = []
 numbered_after earlier (u ∷ us) = record { number = length (team_submissions u.team earlier) + 1; row = u } ∷ numbered_after (earlier ++ u ∷ []) us
 
 abbrev pub submission_of : Numbered → Submission
-submission_of n = record { team = n.row.team; number = n.number; time = n.row.time; problem = n.row.problem; language = 0; entry_point = None; file = []; key = None }
+submission_of n = plain_submission n.row.team n.number n.row.time n.row.problem 0
 
 abbrev pub released : Numbered → Option ℕ → List Release
 released n None = []

@@ -3,6 +3,7 @@
 use Rattle.std.specs.Prelude.{ℕ, ℤ, pos, negsuc, ◌&&◌, ◌||◌, ◌==◌, Bool, false, List, [], ◌∷◌, ◌++◌, Option, Some, None, Result, Ok, Err, if◌then◌else◌, codes, map, filter, fold, max, length, nat_lt, nat_le}
 use Rattle.std.specs.Option.{option_and_then, option_map}
 use Rattle.std.specs.Str.{bytes_eq}
+use Rattle.contest_types.specs.PlainRows.{plain_language}
 use Rattle.contest_types.specs.IdText.{is_id}
 use Rattle.contest_types.specs.Places.{place_of}
 use Rattle.contest_types.specs.RelTimeRead.{reltime_of}
@@ -29,7 +30,7 @@ pub record ReplayLists : Type 0 where
 
 -- the one language of a replay
 abbrev pub any_language : Language
-any_language = record { id = codes "any"; name = codes "any"; entry_point_required = false }
+any_language = plain_language (codes "any") (codes "any")
 
 abbrev pub Judged : Type 0
 Judged = Result ReplayLists Cause

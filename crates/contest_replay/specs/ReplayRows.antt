@@ -1,6 +1,7 @@
 -- What the records of a replay say: a contest, its judgement types, problems and teams.
 use Rattle.std.specs.Prelude.{false, [], Option, Some, None, if◌then◌else◌}
 use Rattle.std.specs.Option.{option_and_then, option_map}
+use Rattle.contest_types.specs.PlainRows.{plain_problem, plain_team, plain_type}
 use Rattle.contest_types.specs.IdText.{id_of}
 use Rattle.contest_types.specs.NameText.{name_from}
 use Rattle.contest_types.specs.declared.contest.ContestHead.{ContestHead}
@@ -26,19 +27,19 @@ head_row f =
 abbrev pub type_row : FiveFields → Option JudgementType
 type_row f =
     option_and_then (λ id. option_and_then (λ name. option_and_then (λ solved. option_map
-    (λ penalty. record { id = id; name = name; solved = solved; penalty = penalty })
+    (λ penalty. plain_type id name solved penalty)
     (flag_of f.f3)) (flag_of f.f2)) (name_from f.f1)) (id_of f.id)
 
 -- `problem`: id, label, name and ordinal
 abbrev pub problem_row : FiveFields → Option Problem
 problem_row f =
     option_and_then (λ id. option_and_then (λ label. option_and_then (λ name. option_map
-    (λ ordinal. record { id = id; label = label; name = name; ordinal = ordinal })
+    (λ ordinal. plain_problem id label name ordinal)
     (ordinal_of f.f3)) (name_from f.f2)) (name_from f.f1)) (id_of f.id)
 
 -- `team`: id, name, whether it is hidden, and nothing
 abbrev pub team_row : FiveFields → Option Team
 team_row f =
     option_and_then (λ id. option_and_then (λ name. option_and_then
-    (λ hidden. if is_empty f.f3 then Some (record { id = id; name = name; groups = []; hidden = hidden }) else None)
+    (λ hidden. if is_empty f.f3 then Some (record (plain_team id name) { hidden = hidden }) else None)
     (flag_or_empty f.f2)) (name_from f.f1)) (id_of f.id)

@@ -1,5 +1,5 @@
 -- The standings of the shown teams follow the order of the board.
-use Rattle.std.proofs.Common.{◌≡◌, ℕ, zero, suc, ◌+◌, ◌<◌, ◌≤◌, Bool, true, false, cond, List, [], ◌∷◌, length, get_or, refl, sym, ap, ◌∙◌, arith, Ordering, map, All, Bor}
+use Rattle.std.proofs.Common.{◌≡◌, ℕ, suc, ◌+◌, ◌<◌, ◌≤◌, Bool, false, cond, List, [], ◌∷◌, length, get_or, refl, sym, ap, ◌∙◌, arith, Ordering, map, All, Bor, inl, inr}
 use Rattle.std.specs.List.{count_by, range_with_len, Contains}
 use Rattle.std.specs.List.Sorted.{IsPermutation, IsSorted, IsSortedByClosure}
 use Rattle.std.specs.Fn.{Called}
@@ -10,14 +10,14 @@ use Rattle.std.specs.Ordering.{nat_cmp, is_lt, ordering_reverse, ordering_then}
 use Rattle.std.specs.Cmp.Lexicographic.{slice_cmp}
 use Rattle.std.specs.declared.cmp.Ordering.TheVariants.{Less, Equal, Greater}
 use Rattle.std.proofs.lemmas.List.{length-map}
-use Rattle.std.proofs.lemmas.List.Sums.{sum_by-cons, sum_by-le-sum_by, length-filter, count_by-le-length}
+use Rattle.std.proofs.lemmas.List.Sums.{sum_by-cons, length-filter, count_by-le-length}
 use Rattle.std.proofs.lemmas.List.FromFn.{length-range_with_len}
-use Rattle.contest_types.proofs.InOrder.{place_moved}
+use Rattle.contest_types.proofs.InOrder.{in_tail, place_moved}
 use Rattle.std.proofs.lemmas.List.Sorted.{All-permutation, length_permutation, ranks_by}
 use Rattle.std.proofs.lemmas.List.Elements.{Contains-get_or}
 use Rattle.std.proofs.lemmas.List.Kept.{IsStrictlyIncreasing-filter}
 use Rattle.std.proofs.lemmas.Cmp.{nat_cmp_total, nat_list_cmp_total, then_total, on_total, tied_itself}
-use Rattle.std.proofs.lemmas.Map.Lookups.{exact_bytes}
+use Rattle.std.proofs.lemmas.Map.Lookups.{exact_bytes, exact_unsigned}
 use Rattle.std.proofs.lemmas.Bool.{false≢true}
 use Rattle.std.proofs.lemmas.Bool.Decides.{nat_tests}
 use Rattle.contest_score.specs.declared.cell.Cell.{Cell}
@@ -28,9 +28,12 @@ use Rattle.contest_types.specs.Setup.{Setup, IsValid}
 use Rattle.contest_score.specs.Keys.{TellsTeam, by_score, standing_cmp, rank_in, row_in, ranked}
 use Rattle.contest_score.specs.Ranking.{in_order, place_in, row_cmp, row_of, rank_of, score_of_team, beats, shown_teams, name_at, team_id_at, board_rows}
 use Rattle.contest_types.proofs.KeyOrder.{Follows, sorted_keys, range_rises}
-use Rattle.contest_score.proofs.Ranks.{by_score_total, place_tied, count_agree, ranked_rows}
+use Rattle.contest_score.proofs.Ranks.{by_score_total, count_agree, ranked_rows}
 use Rattle.contest_types.proofs.ProblemOrder.{then_equal}
 use Rattle.contest_types.proofs.Different.{one_place}
+use Rattle.contest_types.proofs.InOrderLemmas.{place_less}
+use Rattle.contest_types.specs.Order.{Has}
+use Rattle.contest_types.proofs.Rising.{place_tied}
 
 standing_cmp_total : IsTotalOrder standing_cmp
 standing_cmp_total = then_total by_score_total (then_total (on_total (λ (k : Standing). k.name.now) nat_list_cmp_total) (on_total (λ (k : Standing). k.id.now) nat_list_cmp_total))
@@ -53,34 +56,10 @@ rank_told s shown cells keys places told k t =
     ap (count_by better) (sym places) ∙ (count_by_map better (λ (y : Standing). y.place) keys ∙ count_agree (λ y. better y.place) (λ y. is_lt (by_score y k)) keys (λ i d l. beats_told s cells (get_or keys i d) k (told i d l) t)) in
     ap (λ n. 1 + n) count
 
--- one that passes only the second test makes its count greater
-one_le : (b c : Bool) → (b ≡ true → c ≡ true) → cond b 1 0 ≤ cond c 1 0
-one_le true c h = rw (h refl) (omega arith)
-one_le false c h = omega arith
-
-count_le : {X : Type 0} (p q : X → Bool) (xs : List X) → ((x : X) → p x ≡ true → q x ≡ true) → count_by p xs ≤ count_by q xs
-count_le p q xs weaker = sum_by-le-sum_by (λ x. cond (p x) 1 0) (λ x. cond (q x) 1 0) xs (λ x. one_le (p x) (q x) (weaker x))
-
-count_less : {X : Type 0} (p q : X → Bool) (xs : List X) (b : X) → ((x : X) → p x ≡ true → q x ≡ true) → Contains xs b → p b ≡ false → q b ≡ true → count_by p xs < count_by q xs
-count_less p q [] b weaker (k, l, e) f t = absurd (omega (arith, l))
-count_less p q (x ∷ xs) b weaker (zero, l, e) f t =
-    let here_p : p x ≡ false = ap p e ∙ f in
-    let here_q : q x ≡ true = ap q e ∙ t in
-    let rest : count_by p xs ≤ count_by q xs = count_le p q xs weaker in
-    rw (sum_by-cons (λ y. cond (p y) 1 0) x xs, sum_by-cons (λ y. cond (q y) 1 0) x xs, here_p, here_q) (omega (arith, rest))
-count_less p q (x ∷ xs) b weaker (suc k, l, e) f t =
-    let rest : count_by p xs < count_by q xs = count_less p q xs b weaker (k, omega (arith, l), e) f t in
-    let head : cond (p x) 1 0 ≤ cond (q x) 1 0 = one_le (p x) (q x) (weaker x) in
-    rw (sum_by-cons (λ y. cond (p y) 1 0) x xs, sum_by-cons (λ y. cond (q y) 1 0) x xs) (omega (arith, rest, head))
-
-is_less : (o : Ordering) → is_lt o ≡ true → o ≡ Less
-is_less Less h = refl
-is_less Equal h = absurd (false≢true h)
-is_less Greater h = absurd (false≢true h)
-
-place_less : {X : Type 0} {R : X → X → Ordering} (o : IsTotalOrder R) (ys : List X) (a b : X) → Contains ys b → R b a ≡ Less → place_in R ys b < place_in R ys a
-place_less {X} {R} o ys a b there e =
-    count_less (λ y. is_lt (R y b)) (λ y. is_lt (R y a)) ys b (λ x h. ap is_lt (o.trans x b a (is_less _ h) e)) there (rw (tied_itself o b) refl) (rw e refl)
+-- what the list contains stands in it
+contained : {X : Type 0} (xs : List X) (x : X) → Contains xs x → Has xs x
+contained [] x (k, l, e) = absurd (omega (arith, l))
+contained (y ∷ xs) x c = elim (in_tail y xs x c) [ inl e ↦ inl (sym e) | inr t ↦ inr (contained xs x t) ]
 
 -- a standing of the list, which tells its team
 pub record Stands (s : Setup) (cells : ℕ → ℕ → Cell) (keys : List Standing) (k : Standing) : Type 0 where
@@ -89,9 +68,6 @@ pub record Stands (s : Setup) (cells : ℕ → ℕ → Cell) (keys : List Standi
 
 less_nat : (m n : ℕ) → nat_cmp m n ≡ Less → m < n
 less_nat m n h = grind (arith, nat_tests)
-
-same_nat : (m n : ℕ) → nat_cmp m n ≡ Equal → m ≡ n
-same_nat m n h = grind (arith, nat_tests)
 
 one_team : (s : Setup) → IsValid s → (u w : ℕ) → u < length s.teams → w < length s.teams → team_id_at s u ≡ team_id_at s w → u ≡ w
 one_team s v u w l m e = one_place (λ (t : Team). t.id) s.teams v.teams u w l m e
@@ -103,7 +79,7 @@ tied_rank s shown cells keys places told a b ta tb e =
 
 less_rank : (s : Setup) (shown : ℕ → Bool) (cells : ℕ → ℕ → Cell) (keys : List Standing) → map (λ (k : Standing). k.place) keys ≡ shown_teams s shown → All (TellsTeam s cells) keys → (a b : Standing) → TellsTeam s cells a → Stands s cells keys b → by_score b a ≡ Less → rank_of s shown cells b.place < rank_of s shown cells a.place
 less_rank s shown cells keys places told a b ta tb e =
-    let fewer : place_in by_score keys b < place_in by_score keys a = place_less by_score_total keys a b tb.listed e in
+    let fewer : place_in by_score keys b < place_in by_score keys a = place_less by_score_total keys b a (contained keys b tb.listed) e in
     rw (rank_told s shown cells keys places told a ta, rank_told s shown cells keys places told b tb.told) (omega (arith, fewer))
 
 equal_nat : (m n : ℕ) → m ≡ n → nat_cmp m n ≡ Equal
@@ -111,7 +87,7 @@ equal_nat m n h = rw (h, tied_itself nat_cmp_total n) refl
 
 less_both : (m n : ℕ) (z o : Ordering) → nat_cmp m n ≡ o → n < m → ordering_then (nat_cmp m n) z ≡ Less → ⊥
 less_both m n z Less e l h = omega (arith, less_nat m n e)
-less_both m n z Equal e l h = omega (arith, same_nat m n e)
+less_both m n z Equal e l h = omega (arith, exact_unsigned m n e)
 less_both m n z Greater e l h = absurd (false≢true (ap is_lt (rw e at h)))
 
 not_less : (m n : ℕ) (z : Ordering) → n < m → ordering_then (nat_cmp m n) z ≡ Less → ⊥

@@ -17,16 +17,16 @@ use Rattle.contest_types.specs.declared.objects.Team.{Team}
 use Rattle.contest_types.specs.declared.objects.Problem.{Problem}
 use Rattle.contest_types.proofs.Different.{one_place}
 use Rattle.contest_types.proofs.InOrderLemmas.{nothing_added, nothing_lost, map_has, has_filter, filter_has, place_less, is_less}
-use Rattle.contest_types.proofs.Rising.{rising}
-use Rattle.contest_types.proofs.SeenWhole.{has_team}
+use Rattle.contest_types.proofs.Rising.{rising, place_tied}
+use Rattle.contest_types.proofs.SeenWhole.{has_team, has_below}
 use Rattle.contest_score.specs.declared.cell.Cell.{Cell}
 use Rattle.contest_score.specs.declared.row.Row.{Row}
 use Rattle.contest_score.specs.Ranking.{board_rows, shown_teams, row_cmp, row_of, rank_of, score_of_team, problem_cmp, problem_order, score_cmp, beats}
 use Rattle.contest_score.specs.BoardLaws.{teams_of, stands_above}
 use Rattle.contest_types.proofs.ProblemOrder.{problem_cmp_total, then_equal}
 use Rattle.contest_score.proofs.BoardOrder.{row_cmp_total, count_by_map}
-use Rattle.contest_score.proofs.Ranks.{place_tied, score_cmp_total}
-use Rattle.contest_score.proofs.SameElements.{other, weaker_order, mapped_order, same_count, same_length, place_within, places_apart, all_apart, differ, has_place}
+use Rattle.contest_score.proofs.Ranks.{score_cmp_total}
+use Rattle.contest_score.proofs.SameElements.{other, weaker_order, mapped_order, same_count, same_length, place_within, places_apart, all_apart, differ}
 
 -- the teams of the rows, in the order of the board
 abbrev pub ranked_teams : Setup → (ℕ → Bool) → (ℕ → ℕ → Cell) → List ℕ
@@ -92,7 +92,7 @@ problem_there s p h = place_within (length s.problems) p (nothing_added (problem
 
 pub problem_stands : (s : Setup) → IsValid s → (p : ℕ) → p < length s.problems → Has (problem_order s) p
 problem_stands s v p l =
-    nothing_lost (problem_cmp_total s.problems) (range_with_len 0 (length s.problems)) p (has_place (length s.problems) p l)
+    nothing_lost (problem_cmp_total s.problems) (range_with_len 0 (length s.problems)) p (has_below (length s.problems) p l)
     (λ q h e. one_place (λ (t : Problem). t.id) s.problems v.problems q p (place_within (length s.problems) q h) l (exact_bytes _ _ (then_equal _ _ e)))
 
 pub problems_stand_once : (s : Setup) → IsValid s → ((problem : ℕ) → Has (problem_order s) problem ↔ (problem < length s.problems)) × IsInOrder (λ p q. is_lt (problem_cmp s.problems p q)) (problem_order s)
@@ -102,7 +102,7 @@ many_problems : (s : Setup) → IsValid s → length (problem_order s) ≡ lengt
 many_problems s v =
     let n = length s.problems in
     same_length (problem_order s) (range_with_len 0 n) (ordered_apart (problem_cmp_total s.problems) (range_with_len 0 n)) (all_apart n)
-    (λ p h. has_place n p (problem_there s p h)) (λ p h. problem_stands s v p (place_within n p h))
+    (λ p h. has_below n p (problem_there s p h)) (λ p h. problem_stands s v p (place_within n p h))
     ∙ length-range_with_len 0 n
 
 pub rows_have_each_problem : (s : Setup) (shown : ℕ → Bool) (cells : ℕ → ℕ → Cell) → IsValid s → (r : Row) → Has (board_rows s shown cells) r → (r.cells ≡ map (cells r.team) (problem_order s)) × (length r.cells ≡ length s.problems)

@@ -4,8 +4,9 @@ use Rattle.std.specs.Prelude.{◌⊎◌, ◌≢◌, ◌==◌, ◌&&◌, ◌||◌
 use Rattle.std.specs.List.{list_any}
 use Rattle.std.proofs.Math.Path.{fun_ext}
 use Rattle.std.proofs.lemmas.Simd.{map-map}
-use Rattle.std.proofs.lemmas.Bool.{cases_Bool, false≢true, eqb-true, eq-eqb, ne_eqb}
+use Rattle.std.proofs.lemmas.Bool.{cases_Bool, false≢true, eqb-true, eq-eqb, ne_eqb, and_parts}
 use Rattle.std.proofs.lemmas.List.Folds.{list_any-append}
+use Rattle.std.proofs.Math.Bool.{or-true}
 use Rattle.contest_types.specs.Loads.{without_file}
 use Rattle.contest_types.specs.State.{ContestState, add, names, of_release, submissions_of}
 use Rattle.contest_types.specs.declared.entry.Entry.TheVariants.{NewSubmission, NewRelease}
@@ -71,15 +72,6 @@ off_it s team problem h =
     ] in
     go (s.team == team) (s.problem == problem) refl refl h
 
-both_true : (b c : Bool) → (b && c) ≡ true → (b ≡ true) × (c ≡ true)
-both_true true true h = (refl, refl)
-both_true true false h = absurd (false≢true h)
-both_true false c h = absurd (false≢true h)
-
-or_here : (b : Bool) → (b || (true || false)) ≡ true
-or_here true = refl
-or_here false = refl
-
 or_not : (b : Bool) → (b || (false || false)) ≡ b
 or_not true = refl
 or_not false = refl
@@ -100,10 +92,10 @@ after_submission x y s c d alike puts are = λ few team problem.
     let any : list_any (is_at team problem) z.submissions ≡ (list_any (is_at team problem) x.submissions || (is_at team problem s || false)) = list_any-append (is_at team problem) x.submissions (s ∷ []) in
     let go : (b : Bool) → is_at team problem s ≡ b → (if b then Some (masked_cell y s.team s.problem) else cached_at c team problem) ≡ cell_to_keep y team problem = elim [
       | true ↦ λ h.
-          (let parts = both_true (s.team == team) (s.problem == problem) h in
+          (let parts = and_parts (s.team == team) (s.problem == problem) h in
           let t : s.team ≡ team = eqb-true s.team team parts.0 in
           let p : s.problem ≡ problem = eqb-true s.problem problem parts.1 in
-          let here : list_any (is_at team problem) y.submissions ≡ true = ap (list_any (is_at team problem)) alike.submissions ∙ any ∙ (rw h (or_here (list_any (is_at team problem) x.submissions))) in
+          let here : list_any (is_at team problem) y.submissions ≡ true = ap (list_any (is_at team problem)) alike.submissions ∙ any ∙ (rw h (or-true (list_any (is_at team problem) x.submissions))) in
           rw (here, t, p) refl)
       | false ↦ λ h.
           (let same : masked_cell z team problem ≡ masked_cell x team problem = same_masked x z team problem (λ mask. ap (cell_of_attempts (start_of x.fixed.marks)) (attempts_but_one mask x s team problem (off_it s team problem h))) in
@@ -113,7 +105,7 @@ after_submission x y s c d alike puts are = λ few team problem.
     ] in
     puts team problem ∙ go (is_at team problem s) refl)
 
-eq_turned : (m n : ℕ) → (m == n) ≡ (n == m)
+pub eq_turned : (m n : ℕ) → (m == n) ≡ (n == m)
 eq_turned m n = elim (cases_Bool (m == n)) [
   | inl e ↦ e ∙ sym (eq-eqb n m (sym (eqb-true m n e)))
   | inr e ↦ e ∙ sym (ne_eqb n m (λ k. false≢true (sym e ∙ eq-eqb m n (sym k))))
@@ -177,8 +169,8 @@ kept_more x ss s c d are puts t p =
     let any : list_any (is_at t p) (ss ++ s ∷ []) ≡ (list_any (is_at t p) ss || (is_at t p s || false)) = list_any-append (is_at t p) ss (s ∷ []) in
     let go : (b : Bool) → is_at t p s ≡ b → (if b then Some (masked_cell x s.team s.problem) else cached_at c t p) ≡ kept_so_far x (ss ++ s ∷ []) t p = elim [
       | true ↦ λ h.
-          (let parts = both_true (s.team == t) (s.problem == p) h in
-          let here : list_any (is_at t p) (ss ++ s ∷ []) ≡ true = any ∙ (rw h (or_here (list_any (is_at t p) ss))) in
+          (let parts = and_parts (s.team == t) (s.problem == p) h in
+          let here : list_any (is_at t p) (ss ++ s ∷ []) ≡ true = any ∙ (rw h (or-true (list_any (is_at t p) ss))) in
           rw (here, eqb-true s.team t parts.0, eqb-true s.problem p parts.1) refl)
       | false ↦ λ h.
           (let still : list_any (is_at t p) (ss ++ s ∷ []) ≡ list_any (is_at t p) ss = any ∙ (rw h (or_not (list_any (is_at t p) ss))) in
@@ -198,7 +190,7 @@ kept_still x ss s c are there t p =
     let own : list_any (is_at s.team s.problem) ss ≡ true = some_where (list_any (is_at s.team s.problem) ss) (masked_cell x s.team s.problem) (ap is_some (sym (are s.team s.problem)) ∙ there) in
     let go : (b : Bool) → is_at t p s ≡ b → list_any (is_at t p) (ss ++ s ∷ []) ≡ list_any (is_at t p) ss = elim [
       | true ↦ λ h.
-          (let parts = both_true (s.team == t) (s.problem == p) h in
+          (let parts = and_parts (s.team == t) (s.problem == p) h in
           let here : list_any (is_at t p) ss ≡ true = (rw (eqb-true s.team t parts.0, eqb-true s.problem p parts.1) at own) in
           any ∙ (rw (h, here) refl))
       | false ↦ λ h. any ∙ (rw h (or_not (list_any (is_at t p) ss)))
@@ -218,8 +210,8 @@ numbered_more x number ss s c d old are has puts t p =
     let any : list_any q (ss ++ s ∷ []) ≡ (list_any q ss || (q s || false)) = list_any-append q ss (s ∷ []) in
     let go : (b : Bool) → is_at t p s ≡ b → (if b then Some (masked_cell x s.team s.problem) else cached_at c t p) ≡ numbered_so_far x number (ss ++ s ∷ []) old t p = elim [
       | true ↦ λ h.
-          (let parts = both_true (s.team == t) (s.problem == p) h in
-          let here : list_any q (ss ++ s ∷ []) ≡ true = any ∙ (rw (has, h) (or_here (list_any q ss))) in
+          (let parts = and_parts (s.team == t) (s.problem == p) h in
+          let here : list_any q (ss ++ s ∷ []) ≡ true = any ∙ (rw (has, h) (or-true (list_any q ss))) in
           rw (here, eqb-true s.team t parts.0, eqb-true s.problem p parts.1) refl)
       | false ↦ λ h.
           (let still : list_any q (ss ++ s ∷ []) ≡ list_any q ss = any ∙ (rw (has, h) (or_not (list_any q ss))) in

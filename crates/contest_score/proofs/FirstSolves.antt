@@ -2,13 +2,14 @@
 use Rattle.std.proofs.Common.{◌≡◌, ◌≢◌, ◌⊎◌, ℕ, ◌+◌, ◌<◌, ◌≤◌, min, Bool, true, false, cond, ◌&&◌, ◌||◌, eqb, ltb, leb, List, [], ◌∷◌, ◌++◌, length, take, get_or, set, map, filter, refl, sym, ap, subst, ◌∙◌, append-nil, arith, inl, inr}
 use Rattle.std.specs.Prelude.{codes, slice_get, Some, if◌then◌else◌}
 use Rattle.std.specs.List.{list_all, list_any, range_with_len}
-use Rattle.std.proofs.lemmas.Bool.{false≢true, eq-eqb}
+use Rattle.std.proofs.lemmas.Bool.{false≢true, eq-eqb, le-leb, lt-leb, lt-ltb, le-ltb, leb-true}
 use Rattle.std.proofs.lemmas.Bool.Decides.{nat_tests}
 use Rattle.std.proofs.lemmas.List.Elements.{filter-append, filter_agree}
 use Rattle.std.proofs.lemmas.List.Folds.{list_all-append}
 use Rattle.std.proofs.lemmas.List.{take_more}
 use Rattle.std.proofs.lemmas.List.FromFn.{fill_by_all, get_or-map-range_with_len, length-map-range_with_len}
 use Rattle.std.proofs.lemmas.Option.{slice_get-get_or}
+use Rattle.std.proofs.Math.Bool.{and-true}
 use Rattle.contest_types.proofs.PlaceLemmas.{and_left, and_right}
 use Rattle.contest_types.specs.Setup.{Setup}
 use Rattle.contest_types.specs.declared.objects.Problem.{Problem}
@@ -17,6 +18,7 @@ use Rattle.contest_score.specs.declared.solve.Solve.{Solve}
 use Rattle.contest_score.specs.Awards.{Award, award_to, first_solves, first_to_solve}
 use Rattle.contest_score.specs.AwardSteps.{has_solve, with_solve}
 use Rattle.contest_score.proofs.Tables.{not_equal, set_by_places}
+use Rattle.contest_types.proofs.Different.{compared}
 
 -- the earliest of some solves
 abbrev firsts : List Solve → List Solve
@@ -27,25 +29,6 @@ abbrev earliest : ℕ → List Solve → ℕ
 earliest t [] = t
 earliest t (w ∷ ws) = min w.time (earliest t ws)
 
-is_leb : (a b : ℕ) → a ≤ b → leb a b ≡ true
-is_leb a b h = grind (arith, nat_tests)
-
-not_leb : (a b : ℕ) → b < a → leb a b ≡ false
-not_leb a b h = grind (arith, nat_tests)
-
-is_ltb : (a b : ℕ) → a < b → ltb a b ≡ true
-is_ltb a b h = grind (arith, nat_tests)
-
-not_ltb : (a b : ℕ) → b ≤ a → ltb a b ≡ false
-not_ltb a b h = grind (arith, nat_tests)
-
-from_leb : (a b : ℕ) → leb a b ≡ true → a ≤ b
-from_leb a b h = grind (arith, nat_tests)
-
-and_true : (b : Bool) → (b && true) ≡ b
-and_true true = refl
-and_true false = refl
-
 not_after_both : (x a m : ℕ) (b c : Bool) → (b && c) ≡ leb x m → (b && (leb x a && c)) ≡ leb x (min a m)
 not_after_both x a m true true h = grind (arith, nat_tests)
 not_after_both x a m true false h = grind (arith, nat_tests)
@@ -53,14 +36,14 @@ not_after_both x a m false c h = grind (arith, nat_tests)
 
 -- not after any is not after the earliest
 not_after : (t : ℕ) (vs : List Solve) (x : ℕ) → (leb x t && list_all (λ (w : Solve). leb x w.time) vs) ≡ leb x (earliest t vs)
-not_after t [] x = and_true (leb x t)
+not_after t [] x = and-true (leb x t)
 not_after t (w ∷ ws) x = not_after_both x w.time (earliest t ws) (leb x t) (list_all (λ (v : Solve). leb x v.time) ws) (not_after t ws x)
 
 firsts_are : (u : Solve) (us : List Solve) → firsts (u ∷ us) ≡ filter (λ (v : Solve). leb v.time (earliest u.time us)) (u ∷ us)
 firsts_are u us = filter_agree (λ (v : Solve). list_all (λ (w : Solve). leb v.time w.time) (u ∷ us)) (λ (v : Solve). leb v.time (earliest u.time us)) (λ v. not_after u.time us v.time) (u ∷ us)
 
 none_before : (u : Solve) (us : List Solve) → list_all (λ (w : Solve). leb (earliest u.time us) w.time) (u ∷ us) ≡ true
-none_before u us = not_after u.time us (earliest u.time us) ∙ is_leb _ _ (omega arith)
+none_before u us = not_after u.time us (earliest u.time us) ∙ le-leb _ _ (omega arith)
 
 later_too : (a b c : Bool) → (a || c) ≡ true → (a || (b || c)) ≡ true
 later_too true b c h = refl
@@ -76,11 +59,11 @@ least_of_two a b = grind arith
 
 -- one is at the earliest moment
 attained : (t : ℕ) (us : List Solve) → (leb t (earliest t us) || list_any (λ (w : Solve). leb w.time (earliest t us)) us) ≡ true
-attained t [] = rw (is_leb t t (omega arith)) refl
+attained t [] = rw (le-leb t t (omega arith)) refl
 attained t (w ∷ ws) =
     let P : ℕ → Type 0 = λ m. (leb t m || (leb w.time m || list_any (λ (v : Solve). leb v.time m) ws)) ≡ true in
     elim (least_of_two w.time (earliest t ws)) [
-      | inl own ↦ subst P (sym own) (in_middle (leb t w.time) (leb w.time w.time) _ (is_leb _ _ (omega arith)))
+      | inl own ↦ subst P (sym own) (in_middle (leb t w.time) (leb w.time w.time) _ (le-leb _ _ (omega arith)))
       | inr past ↦ subst P (sym past) (later_too (leb t (earliest t ws)) (leb w.time (earliest t ws)) _ (attained t ws))
     ]
 
@@ -92,7 +75,7 @@ record Leads (m : ℕ) (fs : List Solve) : Type 0 where
   at_moment : first.time ≡ m
 
 same_moment : (a m : ℕ) → leb a m ≡ true → leb m a ≡ true → a ≡ m
-same_moment a m h k = omega (arith, from_leb a m h, from_leb m a k)
+same_moment a m h k = omega (arith, leb-true a m h, leb-true m a k)
 
 leads : (m : ℕ) (vs : List Solve) → list_all (λ (w : Solve). leb m w.time) vs ≡ true → list_any (λ (w : Solve). leb w.time m) vs ≡ true → Leads m (filter (λ (v : Solve). leb v.time m) vs)
 leads m [] all some = absurd (false≢true some)
@@ -117,8 +100,8 @@ by_both m t v = leb v.time m && leb v.time t
 none_kept : (m t : ℕ) → t < m → (vs : List Solve) → list_all (λ (w : Solve). leb m w.time) vs ≡ true → filter (by_both m t) vs ≡ []
 none_kept m t h [] all = refl
 none_kept m t h (v ∷ vs) all =
-    let late : m ≤ v.time = from_leb m v.time (and_left (leb m v.time) _ all) in
-    let out : leb v.time t ≡ false = not_leb v.time t (omega (arith, late)) in
+    let late : m ≤ v.time = leb-true m v.time (and_left (leb m v.time) _ all) in
+    let out : leb v.time t ≡ false = lt-leb v.time t (omega (arith, late)) in
     let off : (b : Bool) → (b && false) ≡ false = elim [ true ↦ refl | false ↦ refl ] in
     let fails : by_both m t v ≡ false = rw out (off (leb v.time m)) in
     rw fails (none_kept m t h vs (and_right (leb m v.time) _ all))
@@ -129,25 +112,22 @@ by_first x m t h = grind (arith, nat_tests)
 all_kept : (m t : ℕ) → m ≤ t → (vs : List Solve) → filter (by_both m t) vs ≡ filter (λ (v : Solve). leb v.time m) vs
 all_kept m t h vs = filter_agree (by_both m t) (λ (v : Solve). leb v.time m) (λ v. by_first v.time m t h) vs
 
-compared : (a b : ℕ) → (a < b) ⊎ ((a ≡ b) ⊎ (b < a))
-compared a b = grind arith
-
 kept : (m : ℕ) (vs : List Solve) (v : Solve) → list_all (λ (w : Solve). leb m w.time) vs ≡ true → filter (by_both m v.time) vs ++ cond (by_both m v.time v) (v ∷ []) [] ≡ added m (filter (λ (w : Solve). leb w.time m) vs) v
 kept m vs v all = elim (compared v.time m) [
-  | inl before ↦ (let own : leb v.time v.time ≡ true = is_leb _ _ (omega arith) in
-      rw (none_kept m v.time before vs all, is_leb v.time m (omega arith), own, not_ltb m v.time (omega arith), is_ltb v.time m before) refl)
-  | inr (inl same) ↦ (let own : leb v.time v.time ≡ true = is_leb _ _ (omega arith) in
-      rw (all_kept m v.time (omega arith) vs, is_leb v.time m (omega arith), own, not_ltb m v.time (omega arith), not_ltb v.time m (omega arith)) refl)
-  | inr (inr after) ↦ rw (all_kept m v.time (omega arith) vs, not_leb v.time m after, is_ltb m v.time after) (append-nil _)
+  | inl before ↦ (let own : leb v.time v.time ≡ true = le-leb _ _ (omega arith) in
+      rw (none_kept m v.time before vs all, le-leb v.time m (omega arith), own, le-ltb m v.time (omega arith), lt-ltb v.time m before) refl)
+  | inr (inl same) ↦ (let own : leb v.time v.time ≡ true = le-leb _ _ (omega arith) in
+      rw (all_kept m v.time (omega arith) vs, le-leb v.time m (omega arith), own, le-ltb m v.time (omega arith), le-ltb v.time m (omega arith)) refl)
+  | inr (inr after) ↦ rw (all_kept m v.time (omega arith) vs, lt-leb v.time m after, lt-ltb m v.time after) (append-nil _)
 ]
 
 -- one more solve at the end
 firsts_push : (vs : List Solve) (v : Solve) → firsts (vs ++ v ∷ []) ≡ with_solve (firsts vs) v
-firsts_push [] v = rw (is_leb v.time v.time (omega arith)) refl
+firsts_push [] v = rw (le-leb v.time v.time (omega arith)) refl
 firsts_push (u ∷ us) v =
     let m : ℕ = earliest u.time us in
     let test : (x : Solve) → list_all (λ (w : Solve). leb x.time w.time) ((u ∷ us) ++ v ∷ []) ≡ by_both m v.time x =
-    λ x. list_all-append (λ (w : Solve). leb x.time w.time) (u ∷ us) (v ∷ []) ∙ (rw (not_after u.time us x.time, and_true (leb x.time v.time)) refl) in
+    λ x. list_all-append (λ (w : Solve). leb x.time w.time) (u ∷ us) (v ∷ []) ∙ (rw (not_after u.time us x.time, and-true (leb x.time v.time)) refl) in
     let both : firsts ((u ∷ us) ++ v ∷ []) ≡ filter (by_both m v.time) (u ∷ us) ++ cond (by_both m v.time v) (v ∷ []) [] =
     filter_agree (λ (x : Solve). list_all (λ (w : Solve). leb x.time w.time) ((u ∷ us) ++ v ∷ [])) (by_both m v.time) test ((u ∷ us) ++ v ∷ [])
     ∙ filter-append (by_both m v.time) (u ∷ us) (v ∷ []) in

@@ -1,10 +1,9 @@
 -- Who is first to solve a problem.
-use Rattle.std.proofs.Common.{◌≡◌, ◌⊎◌, ℕ, ◌<◌, ◌≤◌, Bool, true, false, leb, List, [], ◌∷◌, ◌++◌, length, map, filter, Option, Some, None, refl, sym, ap, ◌∙◌, inl, inr, arith}
+use Rattle.std.proofs.Common.{◌≡◌, ◌⊎◌, ℕ, ◌<◌, ◌≤◌, Bool, true, false, List, [], ◌∷◌, ◌++◌, length, map, filter, Option, Some, None, refl, sym, ap, ◌∙◌, inl, inr, arith}
 use Rattle.std.specs.Prelude.{◌↔◌, ◌==◌, nat_le, nat_lt, find, codes, count_by}
-use Rattle.std.specs.List.{cons_option, filter_map, list_all, list_any}
+use Rattle.std.specs.List.{filter_map, list_all, list_any}
 use Rattle.std.specs.Option.{option_map}
-use Rattle.std.proofs.lemmas.Bool.{false≢true, eqb-true, eq-eqb}
-use Rattle.std.proofs.lemmas.Bool.Decides.{nat_tests}
+use Rattle.std.proofs.lemmas.Bool.{false≢true, eqb-true, eq-eqb, cases_lt, le-leb, leb-true}
 use Rattle.std.proofs.lemmas.Option.{slice_get_past}
 use Rattle.contest_types.specs.Setup.{Setup, IsValid}
 use Rattle.contest_types.specs.TeamPlaces.{team_places, is_public}
@@ -26,21 +25,12 @@ use Rattle.contest_score.specs.Contest.{seen_cell, board_for, solve_of, solves_o
 use Rattle.contest_types.specs.ProblemPlaces.{label_at}
 use Rattle.contest_score.specs.Awards.{Award, winner, medals, first_solves, first_to_solve, group_winner, group_order, awards_of}
 use Rattle.contest_score.specs.AwardLaws.{IsFirst}
-use Rattle.contest_score.proofs.LeastOf.{least_of, some_length, below_or_past, is_lt_zero, is_leb, has_all}
+use Rattle.contest_score.proofs.LeastOf.{least_of, some_length, is_lt_zero, has_all}
 use Rattle.contest_score.proofs.CellSteps.{solved_cell}
 use Rattle.contest_score.proofs.AwardsAlike.{attempts_of}
 use Rattle.contest_score.proofs.BoardRows.{ranked_teams, ranked, shown_team_has, problem_stands}
 use Rattle.contest_score.proofs.MedalTeams.{some_passes, passing, has_solved, award_has, has_the_award}
-
--- what is gathered of options
-has_option : {X : Type 0} (o : Option X) (xs : List X) (x : X) → (o ≡ Some x) ⊎ Has xs x → Has (cons_option o xs) x
-has_option None xs x h = elim h [ inl e ↦ absurd (cc e) | inr k ↦ k ]
-has_option {X} (Some y) xs x h = elim h [ inl e ↦ (let same : y ≡ x = cc e in inl (sym same)) | inr k ↦ inr k ]
-
-gathered : {X Y : Type 0} (F : X → Option Y) (xs : List X) (x : X) (y : Y) → Has xs x → F x ≡ Some y → Has (filter_map F xs) y
-gathered F [] x y h e = absurd h
-gathered {X} {Y} F (z ∷ xs) x y h e =
-    elim h [ inl i ↦ has_option (F z) (filter_map F xs) y (inl (ap F (sym i) ∙ e)) | inr t ↦ has_option (F z) (filter_map F xs) y (inr (gathered F xs x y t e)) ]
+use Rattle.contest_types.proofs.JudgementLemmas.{some_from}
 
 record GatheredFrom {X Y : Type 0} (F : X → Option Y) (xs : List X) (y : Y) : Type 0 where
   item : X
@@ -60,9 +50,6 @@ some_counted {X} p (y ∷ xs) x h e = elim h [
   | inr k ↦ (let rest = some_counted p xs x k e in omega (arith, count_more p y xs, rest))
 ]
 
-from_leb : (m n : ℕ) → leb m n ≡ true → m ≤ n
-from_leb m n h = grind (arith, nat_tests)
-
 -- a solve is of its team, at its problem
 of_its_own : (team problem : ℕ) (o : Option Attempt) (v : Solve) → option_map (λ (t : Attempt). record { team = team; problem = problem; time = t.time }) o ≡ Some v → (v.team ≡ team) × (v.problem ≡ problem)
 of_its_own team problem None v h = absurd (cc h)
@@ -80,12 +67,12 @@ public_within s team h (inl l) = l
 public_within s team h (inr l) = (let none : is_public s team ≡ false = rw (slice_get_past s.teams team l) refl in absurd (false≢true (sym none ∙ h)))
 
 shown_has : (s : Setup) (team : ℕ) → is_public s team ≡ true → Has (shown_teams s (is_public s)) team
-shown_has s team h = shown_team_has s (is_public s) team (public_within s team h (below_or_past team (length s.teams))) h
+shown_has s team h = shown_team_has s (is_public s) team (public_within s team h (cases_lt team (length s.teams))) h
 
 solves_have : (x : ContestState) (team problem : ℕ) (v : Solve) → IsValid x.fixed.settings → problem < length x.fixed.settings.problems → is_public x.fixed.settings team ≡ true → solve_of x team problem ≡ Some v → Has (solves_of x) v
 solves_have x team problem v valid l shown e =
     let s = x.fixed.settings in
-    flat_has (λ u. filter_map (solve_of x u) (problem_order s)) (shown_teams s (is_public s)) team v (shown_has s team shown) (gathered (solve_of x team) (problem_order s) problem v (problem_stands s valid problem l) e)
+    flat_has (λ u. filter_map (solve_of x u) (problem_order s)) (shown_teams s (is_public s)) team v (shown_has s team shown) (some_from (solve_of x team) (problem_order s) problem v (problem_stands s valid problem l) e)
 
 -- a solve that is listed is of a shown team
 record SolvedBy (x : ContestState) (v : Solve) : Type 0 where
@@ -121,7 +108,7 @@ is_first_solve problem solves v h =
     record {
       there = g.0;
       at = eqb-true v.problem problem g.1;
-      first = λ w k e. from_leb v.time w.time (all_has (λ (u : Solve). nat_le v.time u.time) (of_problem problem solves) w f.1 (has_filter own solves w k (eq-eqb w.problem problem e)));
+      first = λ w k e. leb-true v.time w.time (all_has (λ (u : Solve). nat_le v.time u.time) (of_problem problem solves) w f.1 (has_filter own solves w k (eq-eqb w.problem problem e)));
     }
 
 first_solve_has : (problem : ℕ) (solves : List Solve) (v : Solve) → IsFirstSolve problem solves v → Has (first_solves problem solves) v
@@ -130,7 +117,7 @@ first_solve_has problem solves v i =
     has_filter (λ (u : Solve). list_all (λ (w : Solve). nat_le u.time w.time) (of_problem problem solves)) (of_problem problem solves) v
     (has_filter own solves v i.there (eq-eqb v.problem problem i.at))
     (has_all (λ (w : Solve). nat_le v.time w.time) (of_problem problem solves)
-    (λ w k. (let g = filter_has own solves w k in is_leb v.time w.time (i.first w g.0 (eqb-true w.problem problem g.1)))))
+    (λ w k. (let g = filter_has own solves w k in le-leb v.time w.time (i.first w g.0 (eqb-true w.problem problem g.1)))))
 
 -- the rows that the award for a problem looks for
 abbrev leads : ContestState → ℕ → Row → Bool

@@ -2,6 +2,7 @@
 use Rattle.std.proofs.Common.{◌≡◌, ℕ, ◌≤◌, Bool, true, false, ltb, List, [], ◌∷◌, Option, Some, None, refl, sym, ap, subst, ◌∙◌, inl, inr, arith}
 use Rattle.std.specs.Prelude.{nat_lt, fold, if◌then◌else◌}
 use Rattle.std.proofs.lemmas.Bool.Decides.{nat_tests}
+use Rattle.std.proofs.lemmas.Bool.{ltb-false}
 use Rattle.contest_types.specs.Order.{Has}
 use Rattle.contest_types.specs.declared.minute.Minute.{Minute}
 use Rattle.contest_score.specs.declared.cell.Cell.{Cell}
@@ -16,9 +17,6 @@ record Latest (ms : List Minute) (o : Option Minute) : Type 0 where
 
 is_less : (m n : ℕ) → ltb m n ≡ true → m ≤ n
 is_less m n h = grind (arith, nat_tests)
-
-not_less : (m n : ℕ) → ltb m n ≡ false → n ≤ m
-not_less m n h = grind (arith, nat_tests)
 
 latest : (n : Minute) (ms : List Minute) → Latest (n ∷ ms) (fold later_of (Some n) ms)
 latest n [] = record { minute = n; is = refl; there = inl refl; last = λ k h. elim h [ inl e ↦ (let t : k.0 ≡ n.0 = ap (λ (u : Minute). u.0) e in omega (arith, t)) | inr t ↦ absurd t ] }
@@ -36,7 +34,7 @@ latest n (m ∷ ms) =
         minute = r.minute;
         is = r.is;
         there = elim r.there [ inl i ↦ inl i | inr t ↦ inr (inr t) ];
-        last = λ k h. elim h [ inl i ↦ r.last k (inl i) | inr t ↦ elim t [ inl i ↦ one n m (not_less n.0 m.0 e) r k i | inr u ↦ r.last k (inr u) ] ];
+        last = λ k h. elim h [ inl i ↦ r.last k (inl i) | inr t ↦ elim t [ inl i ↦ one n m (ltb-false n.0 m.0 e) r k i | inr u ↦ r.last k (inr u) ] ];
       })
     ] in
     go (nat_lt n.0 m.0) refl

@@ -1,7 +1,8 @@
 -- In a list that isn't empty, something has the least number.
-use Rattle.std.proofs.Common.{◌≡◌, ◌⊎◌, ℕ, ◌<◌, ◌≤◌, Bool, true, ltb, leb, List, [], ◌∷◌, length, refl, ap, inl, inr, arith}
+use Rattle.std.proofs.Common.{◌≡◌, ℕ, ◌<◌, ◌≤◌, Bool, true, ltb, List, [], ◌∷◌, length, refl, ap, inl, inr, arith}
 use Rattle.std.specs.List.{list_all}
 use Rattle.std.proofs.lemmas.Bool.Decides.{nat_tests}
+use Rattle.std.proofs.lemmas.Bool.{cases_lt}
 use Rattle.contest_types.specs.Order.{Has}
 
 pub record LeastOf {X : Type 0} (number : X → ℕ) (xs : List X) : Type 0 where
@@ -9,14 +10,11 @@ pub record LeastOf {X : Type 0} (number : X → ℕ) (xs : List X) : Type 0 wher
   pub there : Has xs item
   pub least : (x : X) → Has xs x → number item ≤ number x
 
-pub below_or_past : (m n : ℕ) → (m < n) ⊎ (n ≤ m)
-below_or_past m n = grind arith
-
 with_one : {X : Type 0} (number : X → ℕ) (x : X) (xs : List X) → LeastOf number xs → LeastOf number (x ∷ xs)
 with_one {X} number x xs r =
     let bound : (m : ℕ) → m ≤ number x → m ≤ number r.item → (y : X) → Has (x ∷ xs) y → m ≤ number y = λ m low lower y h.
     elim h [ inl e ↦ (let t : number y ≡ number x = ap number e in omega (arith, t, low)) | inr k ↦ (let t = r.least y k in omega (arith, t, lower)) ] in
-    elim (below_or_past (number x) (number r.item)) [
+    elim (cases_lt (number x) (number r.item)) [
       | inl l ↦ record { item = x; there = inl refl; least = bound (number x) (omega arith) (omega (arith, l)) }
       | inr l ↦ record { item = r.item; there = inr r.there; least = bound (number r.item) l (omega arith) }
     ]
@@ -35,9 +33,6 @@ some_length (y ∷ xs) x h = omega arith
 
 pub is_lt_zero : (n : ℕ) → 0 < n → ltb 0 n ≡ true
 is_lt_zero n h = grind (arith, nat_tests)
-
-pub is_leb : (m n : ℕ) → m ≤ n → leb m n ≡ true
-is_leb m n h = grind (arith, nat_tests)
 
 pub has_all : {X : Type 0} (p : X → Bool) (xs : List X) → ((x : X) → Has xs x → p x ≡ true) → list_all p xs ≡ true
 has_all p [] h = refl

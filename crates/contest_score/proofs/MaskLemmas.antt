@@ -26,6 +26,8 @@ use Rattle.contest_score.specs.Contest.{judged_submission, judged_submissions, c
 use Rattle.contest_score.specs.Laws.{WhatCounts, with_freeze, without_frozen}
 use Rattle.contest_score.specs.ScoringLaws.{seen_attempt}
 use Rattle.contest_score.proofs.Counted.{until_solved, counted-until, until_solved-append, counted_past}
+use Rattle.contest_types.proofs.PlaceLemmas.{and_left}
+use Rattle.contest_types.proofs.Filters.{filter_both}
 
 after_it : (a : Attempt) (later : List Attempt) (b : Bool) → (if b then [] else until_solved later) ≡ (if b then [] else counted later)
 after_it a later true = refl
@@ -36,10 +38,6 @@ what_counts earlier a later = record {
   yet = λ h. counted-until (earlier ++ a ∷ later) ∙ (until_solved-append earlier (a ∷ later) h ∙ ap (λ r. earlier ++ a ∷ r) (after_it a later (is_solving a)));
   past = λ h. counted_past earlier (a ∷ later) h;
 }
-
-pub and_first : (a b : Bool) → (a && b) ≡ true → a ≡ true
-and_first true b h = refl
-and_first false b h = h
 
 full_for_own : (a : Audience) (marks : Marks) (now team : ℕ) → owns a team ≡ true → mask_for a marks now team ≡ Full
 full_for_own audience.Public marks now team o = absurd (false≢true o)
@@ -79,15 +77,6 @@ held_cell s marks us team problem =
     ap (cell_of_attempts (start_of marks))
     (sym (map-map (attempt_under Full s marks) (without_frozen s marks) (filter (is_by team problem) us)) ∙ ap (map (attempt_under Full s marks)) (sym taken))
 
--- a test after another
-filter_both : {X : Type 0} (p q : X → Bool) (xs : List X) → filter (λ x. p x && q x) xs ≡ filter q (filter p xs)
-filter_both p q [] = refl
-filter_both p q (x ∷ xs) =
-    let rest = filter_both p q xs in
-    let go : (b c : Bool) → q x ≡ c → (if (b && c) then x ∷ filter (λ y. p y && q y) xs else filter (λ y. p y && q y) xs) ≡ filter q (if b then x ∷ filter p xs else filter p xs) =
-    elim [ true ↦ elim [ true ↦ λ e. rw (e, rest) refl | false ↦ λ e. rw (e, rest) refl ] | false ↦ λ c e. rest ] in
-    go (p x) (q x) refl
-
 type_under : (mask : Mask) (s : Setup) (marks : Marks) (time : ℕ) (j : Option Judgement) → verdict_under mask s marks time (type_of j) ≡ type_of (verdict_under mask s marks time j)
 type_under Full s marks time j = refl
 type_under Held s marks time j =
@@ -118,7 +107,7 @@ attempts_seen a now x team problem h =
     let turned : filter at_problem own ≡ filter (λ (s : Submission). (s.team == team) && (s.problem == problem)) x.submissions = sym (filter_both (λ (s : Submission). s.team == team) at_problem x.submissions) in
     let shown : map (λ s. under (judged_submission x s)) (filter at_problem own) ≡ map (λ s. seen_attempt x.fixed.settings.types (seen_submission a now x s)) (filter at_problem own) =
     rw turned (map-filter_same (λ s. under (judged_submission x s)) (λ s. seen_attempt x.fixed.settings.types (seen_submission a now x s)) (λ (s : Submission). (s.team == team) && (s.problem == problem))
-    (λ s e. attempt_seen a now x team s h (eqb-true s.team team (and_first _ _ e))) x.submissions) in
+    (λ s e. attempt_seen a now x team s h (eqb-true s.team team (and_left _ _ e))) x.submissions) in
     let seen : filter (λ v. v.problem == problem) (map (seen_submission a now x) own) ≡ map (seen_submission a now x) (filter at_problem own) =
     filter_mapped (λ v. v.problem == problem) at_problem (seen_submission a now x) (λ s. refl) own in
     ap (map under) first ∙ map-map under (judged_submission x) (filter at_problem own) ∙ shown

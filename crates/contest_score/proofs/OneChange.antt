@@ -111,7 +111,7 @@ none_passes {X} p (x ∷ xs) h =
 pub named_team : (v : Release) (s : Submission) → names s.team s.number (of_release v) ≡ true → v.team ≡ s.team
 named_team v s h = eqb-true v.team s.team (and_left _ _ h)
 
-named_number : (v : Release) (s : Submission) → names s.team s.number (of_release v) ≡ true → v.number ≡ s.number
+pub named_number : (v : Release) (s : Submission) → names s.team s.number (of_release v) ≡ true → v.number ≡ s.number
 named_number v s h = eqb-true v.number s.number (and_right (v.team == s.team) _ h)
 
 pub release_moves_one_cell : (a : Audience) (now : ℕ) (x : ContestState) (v : Release) (s : Submission) (team problem : ℕ) → is_valid x ≡ true

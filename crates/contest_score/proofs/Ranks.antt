@@ -12,12 +12,14 @@ use Rattle.std.specs.Option.{option_map}
 use Rattle.std.proofs.lemmas.List.Sums.{sum_by-cons}
 use Rattle.std.proofs.lemmas.Bool.{false≢true}
 use Rattle.std.proofs.lemmas.List.Sorted.{sorted_far, ranks_by}
-use Rattle.std.proofs.lemmas.Cmp.{nat_cmp_total, then_total, on_total, back_total, alike_right}
+use Rattle.std.proofs.lemmas.Cmp.{nat_cmp_total, then_total, on_total, back_total}
 use Rattle.contest_score.specs.declared.score.Score.{Score}
 use Rattle.contest_score.specs.declared.standing.Standing.{Standing}
 use Rattle.contest_score.specs.Keys.{by_score, rank_in, row_in, row_with, next_rank, ranked}
 use Rattle.contest_score.specs.Ranking.{place_in, score_cmp, last_minute}
 use Rattle.contest_types.proofs.InOrder.{count_front}
+use Rattle.contest_types.proofs.Rising.{place_tied}
+use Rattle.contest_types.proofs.InOrderLemmas.{is_equal}
 
 pub score_cmp_total : IsTotalOrder score_cmp
 score_cmp_total = then_total (back_total (on_total (λ (a : Score). a.solved) nat_cmp_total)) (then_total (on_total (λ (a : Score). a.total) nat_cmp_total) (on_total last_minute nat_cmp_total))
@@ -32,10 +34,6 @@ count_agree p q (x ∷ xs) h =
     let rest : count_by p xs ≡ count_by q xs = count_agree p q xs (λ i d l. h (suc i) d (omega arith)) in
     sum_by-cons (λ y. cond (p y) 1 0) x xs ∙ ((rw (h 0 x (omega arith), rest) refl) ∙ sym (sum_by-cons (λ y. cond (q y) 1 0) x xs))
 
--- those that tie have as many before them
-pub place_tied : {X : Type 0} {R : X → X → Ordering} (o : IsTotalOrder R) (ys : List X) (a b : X) → R a b ≡ Equal → place_in R ys a ≡ place_in R ys b
-place_tied {X} {R} o ys a b e = count_agree (λ y. is_lt (R y a)) (λ y. is_lt (R y b)) ys (λ i d l. ap is_lt (alike_right o a b (get_or ys i d) e))
-
 -- of two that don't tie, where the second is not less, the first is
 less_of : {X : Type 0} {R : X → X → Ordering} (o : IsTotalOrder R) (a b : X) → is_lt (R b a) ≡ false → is_eq (R a b) ≡ false → (v : Ordering) → R a b ≡ v → is_lt (R a b) ≡ true
 less_of o a b up apart Less e = rw e refl
@@ -45,11 +43,6 @@ less_of o a b up apart Greater e = absurd (false≢true (sym up ∙ ap is_lt (o.
 before_too : {X : Type 0} {R : X → X → Ordering} (o : IsTotalOrder R) (x y z : X) → is_lt (R y x) ≡ false → is_lt (R y z) ≡ true → (b : Bool) → is_lt (R x z) ≡ b → is_lt (R x z) ≡ true
 before_too o x y z up less true e = e
 before_too o x y z up less false e = absurd (false≢true (sym ((ranks_by o (λ v. v)).chain y x z up e) ∙ less))
-
-is_equal : (o : Ordering) → is_eq o ≡ true → o ≡ Equal
-is_equal Less h = absurd (false≢true h)
-is_equal Equal h = refl
-is_equal Greater h = absurd (false≢true h)
 
 -- where the one before doesn't tie, all before come before
 pub place_fresh : {X : Type 0} {R : X → X → Ordering} (o : IsTotalOrder R) (ys : List X) → IsSorted R ys → (i : ℕ) (d : X) → 0 < i → i < length ys → is_eq (R (get_or ys (i - 1) d) (get_or ys i d)) ≡ false → place_in R ys (get_or ys i d) ≡ i

@@ -1,27 +1,21 @@
 -- Lists of numbers with no number twice and the same elements count alike.
-use Rattle.std.proofs.Common.{◌≡◌, ℕ, zero, suc, ◌+◌, ◌<◌, ◌≤◌, Bool, true, false, cond, not, List, [], ◌∷◌, length, map, filter, refl, sym, ap, subst, ◌∙◌, inl, inr, arith, add-zero}
+use Rattle.std.proofs.Common.{◌≡◌, ℕ, zero, suc, ◌+◌, ◌<◌, ◌≤◌, Bool, true, false, cond, not, List, [], ◌∷◌, length, map, filter, refl, sym, ap, ◌∙◌, inl, inr, arith}
 use Rattle.std.specs.Prelude.{◌==◌, count_by, if◌then◌else◌}
 use Rattle.std.specs.List.{range_with_len}
 use Rattle.std.proofs.lemmas.Bool.{false≢true, eqb-true, eq-eqb, ne_eqb, cases_Bool}
 use Rattle.contest_types.specs.Order.{Has, IsBefore, IsInOrder}
 use Rattle.contest_types.proofs.InOrderLemmas.{count_more, has_filter, filter_has}
+use Rattle.contest_types.proofs.Rising.{before_all}
+use Rattle.contest_types.proofs.OrderLemmas.{before_each}
 
 -- the second is another number
 abbrev pub other : ℕ → ℕ → Bool
 other x y = not (y == x)
 
-pub before_all : {X : Type 0} (before : X → X → Bool) (x : X) (ys : List X) → ((y : X) → Has ys y → before x y ≡ true) → IsBefore before x ys
-before_all before x [] h = tt
-before_all before x (y ∷ ys) h = (h y (inl refl), before_all before x ys (λ z k. h z (inr k)))
-
-pub is_before : {X : Type 0} (before : X → X → Bool) (x : X) (ys : List X) (y : X) → IsBefore before x ys → Has ys y → before x y ≡ true
-is_before before x [] y h k = absurd k
-is_before before x (z ∷ ys) y h k = elim k [ inl e ↦ ap (before x) e ∙ h.0 | inr t ↦ is_before before x ys y h.1 t ]
-
 -- a weaker test leaves them in order
 pub weaker_order : {X : Type 0} (before after : X → X → Bool) → ((x y : X) → before x y ≡ true → after x y ≡ true) → (xs : List X) → IsInOrder before xs → IsInOrder after xs
 weaker_order before after h [] i = tt
-weaker_order before after h (x ∷ xs) i = (before_all after x xs (λ y k. h x y (is_before before x xs y i.0 k)), weaker_order before after h xs i.1)
+weaker_order before after h (x ∷ xs) i = (before_all after x xs (λ y k. h x y (before_each before x xs y i.0 k)), weaker_order before after h xs i.1)
 
 mapped_before : {X Y : Type 0} (before : Y → Y → Bool) (f : X → Y) (x : X) (ys : List X) → IsBefore (λ y z. before (f y) (f z)) x ys → IsBefore before (f x) (map f ys)
 mapped_before before f x [] i = tt
@@ -37,7 +31,7 @@ filtered_order before p [] i = tt
 filtered_order {X} before p (x ∷ xs) i =
     let rest = filtered_order before p xs i.1 in
     let go : (b : Bool) → IsInOrder before (if b then x ∷ filter p xs else filter p xs) =
-    elim [ true ↦ (before_all before x (filter p xs) (λ y k. is_before before x xs y i.0 (filter_has p xs y k).0), rest) | false ↦ rest ] in
+    elim [ true ↦ (before_all before x (filter p xs) (λ y k. before_each before x xs y i.0 (filter_has p xs y k).0), rest) | false ↦ rest ] in
     go (p x)
 
 not_other : (x y : ℕ) → other x y ≡ true → y ≡ x → ⊥
@@ -71,7 +65,7 @@ same_count p [] [] i j to from = refl
 same_count p [] (y ∷ ys) i j to from = absurd (from y (inl refl))
 same_count p (x ∷ xs) ys i j to from =
     let left = filter (other x) ys in
-    let there = λ (z : ℕ) (h : Has xs z). has_filter (other x) ys z (to z (inr h)) (is_before other x xs z i.0 h) in
+    let there = λ (z : ℕ) (h : Has xs z). has_filter (other x) ys z (to z (inr h)) (before_each other x xs z i.0 h) in
     let back : (z : ℕ) → Has left z → Has xs z = λ z h.
     (let f = filter_has (other x) ys z h in
     elim (from z f.0) [ inl e ↦ absurd (not_other x z f.1 e) | inr t ↦ t ]) in
@@ -95,16 +89,6 @@ within first (suc n) k h = elim h [
 
 pub place_within : (n k : ℕ) → Has (range_with_len 0 n) k → k < n
 place_within n k h = (let r = within 0 n k h in let high = r.1 in omega (arith, high))
-
-has_from : (first n k : ℕ) → k < n → Has (range_with_len first n) (first + k)
-has_from first zero k l = absurd (omega (arith, l))
-has_from first (suc n) zero l = inl (add-zero first)
-has_from first (suc n) (suc k) l =
-    let e : (first + 1) + k ≡ first + suc k = omega arith in
-    inr (subst (λ m. Has (range_with_len (first + 1) n) m) e (has_from (first + 1) n k (omega (arith, l))))
-
-pub has_place : (n k : ℕ) → k < n → Has (range_with_len 0 n) k
-has_place n k l = let e : 0 + k ≡ k = omega arith in subst (λ m. Has (range_with_len 0 n) m) e (has_from 0 n k l)
 
 range_apart : (first n : ℕ) → IsInOrder other (range_with_len first n)
 range_apart first zero = tt

@@ -3,6 +3,7 @@ use Rattle.std.proofs.Common.{◌≡◌, ℕ, Bool, true, false, List, [], ◌�
 use Rattle.std.specs.Prelude.{◌&&◌, ◌||◌, is_none, if◌then◌else◌}
 use Rattle.std.specs.List.{list_any}
 use Rattle.std.proofs.lemmas.List.Folds.{list_any-append}
+use Rattle.std.proofs.Math.Bool.{or-true}
 use Rattle.contest_types.specs.Clock.{freeze_of, is_thawed, is_finalized}
 use Rattle.contest_types.specs.Masks.{is_jury, knows_all_of, mask_for}
 use Rattle.contest_types.specs.State.{ContestState}
@@ -80,12 +81,8 @@ jurys_board_ignores_the_freeze now (Some group) x freeze thaw = refl
 pub jurys_board_stays : (now later : ℕ) (group : Option ℕ) (x : ContestState) → board_for Jury now group x ≡ board_for Jury later group x
 jurys_board_stays now later group x = refl
 
-or_true : (b : Bool) → (b || (true || false)) ≡ true
-or_true true = refl
-or_true false = refl
-
 pub nothing_after_accepted : (start : ℕ) (earlier : List Attempt) (a : Attempt) (later : List Attempt) → is_solving a ≡ true → cell_of_attempts start (earlier ++ a ∷ later) ≡ cell_of_attempts start (earlier ++ a ∷ [])
 nothing_after_accepted start earlier a later h =
-    let yet : list_any is_solving (earlier ++ a ∷ []) ≡ true = list_any-append is_solving earlier (a ∷ []) ∙ (rw h (or_true (list_any is_solving earlier))) in
+    let yet : list_any is_solving (earlier ++ a ∷ []) ≡ true = list_any-append is_solving earlier (a ∷ []) ∙ (rw h (or-true (list_any is_solving earlier))) in
     let joined : (earlier ++ a ∷ []) ++ later ≡ earlier ++ a ∷ later = append_assoc earlier (a ∷ []) later in
     ap (cell_of_attempts start) (sym joined) ∙ cell_past start (earlier ++ a ∷ []) later yet

@@ -1,10 +1,10 @@
 -- When each team first solved each problem, found in one pass; and the solves that are made of it.
 use Rattle.std.proofs.Common.{◌≡◌, ◌<◌, ◌+◌, ◌∙◌, ℕ, Bool, true, false, cond, List, [], ◌∷◌, ◌++◌, append-nil, append_assoc, length, map, take, get_or, filter, Option, Some, None, refl, sym, ap}
-use Rattle.std.specs.Prelude.{◌&&◌, ◌==◌, find, is_some, if◌then◌else◌}
+use Rattle.std.specs.Prelude.{◌==◌, find, is_some, if◌then◌else◌}
 use Rattle.std.specs.List.{cons_option, filter_map, flat_map, range_with_len}
 use Rattle.std.specs.Option.{option_map, option_or}
 use Rattle.std.proofs.Math.Path.{fun_ext}
-use Rattle.std.proofs.lemmas.Bool.{false≢true, eqb-true}
+use Rattle.std.proofs.lemmas.Bool.{false≢true, eqb-true, and_parts}
 use Rattle.std.proofs.lemmas.Grind.{flat_map-append}
 use Rattle.std.proofs.lemmas.List.{map-append, take_more}
 use Rattle.std.proofs.lemmas.List.Elements.{filter-append, filter_map-append}
@@ -85,15 +85,10 @@ same_time s marks us i u f l e fails before team problem =
     let more = time_more s marks (take i us) u team problem ∙ (ap (option_or (first_time s marks (take i us) team problem)) (one_fails s marks u team problem fails) ∙ or_none _) in
     before team problem ∙ (rw grown (sym more))
 
-both_parts : (a b : Bool) → (a && b) ≡ true → (a ≡ true) × (b ≡ true)
-both_parts true true h = (refl, refl)
-both_parts true false h = absurd (false≢true h)
-both_parts false b h = absurd (false≢true h)
-
 -- what a submission's own team and problem have
 own_time : (f : ℕ → ℕ → Option ℕ) (u : JudgedSubmission) (team problem : ℕ) → is_by team problem u ≡ true → f u.team u.problem ≡ f team problem
 own_time f u team problem h =
-    let parts = both_parts (u.team == team) (u.problem == problem) h in
+    let parts = and_parts (u.team == team) (u.problem == problem) h in
     ap (λ t. f t u.problem) (eqb-true u.team team parts.0) ∙ ap (f team) (eqb-true u.problem problem parts.1)
 
 -- where there is none the next one is put

@@ -1,13 +1,14 @@
 -- Tables of cells, and how they grow by one submission.
-use Rattle.std.proofs.Common.{◌≡◌, ◌≢◌, ◌⊎◌, ℕ, suc, ◌+◌, ◌<◌, ◌≤◌, ◌^◌, Bool, true, false, cond, ◌&&◌, List, [], ◌∷◌, ◌++◌, length, take, get_or, set, map, filter, slice_get, Some, None, refl, sym, ap, subst, ◌∙◌, append-nil, arith, inl, inr, All, eqb}
+use Rattle.std.proofs.Common.{◌≡◌, ◌≢◌, ◌⊎◌, ℕ, suc, ◌+◌, ◌<◌, ◌≤◌, ◌^◌, Bool, true, false, cond, List, [], ◌∷◌, ◌++◌, length, take, get_or, set, map, filter, slice_get, Some, None, refl, sym, ap, subst, ◌∙◌, append-nil, arith, inl, inr, All, eqb}
 use Rattle.std.specs.List.{range_with_len}
 use Rattle.std.proofs.Math.Path.{fun_ext}
-use Rattle.std.proofs.lemmas.Bool.{cases_eq, eqb-true, eq-eqb}
+use Rattle.std.proofs.lemmas.Bool.{cases_eq, eqb-true, eq-eqb, cases_lt}
 use Rattle.std.proofs.lemmas.List.{take_more, length-map, length-take, length-set, map-append, get_or-set_same, get_or-set_other}
 use Rattle.std.proofs.lemmas.List.Elements.{filter-append}
 use Rattle.std.proofs.lemmas.List.Sums.{length-filter, count_by-le-length}
 use Rattle.std.proofs.lemmas.List.FromFn.{fill_by_all, get_or-map-range_with_len, length-map-range_with_len}
 use Rattle.std.proofs.lemmas.Option.{slice_get-get_or, slice_get_past}
+use Rattle.std.proofs.Math.Bool.{and-false}
 use Rattle.contest_types.specs.Setup.{Setup}
 use Rattle.contest_types.specs.declared.marks.Marks.{Marks}
 use Rattle.contest_types.specs.declared.audience.Audience.{Audience}
@@ -73,13 +74,9 @@ not_equal m n false e off = refl
 by_other_team : (u : JudgedSubmission) (team problem : ℕ) → team ≢ u.team → is_by team problem u ≡ false
 by_other_team u team problem off = rw (not_equal u.team team (eqb u.team team) refl off) refl
 
-and_false : (b : Bool) → (b && false) ≡ false
-and_false true = refl
-and_false false = refl
-
 by_other : (u : JudgedSubmission) (team problem : ℕ) → (team ≢ u.team) ⊎ (problem ≢ u.problem) → is_by team problem u ≡ false
 by_other u team problem (inl off) = by_other_team u team problem off
-by_other u team problem (inr off) = rw (not_equal u.problem problem (eqb u.problem problem) refl off) (and_false (eqb u.team team))
+by_other u team problem (inr off) = rw (not_equal u.problem problem (eqb u.problem problem) refl off) (and-false (eqb u.team team))
 
 -- what the caller's table is after the first submissions
 abbrev pub table_of : Audience → Setup → Marks → ℕ → List JudgedSubmission → List (List Cell)
@@ -135,9 +132,6 @@ no_cell who s marks now us team problem off =
 apart_from : (m n bound : ℕ) → n < bound → bound ≤ m → m ≢ n
 apart_from m n bound l h e = omega (arith, l, h, e)
 
-within : (m n : ℕ) → (m < n) ⊎ (n ≤ m)
-within m n = grind arith
-
 off_row : (f : ℕ → ℕ → Cell) (teams problems team problem : ℕ) → team < teams → problems ≤ problem → cell_in (cells_table f teams problems) team problem ≡ no_attempts
 off_row f teams problems team problem l h = rw (at_places (λ u. map (f u) (range_with_len 0 problems)) teams team l, past_places (f team) problems problem h) refl
 
@@ -147,8 +141,8 @@ off_table f teams problems team problem h = rw (past_places (λ u. map (f u) (ra
 cell_anywhere : (who : Audience) (s : Setup) (marks : Marks) (now : ℕ) (us : List JudgedSubmission) → All (IsAdmitted s marks) us → (team problem : ℕ) → cell_in (table_of who s marks now us) team problem ≡ cell_for who s marks now us team problem
 cell_anywhere who s marks now us all team problem =
     let f : ℕ → ℕ → Cell = cell_for who s marks now us in
-    elim (within team (length s.teams)) [
-      | inl l ↦ elim (within problem (length s.problems)) [
+    elim (cases_lt team (length s.teams)) [
+      | inl l ↦ elim (cases_lt problem (length s.problems)) [
         | inl m ↦ cell_in_table f (length s.teams) (length s.problems) team problem l m
         | inr h ↦ off_row f (length s.teams) (length s.problems) team problem l h ∙ sym (no_cell who s marks now us team problem (λ i d n. inr (apart_from problem _ (length s.problems) (all i d n).problem h)))
       ]

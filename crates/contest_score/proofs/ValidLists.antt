@@ -1,12 +1,13 @@
 -- The lists of a valid contest can be scored.
-use Rattle.std.proofs.Common.{◌≡◌, ℕ, zero, suc, ◌+◌, ◌*◌, ◌<◌, ◌≤◌, ◌^◌, Bool, true, false, cond, List, [], ◌∷◌, length, map, filter, refl, arith, All, get_or, inl, inr, None}
-use Rattle.std.specs.Prelude.{◌==◌, nat_lt, nat_le, if◌then◌else◌}
+use Rattle.std.proofs.Common.{◌≡◌, ℕ, zero, suc, ◌+◌, ◌*◌, ◌<◌, ◌≤◌, ◌^◌, Bool, true, false, cond, List, [], ◌∷◌, length, map, filter, refl, arith, All, get_or, inl, inr}
+use Rattle.std.specs.Prelude.{◌==◌, nat_lt, if◌then◌else◌}
 use Rattle.std.specs.List.{list_all}
-use Rattle.std.proofs.lemmas.Bool.{cases_Bool, ltb-true, lt-ltb, le-ltb}
+use Rattle.std.proofs.lemmas.Bool.{cases_Bool, ltb-true, lt-ltb, le-ltb, leb-true}
 use Rattle.std.proofs.lemmas.Bool.Decides.{nat_tests}
 use Rattle.std.proofs.lemmas.List.Elements.{All-map}
 use Rattle.std.proofs.lemmas.List.{length-map}
 use Rattle.std.proofs.lemmas.List.Sums.{AllPass-from_list_all}
+use Rattle.contest_types.specs.PlainRows.{plain_submission}
 use Rattle.contest_types.specs.Series.{in_each}
 use Rattle.contest_types.specs.State.{FixedPart, ContestState, submissions_of}
 use Rattle.contest_types.specs.Valid.{is_valid}
@@ -80,14 +81,11 @@ all_countable f xs h i d l = countable f (get_or xs i d) (AllPass-from_list_all 
 all_of_types : (x : ContestState) (vs : List Release) → list_all (is_valid_release x) vs ≡ true → All (λ v. v.verdict < length x.fixed.settings.types) vs
 all_of_types x vs h i d l = ltb-true (get_or vs i d).verdict _ (and_right _ _ (AllPass-from_list_all (is_valid_release x) vs h i d l))
 
-at_most : (m n : ℕ) → nat_le m n ≡ true → m ≤ n
-at_most m n h = grind (arith, nat_tests)
-
 -- no team has more than its limit
 few_of_team : (xs : List Submission) (team : ℕ) → in_each of_one_team are_valid_submissions xs ≡ true → length (submissions_of team xs) ≤ TEAM_SUBMISSIONS
 few_of_team xs team h =
-    let by_team : Submission = record { team = team; number = 0; time = 0; problem = 0; language = 0; entry_point = None; file = []; key = None } in
-    at_most _ _ (and_right _ _ (in_any of_one_team are_valid_submissions one_team refl xs by_team h))
+    let by_team : Submission = plain_submission team 0 0 0 0 in
+    leb-true _ _ (and_right _ _ (in_any of_one_team are_valid_submissions one_team refl xs by_team h))
 
 -- and all teams together fewer than can be counted
 few_in_all : (teams : ℕ) (xs : List Submission) → teams ≤ TEAMS → All (λ s. s.team < teams) xs → in_each of_one_team are_valid_submissions xs ≡ true → length xs < 2 ^ 32

@@ -1,5 +1,6 @@
 //! The cells of a contest that are kept while it goes on, under either mask.
-ghost use Rattle.std.specs.Prelude.{◌≡◌, ℕ, ◌==◌, ◌&&◌, None, Some, OnOk, OnErr, if◌then◌else◌, is_some};
+ghost use Rattle.std.specs.Prelude.{◌≡◌, ℕ, ◌==◌, ◌&&◌, None, Some, OnOk, OnErr, if◌then◌else◌};
+ghost use Rattle.std.specs.Prelude.{is_some};
 ghost use Rattle.contest_score.specs.CachedCells.{cached_at, cell_by, cell_cached};
 
 use crate::cell::Cell;

@@ -3,7 +3,8 @@ ghost use Rattle.std.specs.Prelude.{◌≡◌, ◌<◌, ◌^◌, length, IfOk, I
 ghost use Rattle.std.specs.List.{range_with_len};
 ghost use Rattle.contest_score.specs.Counting.{HasRoom, cell_with, cells_table, row_at, with_cell};
 ghost use Rattle.contest_score.specs.Table.{no_attempts, cell_in};
-ghost use Rattle.contest_score.specs.MaskedCells.{mask_for, verdict_of, verdict_under, attempt_under, start_of, cell_for, IsAdmitted};
+ghost use Rattle.contest_score.specs.MaskedCells.{mask_for, verdict_of, verdict_under};
+ghost use Rattle.contest_score.specs.MaskedCells.{attempt_under, start_of, cell_for, IsAdmitted};
 
 use crate::attempt::{Attempt, Verdict};
 use crate::cell::Cell;
@@ -16,8 +17,8 @@ use contest_types::{
 use std::alloc::{AllocError, Global};
 
 /// The cells of every team at every problem, as a caller sees them now: those of the team's
-/// submissions at the problem, in their order, under the caller's mask for the team. The submissions
-/// stand in the order in which they were accepted, and each is counted once.
+/// submissions at the problem, in their order, under the caller's mask for the team. The
+/// submissions stand in the order in which they were accepted, and each is counted once.
 ///
 /// # Errors
 ///
@@ -120,8 +121,8 @@ fn attempt_under(
     seen_attempt(mask, settings, marks, submission.time, verdict)
 }
 
-/// An attempt at a moment as it is seen under a mask, with what is seen of the judgement type, by its place,
-/// that was released on it last. It takes no memory.
+/// An attempt at a moment as it is seen under a mask, with what is seen of the judgement type, by
+/// its place, that was released on it last. It takes no memory.
 pub fn seen_attempt(
     mask: Mask,
     settings: &Settings,

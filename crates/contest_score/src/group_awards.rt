@@ -1,8 +1,10 @@
 //! Who won each group.
-ghost use Rattle.std.specs.Prelude.{◌≡◌, ℕ, ◌<◌, ◌&&◌, ◌++◌, IfOk, OnOk, All, filter, length, map, nat_le, nat_lt};
+ghost use Rattle.std.specs.Prelude.{◌≡◌, ℕ, ◌<◌, ◌&&◌, ◌++◌, IfOk, OnOk, All, filter, length, map};
+ghost use Rattle.std.specs.Prelude.{nat_le, nat_lt};
 ghost use Rattle.std.specs.List.{list_all, range_with_len};
 ghost use Rattle.contest_score.specs.declared.row.Row.{Row};
-ghost use Rattle.contest_score.specs.Awards.{award_to, group_order, group_winner, is_in_group, listed, winners};
+ghost use Rattle.contest_score.specs.Awards.{award_to, group_order, group_winner, is_in_group};
+ghost use Rattle.contest_score.specs.Awards.{listed, winners};
 ghost use Rattle.contest_score.specs.AwardSteps.{is_within, lesser};
 ghost use Rattle.contest_score.specs.Keys.{TellsGroup};
 

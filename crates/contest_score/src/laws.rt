@@ -2,7 +2,10 @@
 //! contest.
 ghost use Rattle.std.specs.Prelude.{List};
 ghost use Rattle.contest_score.specs.declared.attempt.Attempt.{Attempt as AttemptValue};
-ghost use Rattle.contest_score.specs.Laws.{WhatCounts, OwnCellsAreFull, NoFreezeNoMask, HeldCountsNoFrozen, AlikeScoreTheSame, AlikeRankTheSame, AlikeAwardTheSame, ValidCanBeScored, SeenCellsMakeTheBoard};
+ghost use Rattle.contest_score.specs.Laws.{WhatCounts, OwnCellsAreFull, NoFreezeNoMask};
+ghost use Rattle.contest_score.specs.Laws.{HeldCountsNoFrozen, AlikeScoreTheSame, AlikeRankTheSame};
+ghost use Rattle.contest_score.specs.Laws.{AlikeAwardTheSame, ValidCanBeScored};
+ghost use Rattle.contest_score.specs.Laws.{SeenCellsMakeTheBoard};
 
 /// An attempt counts exactly where no earlier one solves.
 pub fn what_counts()

@@ -8,9 +8,8 @@ ghost use Rattle.contest_score.specs.Table.{cell_in};
 
 use crate::counting::plain_cells;
 use crate::last_verdicts::judged_submissions;
-use crate::submission::has_started;
 use crate::table::PlainCells;
-use contest_types::{Audience, Fixed, Moment, Refusal, Release, Settings, Submission};
+use contest_types::{Audience, Fixed, Moment, Refusal, Release, Settings, Submission, has_come};
 use std::alloc::Global;
 
 /// The cells of every team at every problem, as a caller sees them now, of a contest's submissions
@@ -40,8 +39,8 @@ pub fn contest_cells(
 }
 
 /// Whether the lists can be scored: each submission names a team and a problem that are there, and
-/// isn't before the start, which is then set; each release names a judgement type that is there; and
-/// there are fewer than 4,294,967,296 submissions.
+/// isn't before the start, which is then set; each release names a judgement type that is there;
+/// and there are fewer than 4,294,967,296 submissions.
 pub fn can_be_scored(fixed: &Fixed, submissions: &[Submission], releases: &[Release]) -> bool
     ensures { IsTrue result ↔ CanBeScored fixed.now submissions.now releases.now }
 {
@@ -63,7 +62,7 @@ fn is_countable(fixed: &Fixed, submission: &Submission) -> bool
 {
     submission.team < fixed.settings.teams().len()
         && submission.problem < fixed.settings.problems().len()
-        && has_started(&fixed.marks, submission.time)
+        && has_come(fixed.marks.start, submission.time)
 }
 
 fn are_of_types(settings: &Settings, releases: &[Release]) -> bool

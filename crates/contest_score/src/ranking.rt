@@ -63,8 +63,8 @@ fn board_of<C: Cells, S: Shown>(
 /// minute; equal teams share a rank, and the next one counts them all (Contest Control System
 /// Requirements, "Scoring"). The columns are the problems by ordinal, and then by id.
 ///
-/// The board of a group, whose place in the settings is given, from 0, has its teams alone, which are
-/// ranked among each other (own).
+/// The board of a group, whose place in the settings is given, from 0, has its teams alone, which
+/// are ranked among each other (own).
 ///
 /// # Errors
 ///

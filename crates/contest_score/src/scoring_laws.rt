@@ -1,8 +1,20 @@
 //! Laws of the scoring that a contest director may ask for: functions that do nothing, and whose
 //! contracts say what holds of every contest and every board.
-ghost use Rattle.contest_score.specs.ScoringLaws.{CellsScoreTheSeen, BoardsScoreTheSeen, AllReadTheJurysCells, AllReadTheJurysBoard, AllReadTheJurysAwards, JurysBoardStays, JurysBoardIgnoresTheFreeze, HiddenMovesNoBoard, HiddenMovesNoAward, NothingElseScores, NothingElseAwards, SubmissionMovesOneCell, ReleaseMovesItsCell, ReleaseMovesOneCell, NothingAfterAccepted, LastIsTheLatest};
-ghost use Rattle.contest_score.specs.BoardLaws.{ShownTeamsStand, NoTeamStandsTwice, RowsStandInOrder, RowsHaveEachProblem, ProblemsStandOnce, RanksCountTheBetter, RanksFollowTheScores};
-ghost use Rattle.contest_score.specs.AwardLaws.{OneMedalATeam, NoMedalOffTheBoard, FirstAwardIsOfTheFirst, SolvedHasAFirst, GroupsStandOnce, SolvedHasAGroupWinner};
+ghost use Rattle.contest_score.specs.ScoringLaws.{CellsScoreTheSeen, BoardsScoreTheSeen};
+ghost use Rattle.contest_score.specs.ScoringLaws.{AllReadTheJurysCells, AllReadTheJurysBoard};
+ghost use Rattle.contest_score.specs.ScoringLaws.{AllReadTheJurysAwards, JurysBoardStays};
+ghost use Rattle.contest_score.specs.ScoringLaws.{JurysBoardIgnoresTheFreeze, HiddenMovesNoBoard};
+ghost use Rattle.contest_score.specs.ScoringLaws.{HiddenMovesNoAward, NothingElseScores};
+ghost use Rattle.contest_score.specs.ScoringLaws.{NothingElseAwards, SubmissionMovesOneCell};
+ghost use Rattle.contest_score.specs.ScoringLaws.{ReleaseMovesItsCell, ReleaseMovesOneCell};
+ghost use Rattle.contest_score.specs.ScoringLaws.{NothingAfterAccepted, LastIsTheLatest};
+ghost use Rattle.contest_score.specs.BoardLaws.{ShownTeamsStand, NoTeamStandsTwice};
+ghost use Rattle.contest_score.specs.BoardLaws.{RowsStandInOrder, RowsHaveEachProblem};
+ghost use Rattle.contest_score.specs.BoardLaws.{ProblemsStandOnce, RanksCountTheBetter};
+ghost use Rattle.contest_score.specs.BoardLaws.{RanksFollowTheScores};
+ghost use Rattle.contest_score.specs.AwardLaws.{OneMedalATeam, NoMedalOffTheBoard};
+ghost use Rattle.contest_score.specs.AwardLaws.{FirstAwardIsOfTheFirst, SolvedHasAFirst};
+ghost use Rattle.contest_score.specs.AwardLaws.{GroupsStandOnce, SolvedHasAGroupWinner};
 
 /// Each cell is pass-fail scoring of the verdicts that its reader may see.
 pub fn cells_score_the_seen()
@@ -49,8 +61,8 @@ pub fn hidden_moves_no_award()
     ensures { HiddenMovesNoAward }
 {}
 
-/// No proposal, rejudging or clarification changes a cell or a board; only submissions, releases, the
-/// start, the thaw, and new types, problems and teams may.
+/// No proposal, rejudging or clarification changes a cell or a board; only submissions, releases,
+/// the start, the thaw, and new types, problems and teams may.
 pub fn nothing_else_scores()
     ensures { NothingElseScores }
 {}
@@ -121,8 +133,8 @@ pub fn ranks_follow_the_scores()
     ensures { RanksFollowTheScores }
 {}
 
-/// A team has one kind of medal where it solved a problem and its rank is one of the medals' places,
-/// and none elsewhere.
+/// A team has one kind of medal where it solved a problem and its rank is one of the medals'
+/// places, and none elsewhere.
 pub fn one_medal_a_team()
     ensures { OneMedalATeam }
 {}

@@ -8,7 +8,8 @@ ghost use Rattle.contest_score.specs.Lists.{CanBeScored};
 ghost use Rattle.contest_score.specs.MaskedCells.{verdict_of};
 ghost use Rattle.contest_score.specs.Ranking.{is_public, shown_teams};
 ghost use Rattle.contest_score.specs.Scoring.{solves_by};
-ghost use Rattle.contest_score.specs.SolveSteps.{first_time, solve_at, team_solves, time_in, timed_with};
+ghost use Rattle.contest_score.specs.SolveSteps.{first_time, solve_at, team_solves, time_in};
+ghost use Rattle.contest_score.specs.SolveSteps.{timed_with};
 
 use crate::last_verdicts::judged_submissions;
 use crate::solve::Solve;
@@ -22,9 +23,9 @@ use std::collections::HashMap;
 /// When each team first solved each problem, by the places of both.
 type FirstTimes = HashMap<(usize, usize), Moment>;
 
-/// Each problem that a team solved which isn't hidden, with the time of its first submission that solves
-/// it, by all verdicts (Contest Control System Requirements, "Scoring"). The lists are those that
-/// `contest_cells` takes; no file is read.
+/// Each problem that a team solved which isn't hidden, with the time of its first submission that
+/// solves it, by all verdicts (Contest Control System Requirements, "Scoring"). The lists are those
+/// that `contest_cells` takes; no file is read.
 ///
 /// # Errors
 ///

@@ -16,7 +16,8 @@ use contest_types::{Settings, Team};
 use std::alloc::{AllocError, Global};
 use std::cmp::Ordering;
 
-/// A shown team's cells and score, and what decides between equal scores: its name, and then its id.
+/// A shown team's cells and score, and what decides between equal scores: its name, and then its
+/// id.
 #[derive(Drop)]
 pub struct Standing<'a> {
     pub place: usize,

@@ -1,9 +1,8 @@
 //! Submissions as scoring reads them.
 ghost use Rattle.std.specs.Prelude.{◌≡◌, ◌↔◌, ◌<◌, IsTrue, IfSome, All};
-ghost use Rattle.contest_types.specs.Clock.{reached};
 ghost use Rattle.contest_score.specs.MaskedCells.{IsAdmitted};
 
-use contest_types::{Marks, Moment, Settings};
+use contest_types::{Marks, Moment, Settings, has_come};
 
 /// A submission with the last verdict that was released on it. Team, problem and judgement type go
 /// by their places in the settings, from 0.
@@ -35,7 +34,7 @@ fn is_admitted(settings: &Settings, marks: &Marks, submission: &JudgedSubmission
     (submission.team as usize) < settings.teams().len()
         && (submission.problem as usize) < settings.problems().len()
         && is_place(submission.verdict, settings.judgement_types().len())
-        && has_started(marks, submission.time)
+        && has_come(marks.start, submission.time)
 }
 
 /// Whether a place, where there is one, is below a number.
@@ -45,15 +44,5 @@ fn is_place(place: Option<u32>, number: usize) -> bool
     match place {
         None => true,
         Some(place) => (place as usize) < number,
-    }
-}
-
-/// Whether the contest has started at a moment.
-pub fn has_started(marks: &Marks, time: Moment) -> bool
-    ensures { result ≡ reached marks.now.start time }
-{
-    match marks.start {
-        None => false,
-        Some(start) => start.milliseconds() <= time.milliseconds(),
     }
 }

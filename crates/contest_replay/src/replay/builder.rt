@@ -1,8 +1,11 @@
 //! A contest as the records of a replay build it up.
-ghost use Rattle.std.specs.Prelude.{◌≡◌, ◌<◌, ◌≤◌, ◌∷◌, [], Bool, true, Ok, IfOk, IfErr, OnOk, length};
+ghost use Rattle.std.specs.Prelude.{◌≡◌, ◌<◌, ◌≤◌, ◌∷◌, [], Bool, true, Ok, IfOk, IfErr, OnOk};
+ghost use Rattle.std.specs.Prelude.{length};
 ghost use Rattle.contest_types.specs.Additions.{IsFaultOf};
 ghost use Rattle.contest_types.specs.Valid.{is_valid};
-ghost use Rattle.contest_replay.specs.ReplayLists.{any_language, lists_of_head, with_type_row, with_problem_row, with_team_row, with_submission, submission_addition, within};
+ghost use Rattle.contest_replay.specs.ReplayLists.{any_language, lists_of_head, with_type_row};
+ghost use Rattle.contest_replay.specs.ReplayLists.{with_problem_row, with_team_row};
+ghost use Rattle.contest_replay.specs.ReplayLists.{with_submission, submission_addition, within};
 ghost use Rattle.contest_replay.specs.ReplayContest.{replay_contest, marks_for};
 ghost use Rattle.contest_replay.specs.ReplayState.{AreThere};
 
@@ -18,7 +21,8 @@ use contest_types::{
 use std::alloc::Global;
 use std::marker::Model;
 
-/// The contest of the records that were taken so far. Contracts see the settings and the submissions.
+/// The contest of the records that were taken so far. Contracts see the settings and the
+/// submissions.
 #[derive(Drop)]
 pub(crate) struct ReplayBuilder {
     settings: Settings,
@@ -52,11 +56,7 @@ fn any_language(alloc: Global) -> Result<Language, RowFault>
         Ok(None) => unreachable!(),
         Err(refusal) => return Err(memory_of(refusal)),
     };
-    Ok(Language {
-        id,
-        name,
-        entry_point_required: false,
-    })
+    Ok(Language::new(id, name))
 }
 
 // Settings in which nothing stands yet get it.

@@ -1,12 +1,15 @@
 //! A replay file, judged as it is read.
-ghost use Rattle.std.specs.Prelude.{◌≡◌, ◌≤◌, ◌+◌, ◌∷◌, ◌^◌, ◌||◌, ℕ, Bool, true, false, List, [], None, Ok, Err, OnOk, IfOk, IfErr, IsSome, length};
+ghost use Rattle.std.specs.Prelude.{◌≡◌, ◌≤◌, ◌+◌, ◌∷◌, ◌^◌, ◌||◌, ℕ, Bool, true, false, List, []};
+ghost use Rattle.std.specs.Prelude.{None, Ok, Err, OnOk, IfOk, IfErr, IsSome, length};
 ghost use Rattle.csv.specs.Reading.{records};
 ghost use Rattle.csv.specs.Records.{fields_of};
 ghost use Rattle.contest_types.specs.Valid.{is_valid};
 ghost use Rattle.contest_replay.specs.ReplayContest.{replay_contest, marks_for};
 ghost use Rattle.contest_replay.specs.ReplayRecord.{five_of};
 ghost use Rattle.contest_files.specs.Refused.{Refuses};
-ghost use Rattle.contest_replay.specs.ReplayFile.{contest_in_file, contest_of_records, contest_under, ended, result_from, names_contest, is_header, is_header_text};
+ghost use Rattle.contest_replay.specs.ReplayFile.{contest_in_file, contest_of_records};
+ghost use Rattle.contest_replay.specs.ReplayFile.{contest_under, ended, result_from, names_contest};
+ghost use Rattle.contest_replay.specs.ReplayFile.{is_header, is_header_text};
 
 use super::builder::ReplayBuilder;
 use super::contest::ReplayContest;
@@ -17,8 +20,8 @@ use contest_types::{Cause, Refusal, RowFault};
 use csv::ByteRecord;
 use std::alloc::Global;
 
-/// What was read so far: the contest up to the first fault, that fault, and whether a record named a
-/// contest.
+/// What was read so far: the contest up to the first fault, that fault, and whether a record named
+/// a contest.
 #[derive(Drop)]
 struct Reading {
     so_far: Option<ReplayBuilder>,
@@ -27,8 +30,8 @@ struct Reading {
 }
 
 impl Reading {
-    /// Judges record n, where no earlier one was at fault. A record that can't be read never comes to
-    /// want of memory.
+    /// Judges record n, where no earlier one was at fault. A record that can't be read never comes
+    /// to want of memory.
     fn judge(&mut self, alloc: Global, n: u64, row: &ByteRecord) -> Result<(), Refusal>
         ensures ok { OnOk result ((named : Bool) (rest : List (List (List ℕ)))
             → result_from self.old.so_far self.old.fault named n (fields_of row.now ∷ rest) ≡ result_from self.new.so_far self.new.fault (named || names_contest (fields_of row.now)) (n + 1) rest) }

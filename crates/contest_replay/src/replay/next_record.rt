@@ -1,7 +1,9 @@
 //! One record of a replay, taken into the contest that was read before it.
 ghost use Rattle.std.specs.Prelude.{◌≡◌, Ok, Err, Some, OnOk, IfOk, IfErr, IsOkAnd};
 ghost use Rattle.contest_types.specs.Additions.{IsFaultOf};
-ghost use Rattle.contest_replay.specs.ReplayLists.{first_lists, lists_with, lists_after, or_malformed, with_type_row, with_problem_row, with_team_row};
+ghost use Rattle.contest_replay.specs.ReplayLists.{first_lists, lists_with, lists_after};
+ghost use Rattle.contest_replay.specs.ReplayLists.{or_malformed, with_type_row, with_problem_row};
+ghost use Rattle.contest_replay.specs.ReplayLists.{with_team_row};
 ghost use Rattle.contest_replay.specs.ReplayRows.{type_row, problem_row, team_row};
 ghost use Rattle.contest_replay.specs.ReplayFile.{as_some};
 
@@ -33,8 +35,8 @@ pub(crate) fn take_record(
     }
 }
 
-// Nearly all records are submissions. The functions of the other kinds aren't made part of their caller,
-// where their locals would be cleared at each record.
+// Nearly all records are submissions. The functions of the other kinds aren't made part of their
+// caller, where their locals would be cleared at each record.
 
 /// Takes the first record.
 #[inline(never)]

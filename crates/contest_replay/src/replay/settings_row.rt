@@ -4,7 +4,7 @@ ghost use Rattle.contest_replay.specs.ReplayRows.{head_row, type_row, problem_ro
 
 use super::record::ReplayRecord;
 use contest_files::{flag, flag_or_empty, ordinal, time_span, time_span_or_empty};
-use contest_types::{ContestHead, Id, JudgementType, Medals, Name, Problem, Refusal, Rows, Team};
+use contest_types::{ContestHead, Id, JudgementType, Medals, Name, Problem, Refusal, Team};
 use std::alloc::Global;
 
 /// Minutes for each penalised attempt in a replay.
@@ -70,12 +70,7 @@ pub(crate) fn type_in(
     let Some(penalty) = flag(fields.f3) else {
         return Ok(None);
     };
-    Ok(Some(JudgementType {
-        id,
-        name,
-        solved,
-        penalty,
-    }))
+    Ok(Some(JudgementType::new(id, name, solved, penalty)))
 }
 
 /// The problem of a record `problem`: id, label, name and ordinal.
@@ -99,12 +94,7 @@ pub(crate) fn problem_in(
     let Some(name) = Name::from_bytes(alloc, fields.f2)? else {
         return Ok(None);
     };
-    Ok(Some(Problem {
-        id,
-        label,
-        name,
-        ordinal,
-    }))
+    Ok(Some(Problem::new(id, label, name, ordinal)))
 }
 
 /// The team of a record `team`: id, name, whether it is hidden, and nothing.
@@ -124,10 +114,7 @@ pub(crate) fn team_in(alloc: Global, fields: &ReplayRecord<'_>) -> Result<Option
     if !fields.f3.is_empty() {
         return Ok(None);
     }
-    Ok(Some(Team {
-        id,
-        name,
-        groups: Rows::new(alloc),
-        hidden,
-    }))
+    let mut team = Team::new(alloc, id, name);
+    team.hidden = hidden;
+    Ok(Some(team))
 }

@@ -1,8 +1,11 @@
 //! What a submission's record names.
 ghost use Rattle.std.specs.Prelude.{◌≡◌, ◌<◌, ◌≤◌, IfSome, length};
 ghost use Rattle.contest_types.specs.IdText.{is_id};
-ghost use Rattle.contest_types.specs.declared.limits.TheConstants.{TEAMS, PROBLEMS, JUDGEMENT_TYPES, LONGEST_CONTEST};
-ghost use Rattle.contest_replay.specs.ReplayLists.{refs_of, verdict_place, names_ids, reference_fault};
+ghost use Rattle.contest_types.specs.declared.limits.TheConstants.{TEAMS, PROBLEMS};
+ghost use Rattle.contest_types.specs.declared.limits.TheConstants.{JUDGEMENT_TYPES};
+ghost use Rattle.contest_types.specs.declared.limits.TheConstants.{LONGEST_CONTEST};
+ghost use Rattle.contest_replay.specs.ReplayLists.{refs_of, verdict_place, names_ids};
+ghost use Rattle.contest_replay.specs.ReplayLists.{reference_fault};
 ghost use Rattle.contest_replay.specs.ReplayState.{AreThere};
 
 use super::record::ReplayRecord;
