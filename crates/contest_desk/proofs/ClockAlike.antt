@@ -1,7 +1,8 @@
 -- One mark of the clock, set in two contests that are alike, leaves them alike.
-use Rattle.std.proofs.Common.{◌≡◌, ◌∙◌, ℕ, true, List, [], ◌∷◌, length, map, Option, refl, sym, ap}
+use Rattle.std.proofs.Common.{◌≡◌, ◌∙◌, ℕ, true, [], length, map, Option, sym, ap}
 use Rattle.std.specs.Prelude.{◌&&◌, ◌==◌, if◌then◌else◌}
 use Rattle.std.proofs.lemmas.Bool.{eqb-true}
+use Rattle.std.proofs.lemmas.List.{nil_from_length}
 use Rattle.contest_types.specs.Addable.{is_addable}
 use Rattle.contest_types.specs.Alike.{Alike, TeamSight, Whole, Open, Nothing, own_record, open_record, sight_of}
 use Rattle.contest_types.specs.Masks.{owns}
@@ -10,7 +11,6 @@ use Rattle.contest_types.specs.State.{ContestState, FixedPart, add, submissions_
 use Rattle.contest_types.specs.TeamPlaces.{is_public}
 use Rattle.contest_types.specs.declared.audience.Audience.{Audience}
 use Rattle.contest_types.specs.declared.entry.Entry.TheVariants.{SetFinalized, SetStart, SetThaw}
-use Rattle.contest_types.specs.declared.submission.Submission.{Submission}
 use Rattle.contest_types.proofs.PlaceLemmas.{and_left}
 use Rattle.contest_import.proofs.RowLemmas.{fixed_after}
 
@@ -21,13 +21,9 @@ pub final_alike : (a : Audience) (x y : ContestState) (finalized : ℕ) → Alik
 final_alike a x y finalized h = record { fixed = fixed_after x y (SetFinalized finalized) h.fixed; teams = h.teams; told = h.told }
 
 -- a start is set where no submission stands
-none_of : (ss : List Submission) → length ss ≡ 0 → ss ≡ []
-none_of [] h = refl
-none_of (s ∷ ss) h = absurd (cc h)
-
 none_stands : (x : ContestState) (start : Option ℕ) → is_addable x (SetStart start) ≡ true → x.submissions ≡ []
 none_stands x start can =
-    none_of x.submissions (eqb-true (length x.submissions) 0 (and_left (length x.submissions == 0) (length x.clarifications == 0) (and_left ((length x.submissions == 0) && (length x.clarifications == 0)) _ can)))
+    nil_from_length x.submissions (eqb-true (length x.submissions) 0 (and_left (length x.submissions == 0) (length x.clarifications == 0) (and_left ((length x.submissions == 0) && (length x.clarifications == 0)) _ can)))
 
 -- what is learned of a team then goes by the settings alone
 sight_of_none : Audience → (team : ℕ) → Setup → TeamSight

@@ -14,6 +14,7 @@ pub mod RunLemmas
 pub mod SettingsAlike
 pub mod ClockAlike
 pub mod MovesAlike
+pub mod ReorderedAlike
 pub mod TwoRunLemmas
 pub mod RepeatLemmas
 pub mod BoardLemmas

@@ -1,7 +1,7 @@
 -- A run, item by item.
-use Rattle.std.proofs.Common.{ℕ, ◌≡◌, ◌∙◌, List, [], ◌∷◌, ◌++◌, append-nil, length, arith, refl, sym, ap, subst, inl, inr}
+use Rattle.std.proofs.Common.{ℕ, ◌≡◌, ◌∙◌, List, [], ◌∷◌, ◌++◌, append-nil, length, refl, sym, ap, subst, inl, inr}
 use Rattle.std.specs.Prelude.{◌⊎◌, Bool, true, false, IsTrue, IsFalse, Option, Some, All}
-use Rattle.std.proofs.lemmas.List.{append_assoc}
+use Rattle.std.proofs.lemmas.List.{append_assoc, nil_from_length}
 use Rattle.std.proofs.lemmas.List.Elements.{All-pop}
 use Rattle.contest_types.specs.State.{ContestState}
 use Rattle.contest_streams.specs.Streams.{one_more}
@@ -19,12 +19,8 @@ pub record GoesOn (first now : Kept) (items rest : List Item) (answers : List An
   pub leaves : (more : List Answer) (c : Option ContestState) → LeavesAfter now.may_leave here rest more c → LeavesAfter first.may_leave first.contest items (answers ++ more) c
   pub same : IsTrue now.is_open → now.contest ≡ here
 
-nothing : {X : Type 0} (xs : List X) → length xs ≡ 0 → xs ≡ []
-nothing [] none = refl
-nothing (x ∷ xs) none = absurd (omega (arith, none))
-
 -- where more could be left before, more can be left after
-wider : (before other : Option ContestState → Type 0) → ((d : Option ContestState) → before d → other d) → (x : ContestState) (items : List Item) (answers : List Answer) (c : Option ContestState)
+pub wider : (before other : Option ContestState → Type 0) → ((d : Option ContestState) → before d → other d) → (x : ContestState) (items : List Item) (answers : List Answer) (c : Option ContestState)
     → LeavesAfter before x items answers c → LeavesAfter other x items answers c
 wider before other w x [] [] c l = w c l
 wider before other w x [] (answer ∷ answers) c l = absurd l
@@ -92,12 +88,12 @@ handled first old new items rest left answers replied item answer one more h g =
 
 pub ends : (first now : Kept) (items rest : List Item) (answers : List Answer) → length rest ≡ 0 → GoesOn first now items rest answers → RunsTo first now items answers
 ends first now items rest answers none g =
-    (g.here, subst (λ rs. IsRun first.contest items rs g.here) (append-nil answers) (g.runs [] g.here (subst (λ is. IsRun g.here is [] g.here) (sym (nothing rest none)) refl)), g.same)
+    (g.here, subst (λ rs. IsRun first.contest items rs g.here) (append-nil answers) (g.runs [] g.here (subst (λ is. IsRun g.here is [] g.here) (sym (nil_from_length rest none)) refl)), g.same)
 
 pub leaves_at_end : (first now : Kept) (items rest : List Item) (answers : List Answer) → length rest ≡ 0 → GoesOn first now items rest answers
     → (c : Option ContestState) → now.may_leave c → LeavesAfter first.may_leave first.contest items answers c
 leaves_at_end first now items rest answers none g c left =
-    subst (λ rs. LeavesAfter first.may_leave first.contest items rs c) (append-nil answers) (g.leaves [] c (subst (λ is. LeavesAfter now.may_leave g.here is [] c) (sym (nothing rest none)) left))
+    subst (λ rs. LeavesAfter first.may_leave first.contest items rs c) (append-nil answers) (g.leaves [] c (subst (λ is. LeavesAfter now.may_leave g.here is [] c) (sym (nil_from_length rest none)) left))
 
 -- a store that answered the last item is open
 pub open_after : (old new : Kept) (item : Item) (answers replied : List Answer) (answer : Answer) → replied ≡ answers ++ answer ∷ [] → Handles old new item answer → All (λ r. IsStoreAnswer r → ⊥) replied → IsTrue new.is_open

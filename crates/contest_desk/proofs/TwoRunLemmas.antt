@@ -2,12 +2,11 @@
 use Rattle.std.proofs.Common.{◌≡◌, ◌∙◌, Bool, true, false, [], ◌∷◌, refl, sym, ap, subst, inl, inr}
 use Rattle.std.specs.Prelude.{◌==◌}
 use Rattle.std.proofs.lemmas.Bool.{false≢true}
-use Rattle.contest_types.specs.Addable.{are_addable}
 use Rattle.contest_types.specs.Alike.{Alike, MayBeHeld}
 use Rattle.contest_types.specs.State.{ContestState, add_all}
 use Rattle.contest_types.specs.Valid.{is_valid}
 use Rattle.contest_types.specs.declared.audience.Audience.{Audience}
-use Rattle.contest_desk.specs.Items.{has_failed, item_step}
+use Rattle.contest_desk.specs.Items.{has_failed, item_entries, item_step}
 use Rattle.contest_desk.specs.Moves.{first_entries, second_entries}
 use Rattle.contest_desk.specs.Runs.{IsServed, IsRun}
 use Rattle.contest_operations.specs.Step.{step}
@@ -21,6 +20,7 @@ use Rattle.contest_operations.specs.declared.reply.Reply.{Reply}
 use Rattle.contest_desk.proofs.ItemLemmas.{failure_is, item_addable, item_adds, item_ordinary, item_unnoticed, items_keep_valid}
 use Rattle.contest_operations.proofs.LawLemmas.{step_alike}
 use Rattle.contest_desk.proofs.MovesAlike.{moves_stay_alike, turned}
+use Rattle.contest_desk.proofs.ReorderedAlike.{added_alike, added_may}
 use Rattle.contest_desk.proofs.UnseenLemmas.{alike_onward}
 
 itself : (a : Audience) (x : ContestState) → Alike a x x
@@ -67,12 +67,17 @@ goes_unnoticed a x i r (inr h) =
 
 theirs_alike : (a : Audience) (x y : ContestState) (i j : Item) (r q : Answer) → is_valid x ≡ true → is_valid y ≡ true → Alike a x y → AreTheirs a x y i j r q → Alike a (after_answer x i r) (after_answer y j q)
 theirs_alike a x y i j r q valid_x valid_y h t =
-    let left : after_answer x i r ≡ add_all x (first_entries t.moves) = after_answered x i r t.answered ∙ (item_adds x i ∙ ap (add_all x) t.adds) in
-    let right : after_answer y j q ≡ add_all y (second_entries t.moves) = after_answered y j q t.answered_too ∙ (item_adds y j ∙ ap (add_all y) t.adds_too) in
-    let can : are_addable x (first_entries t.moves) ≡ true = sym (ap (are_addable x) t.adds) ∙ item_addable x i valid_x in
-    let can_too : are_addable y (second_entries t.moves) ≡ true = sym (ap (are_addable y) t.adds_too) ∙ item_addable y j valid_y in
+    let left : after_answer x i r ≡ add_all x (item_entries x i) = after_answered x i r t.answered ∙ item_adds x i in
+    let right : after_answer y j q ≡ add_all y (item_entries y j) = after_answered y j q t.answered_too ∙ item_adds y j in
+    let can = added_may a x (item_entries x i) (first_entries t.moves) (item_addable x i valid_x) t.adds in
+    let can_too = added_may a y (item_entries y j) (second_entries t.moves) (item_addable y j valid_y) t.adds_too in
     let both = moves_stay_alike a x y t.moves valid_x valid_y h can can_too t.alike in
-    subst (λ z. Alike a z (after_answer y j q)) (sym left) (subst (λ z. Alike a (add_all x (first_entries t.moves)) z) (sym right) both)
+    let first : Alike a (add_all x (item_entries x i)) (add_all y (second_entries t.moves)) =
+    alike_onward a (add_all x (item_entries x i)) (add_all x (first_entries t.moves)) (add_all y (second_entries t.moves)) (added_alike a x (item_entries x i) (first_entries t.moves) t.adds) both in
+    let second : Alike a (add_all y (second_entries t.moves)) (add_all y (item_entries y j)) =
+    turned a (add_all y (item_entries y j)) (add_all y (second_entries t.moves)) (added_alike a y (item_entries y j) (second_entries t.moves) t.adds_too) in
+    let all = alike_onward a (add_all x (item_entries x i)) (add_all y (second_entries t.moves)) (add_all y (item_entries y j)) first second in
+    subst (λ z. Alike a z (after_answer y j q)) (sym left) (subst (λ z. Alike a (add_all x (item_entries x i)) z) (sym right) all)
 
 pub runs_alike : RunsAlike
 runs_alike a x y [] last final other valid_x valid_y h ends_x ends_y turns =

@@ -8,6 +8,7 @@ pub mod Imports
 pub mod Items
 pub mod Doing
 pub mod Runs
+pub mod Reordering
 pub mod Moves
 pub mod TwoRuns
 pub mod Repeats

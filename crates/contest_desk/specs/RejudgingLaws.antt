@@ -1,5 +1,5 @@
 -- Rejudgings, in the subject's words: applied whole or not at all, and unseen until then. Each law is the contract of a
--- function of src/rejudgings.rt.
+-- function of src/laws/rejudgings.rt.
 use Rattle.std.specs.Prelude.{◌≡◌, ◌⊎◌, ℕ, List, [], ◌++◌, length, Some}
 use Rattle.std.specs.List.{filter_map}
 use Rattle.contest_types.specs.Order.{Has}

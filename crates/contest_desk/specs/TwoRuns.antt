@@ -9,6 +9,7 @@ use Rattle.contest_types.specs.declared.audience.Audience.TheVariants.{Jury}
 use Rattle.contest_desk.specs.Items.{has_failed, item_entries, item_step}
 use Rattle.contest_operations.specs.Laws.{HasSight}
 use Rattle.contest_desk.specs.Moves.{Move, first_entries, second_entries, AreAlikeMoves}
+use Rattle.contest_desk.specs.Reordering.{AreAddedAs}
 use Rattle.contest_desk.specs.Runs.{IsRun}
 use Rattle.contest_desk.specs.UnseenLaws.{IsUnnoticedItem}
 use Rattle.contest_desk.specs.declared.item.Answer.{Answer}
@@ -86,13 +87,13 @@ pub record IsMine (a : Audience) (x : ContestState) (i : RequestItem) (r q : Rep
   pub answered : (r.status == 503) ≡ false
   pub answered_too : (q.status == 503) ≡ false
 
--- items of others that fail in neither run, and add what shows the audience the same
+-- items of others that fail in neither run, and add what shows the audience the same, be it in another order
 pub record AreTheirs (a : Audience) (x y : ContestState) (i j : Item) (r q : Answer) : Type 0 where
   pub answered : has_failed r ≡ false
   pub answered_too : has_failed q ≡ false
   pub moves : List Move
-  pub adds : item_entries x i ≡ first_entries moves
-  pub adds_too : item_entries y j ≡ second_entries moves
+  pub adds : AreAddedAs x (item_entries x i) (first_entries moves)
+  pub adds_too : AreAddedAs y (item_entries y j) (second_entries moves)
   pub alike : AreAlikeMoves a x y moves
 
 abbrev pub AreAlikeTurns : Audience → (x y : ContestState) → List Turn → Type 0
@@ -104,7 +105,7 @@ AreAlikeTurns a x y (Mine i r q ∷ ts) =
 AreAlikeTurns a x y (Theirs i r j q ∷ ts) = AreTheirs a x y i j r q × AreAlikeTurns a (after_answer x i r) (after_answer y j q) ts
 
 -- two contests that agree on what an audience may learn answer it alike for as long as they run, and
--- agree on it at their ends, whatever else they are asked in between
+-- agree on it at their ends, as long as they are asked by such turns
 abbrev pub RunsAlike : Type 0
 RunsAlike =
     (a : Audience) (x y : ContestState) (turns : List Turn) (last final : ContestState) → a ≢ Jury → is_valid x ≡ true → is_valid y ≡ true → Alike a x y

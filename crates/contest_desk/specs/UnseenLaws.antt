@@ -1,5 +1,5 @@
 -- What an audience can't notice leaves the contest alike for it. Each law is the contract of a function
--- of src/unseen.rt.
+-- of src/laws/unseen.rt.
 use Rattle.std.specs.Prelude.{◌≡◌, ◌≢◌, ◌⊎◌, ℕ, true, List, Err}
 use Rattle.contest_types.specs.State.{ContestState, add, add_all}
 use Rattle.contest_types.specs.Alike.{Alike}

@@ -1,4 +1,4 @@
--- Imported verdicts, in the subject's words. Each law is the contract of a function of src/verdicts.rt.
+-- Imported verdicts, in the subject's words. Each law is the contract of a function of src/laws/verdicts.rt.
 use Rattle.std.specs.Prelude.{◌≡◌, ℕ, true, List}
 use Rattle.contest_types.specs.Order.{Has}
 use Rattle.contest_types.specs.State.{ContestState}

@@ -4,9 +4,10 @@ ghost use Rattle.contest_score.specs.Ranking.{Scoreboard};
 ghost use Rattle.contest_store.specs.declared.store_error.StoreError.{StoreError as TheStoreError};
 ghost use Rattle.contest_view.specs.Scoreboards.{board_found};
 ghost use Rattle.contest_desk.specs.Serving.{IsSettled, OnlyReads};
-ghost use Rattle.contest_desk.specs.Boards.{board_told};
+ghost use Rattle.contest_desk.specs.Boards.{found_told};
 
 use crate::Desk;
+use crate::found::found_told;
 use contest_score::Board;
 use contest_store::{ContestStore, StoreError};
 use contest_types::{Audience, Moment, Refusal};
@@ -41,8 +42,8 @@ impl<S: ContestStore> Desk<S> {
     ///
     /// # Errors
     ///
-    /// `NotFound` for a team that isn't there, `StoreFault` where the store failed, which counts it, and
-    /// `Memory` where a growth was refused.
+    /// `NotFound` for a team that isn't there, `StoreFault` where the store failed, which counts
+    /// it, and `Memory` where a growth was refused.
     pub fn board(
         &mut self,
         alloc: Global,
@@ -51,18 +52,18 @@ impl<S: ContestStore> Desk<S> {
     ) -> Result<Board, Refusal>
         ensures board { (S.kept self.new).is_clean → IfOk result (λ b. board_found audience now None (S.kept self.old).contest ≡ Some b) }
         ensures missing { (S.kept self.new).is_clean → result ≡ Err Refusal.NotFound → board_found audience now None (S.kept self.old).contest ≡ None }
-        ensures leaves { (r : Result (Option Scoreboard) TheStoreError) × (result ≡ board_told r) × OnlyReads r (S.kept self.old) (S.kept self.new) }
+        ensures leaves { (r : Result (Option Scoreboard) TheStoreError) × (result ≡ found_told r) × OnlyReads r (S.kept self.old) (S.kept self.new) }
     {
         self.board_of(alloc, now, audience, None)
     }
 
-    /// The board of the group at a place in the settings, from 0, as an audience sees it at a moment: its
-    /// teams alone, ranked among each other (own). The contest stays as it is.
+    /// The board of the group at a place in the settings, from 0, as an audience sees it at a
+    /// moment: its teams alone, ranked among each other (own). The contest stays as it is.
     ///
     /// # Errors
     ///
-    /// `NotFound` for a team or a group that isn't there, `StoreFault` where the store failed, which counts
-    /// it, and `Memory` where a growth was refused.
+    /// `NotFound` for a team or a group that isn't there, `StoreFault` where the store failed,
+    /// which counts it, and `Memory` where a growth was refused.
     pub fn group_board(
         &mut self,
         alloc: Global,
@@ -72,7 +73,7 @@ impl<S: ContestStore> Desk<S> {
     ) -> Result<Board, Refusal>
         ensures board { (S.kept self.new).is_clean → IfOk result (λ b. board_found audience now (Some group) (S.kept self.old).contest ≡ Some b) }
         ensures missing { (S.kept self.new).is_clean → result ≡ Err Refusal.NotFound → board_found audience now (Some group) (S.kept self.old).contest ≡ None }
-        ensures leaves { (r : Result (Option Scoreboard) TheStoreError) × (result ≡ board_told r) × OnlyReads r (S.kept self.old) (S.kept self.new) }
+        ensures leaves { (r : Result (Option Scoreboard) TheStoreError) × (result ≡ found_told r) × OnlyReads r (S.kept self.old) (S.kept self.new) }
     {
         self.board_of(alloc, now, audience, Some(group))
     }
@@ -87,18 +88,8 @@ impl<S: ContestStore> Desk<S> {
     ) -> Result<Board, Refusal>
         ensures board { (S.kept self.new).is_clean → IfOk result (λ b. board_found audience now group (S.kept self.old).contest ≡ Some b) }
         ensures missing { (S.kept self.new).is_clean → result ≡ Err Refusal.NotFound → board_found audience now group (S.kept self.old).contest ≡ None }
-        ensures leaves { (r : Result (Option Scoreboard) TheStoreError) × (result ≡ board_told r) × OnlyReads r (S.kept self.old) (S.kept self.new) }
+        ensures leaves { (r : Result (Option Scoreboard) TheStoreError) × (result ≡ found_told r) × OnlyReads r (S.kept self.old) (S.kept self.new) }
     {
-        told(found(alloc, &mut self.store, now, audience, group))
-    }
-}
-
-// The board, or why there is none.
-fn told(found: Result<Option<Board>, StoreError>) -> Result<Board, Refusal>
-    ensures { result ≡ board_told found }
-{
-    match found {
-        Ok(found) => found.ok_or(Refusal::NotFound),
-        Err(error) => Err(error.refusal()),
+        found_told(found(alloc, &mut self.store, now, audience, group))
     }
 }

@@ -65,21 +65,21 @@ impl<S: ContestStore> Desk<S> {
         self.store
     }
 
-    /// It does nothing: its contract says that the contest is valid, and that no change stands which isn't
-    /// committed, while the store is open and read right.
+    /// It does nothing: its contract says that the contest is valid, and that no change stands
+    /// which isn't committed, while the store is open and read right.
     pub fn stays_settled(&self)
         ensures { IsSettled (S.kept self.now) }
     {
         let _ = &self.store;
     }
 
-    /// Answers a request at a moment, and keeps what it adds by one commit. Refusals come in the order
-    /// route, method, token, role, body, references, domain.
+    /// Answers a request at a moment, and keeps what it adds by one commit. Refusals come in the
+    /// order route, method, token, role, body, references, domain.
     ///
     /// The reply and the contest afterwards are what one step of the machine gives; where the store
-    /// fails or a growth is refused the reply says so and, while the store is open, the contest is as
-    /// before. Want of memory never shuts the store. Until the thaw the reply is the same over every
-    /// contest that is alike for the caller.
+    /// fails or a growth is refused the reply says so and, while the store is open, the contest is
+    /// as before. The store is shut only if what lies under it failed meanwhile. Until the thaw the
+    /// reply is the same over every contest that is alike for the caller.
     pub fn handle(
         &mut self,
         alloc: Global,

@@ -60,17 +60,19 @@ fn keep_rows<S: ContestStore>(
 }
 
 impl<S: ContestStore> Desk<S> {
-    /// Imports a file at a moment, and keeps what it adds by one commit: all of its rows or none. The
-    /// answer is the number of records that added something; one that stands with equal content adds nothing.
+    /// Imports a file at a moment, and keeps what it adds by one commit: all of its rows or none.
+    /// The answer is the number of records that added something; one that stands with equal content
+    /// adds nothing.
     ///
-    /// Where the store fails or a growth is refused the contest, while the store is open, is as before.
+    /// Where the store fails or a growth is refused the contest, while the store is open, is as
+    /// before.
     ///
     /// # Errors
     ///
-    /// `BodyTooLarge` for a file over its limit; `Malformed` for one that as a whole is off its form;
-    /// `ImportRow` for its first record at fault, with the record's number, from 1, and the cause;
-    /// `SettingsClosed` for settings that would add a row once the contest has started or a submission
-    /// stands; `StoreFault` and `Memory` where the store failed or a growth was refused.
+    /// `BodyTooLarge` for a file over its limit; `Malformed` for one that as a whole is off its
+    /// form; `ImportRow` for its first record at fault, with the record's number, from 1, and the
+    /// cause; `SettingsClosed` for settings that would add a row once the contest has started or a
+    /// submission stands; `StoreFault` and `Memory` where the store failed or a growth was refused.
     pub fn import(
         &mut self,
         alloc: Global,

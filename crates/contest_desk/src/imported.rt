@@ -1,22 +1,22 @@
 //! What a file adds to a contest at a moment, before any of it is kept.
 ghost use Rattle.std.specs.Prelude.{◌≡◌, ◌≢◌, true, IfErr, IfOk, Ok, length, nat_lt};
-ghost use Rattle.contest_types.specs.Clock.{reached};
 ghost use Rattle.contest_types.specs.State.{ContestState};
 ghost use Rattle.contest_types.specs.Valid.{is_valid};
 ghost use Rattle.contest_lists.specs.Lists.{loaded};
 ghost use Rattle.contest_files.specs.Refused.{Refuses};
-ghost use Rattle.contest_desk.specs.Imports.{are_closed, count_of, file_rows, imported, is_of_settings, unless_closed};
+ghost use Rattle.contest_desk.specs.Imports.{are_closed, count_of, file_rows, imported};
+ghost use Rattle.contest_desk.specs.Imports.{is_of_settings, unless_closed};
 ghost use Rattle.contest_desk.specs.Items.{HasStoreError};
 
 use contest_import::read_import;
 use contest_import_verdicts::read_verdicts_csv;
 use contest_lists::Lists;
 use contest_types::limits::IMPORTED_FILE;
-use contest_types::{Entry, FixedKind, ImportKind, Moment, Refusal, Rows};
+use contest_types::{Entry, FixedKind, ImportKind, Moment, Refusal, Rows, has_come};
 use std::alloc::{AllocError, Global};
 
-/// What a file adds at a moment, or why it is refused: its size first, then its form, then its first
-/// record at fault, then settings that are closed.
+/// What a file adds at a moment, or why it is refused: its size first, then its form, then its
+/// first record at fault, then settings that are closed.
 ///
 /// # Errors
 ///
@@ -80,17 +80,7 @@ fn is_of_settings(kind: ImportKind) -> bool
 fn are_closed(lists: &Lists, now: Moment) -> bool
     ensures { result ≡ are_closed lists.now now }
 {
-    has_started(lists.fixed().marks.start, now) || !lists.submissions().is_empty()
-}
-
-// Whether the start, where one is set, has come.
-fn has_started(start: Option<Moment>, now: Moment) -> bool
-    ensures { result ≡ reached start now }
-{
-    match start {
-        Some(start) => start.milliseconds() <= now.milliseconds(),
-        None => false,
-    }
+    has_come(lists.fixed().marks.start, now) || !lists.submissions().is_empty()
 }
 
 // What would add a row where none is taken is refused.

@@ -1,4 +1,5 @@
-//! What the contracts of a desk say where a contest is kept in memory: no premise about a store is left.
+//! What the contracts of a desk say where a contest is kept in memory: no premise about a store is
+//! left.
 ghost use Rattle.std.specs.Prelude.{◌≡◌, ◌≢◌, true, List, IfOk};
 ghost use Rattle.contest_types.specs.Alike.{Alike, MayBeHeld};
 ghost use Rattle.contest_types.specs.State.{ContestState};
@@ -9,7 +10,8 @@ ghost use Rattle.contest_store.specs.InMemory.{contest_of};
 ghost use Rattle.contest_operations.specs.Laws.{HasSight};
 ghost use Rattle.contest_operations.specs.Replies.{IsStoreReply};
 ghost use Rattle.contest_operations.specs.Step.{step};
-ghost use Rattle.contest_desk.specs.TwoRuns.{Turn, AreAlikeTurns, first_items, first_answers, first_told, second_items, second_answers, second_told};
+ghost use Rattle.contest_desk.specs.TwoRuns.{Turn, AreAlikeTurns, first_items, first_answers};
+ghost use Rattle.contest_desk.specs.TwoRuns.{first_told, second_items, second_answers, second_told};
 
 use crate::{Answer, Desk, Item};
 use contest_operations::Reply;
@@ -36,9 +38,9 @@ pub fn handle_in_memory(
     desk.handle(alloc, now, credential, request)
 }
 
-/// Lets two desks run, each its own requests and imports. Where their contests agree on what an audience
-/// may learn, and the items go by such turns as `runs_alike` says, the audience is answered alike by both,
-/// and they agree on it afterwards.
+/// Lets two desks run, each its own requests and imports. Where their contests agree on what an
+/// audience may learn, and the items go by such turns as `runs_alike` says, the audience is
+/// answered alike by both, and they agree on it afterwards.
 ///
 /// # Errors
 ///

@@ -1,15 +1,22 @@
-//! Laws of the desk: functions that do nothing, and whose contracts say what holds of every contest and
-//! every run. All of them stand here, by subject in the modules beside.
-ghost use Rattle.contest_desk.specs.Laws.{ImportedAgainAddsNothing, ImportsKeepValid, ImportsNeverFail};
+//! Laws of the desk: functions that do nothing, and whose contracts say what holds of every contest
+//! and every run. All of them stand here, by subject in the modules below.
+ghost use Rattle.contest_desk.specs.Laws.{ImportedAgainAddsNothing, ImportsKeepValid};
+ghost use Rattle.contest_desk.specs.Laws.{ImportsNeverFail};
 
-pub use crate::rejudgings::{applied_is_unseen, applied_whole, unapplied_is_unseen};
-pub use crate::repeats::{posts_repeat_once, repeats_once, runs_grow};
-pub use crate::two_runs::{moves_stay_alike, runs_alike};
-pub use crate::unseen::{
+mod rejudgings;
+mod repeats;
+mod two_runs;
+mod unseen;
+mod verdicts;
+
+pub use self::rejudgings::{applied_is_unseen, applied_whole, unapplied_is_unseen};
+pub use self::repeats::{posts_repeat_once, repeats_once, runs_grow};
+pub use self::two_runs::{moves_stay_alike, runs_alike};
+pub use self::unseen::{
     read_step, refused_import, refused_step, unseen_entries, unseen_entry, unseen_import,
     unseen_step,
 };
-pub use crate::verdicts::{imported_verdicts_are_unseen, pending_verdicts_are_unseen};
+pub use self::verdicts::{imported_verdicts_are_unseen, pending_verdicts_are_unseen};
 pub use contest_operations::laws::{
     head_is_get, posts_alike, reads_alike, step_alike, steps_keep_valid, steps_never_fail,
 };

@@ -5,20 +5,16 @@ mod added_count;
 mod awards;
 mod board;
 mod desk;
+mod found;
 mod import;
 mod imported;
 mod in_memory;
 mod item;
 mod keep;
 pub mod laws;
-mod rejudgings;
-mod repeats;
 mod run;
 mod serve;
 mod standing;
-mod two_runs;
-mod unseen;
-mod verdicts;
 
 pub use contest_operations::{
     AllowedMethods, Command, ContentType, Endpoint, ExtraField, Offer, Operation, Reading, Reply,

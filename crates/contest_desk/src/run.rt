@@ -11,9 +11,10 @@ use contest_store::ContestStore;
 use std::alloc::{AllocError, Global};
 
 impl<S: ContestStore> Desk<S> {
-    /// Handles requests and imports files one after another, and gives the answers in order. What was
-    /// answered before a failure is not lost by it: a crash leaves the contest of the last item that was
-    /// answered (where none was, what it could leave before), or that of one which failed since.
+    /// Handles requests and imports files one after another, and gives the answers in order. What
+    /// was answered before a failure is not lost by it: a crash leaves the contest of the last item
+    /// that was answered (where none was, what it could leave before), or that of one which failed
+    /// since.
     ///
     /// # Errors
     ///

@@ -22,12 +22,13 @@ fn standing<S: ContestStore>(alloc: Global, store: &mut S) -> Result<(Settings, 
 }
 
 impl<S: ContestStore> Desk<S> {
-    /// The settings and the marks that stand, for who shows what isn't asked for by a request. The contest
-    /// stays as it is.
+    /// The settings and the marks that stand, for who shows what isn't asked for by a request. The
+    /// contest stays as it is.
     ///
     /// # Errors
     ///
-    /// `StoreFault` where the store failed, which counts it, and `Memory` where a growth was refused.
+    /// `StoreFault` where the store failed, which counts it, and `Memory` where a growth was
+    /// refused.
     pub fn fixed(&mut self, alloc: Global) -> Result<(Settings, Marks), Refusal>
         ensures value { (S.kept self.new).is_clean → IfOk result (λ v. v ≡ ((S.kept self.old).contest.fixed.settings, (S.kept self.old).contest.fixed.marks)) }
         ensures leaves { (r : Result (Setup × TheMarks) TheStoreError) × (result ≡ refused_as r) × OnlyReads r (S.kept self.old) (S.kept self.new) }

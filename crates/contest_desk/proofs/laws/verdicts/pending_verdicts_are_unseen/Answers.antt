@@ -1,0 +1,5 @@
+use Rattle.contest_desk.proofs.VerdictImports as lemmas
+use Rattle.contest_desk.proofs.laws.verdicts.pending_verdicts_are_unseen.Goals as goal
+
+pub returns : goal.returns
+returns c = lemmas.pending_verdicts_are_unseen

@@ -1,5 +1,0 @@
-use Rattle.contest_desk.proofs.RejudgingLemmas as lemmas
-use Rattle.contest_desk.proofs.rejudgings.unapplied_is_unseen.Goals as goal
-
-pub returns : goal.returns
-returns c = lemmas.unapplied_is_unseen

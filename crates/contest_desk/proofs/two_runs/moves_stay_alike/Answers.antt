@@ -1,5 +1,0 @@
-use Rattle.contest_desk.proofs.MovesAlike as lemmas
-use Rattle.contest_desk.proofs.two_runs.moves_stay_alike.Goals as goal
-
-pub returns : goal.returns
-returns c = lemmas.moves_stay_alike

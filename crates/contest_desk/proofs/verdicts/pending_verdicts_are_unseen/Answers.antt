@@ -1,5 +1,0 @@
-use Rattle.contest_desk.proofs.VerdictImports as lemmas
-use Rattle.contest_desk.proofs.verdicts.pending_verdicts_are_unseen.Goals as goal
-
-pub returns : goal.returns
-returns c = lemmas.pending_verdicts_are_unseen
