@@ -15,12 +15,12 @@ use Rattle.contest_types.specs.declared.submission.Submission.{Submission}
 use Rattle.contest_types.proofs.InOrderLemmas.{nothing_added, nothing_lost}
 use Rattle.contest_types.proofs.OrderLemmas.{same_order}
 use Rattle.contest_types.proofs.Rising.{rising, strict}
-use Rattle.contest_types.proofs.SeenWhole.{both_equal, one_submission, same_nat, team_there}
+use Rattle.contest_types.proofs.SeenWhole.{both_equal, one_submission, team_there}
 use Rattle.contest_types.proofs.ValidParts.{parts}
 use Rattle.contest_types.specs.declared.objects.Team.{Team}
-use Rattle.contest_types.proofs.AddSettings.{tests_of}
+use Rattle.contest_types.proofs.SettingsTest.{is_settings}
 use Rattle.contest_types.proofs.Different.{one_place}
-use Rattle.std.proofs.lemmas.Map.Lookups.{exact_bytes}
+use Rattle.std.proofs.lemmas.Map.Lookups.{exact_bytes, exact_unsigned}
 use Rattle.std.specs.declared.cmp.Ordering.TheVariants.{Equal}
 use Rattle.contest_lists.specs.Lists.{loaded}
 use Rattle.contest_objects.proofs.ListingLemmas.{sorted_unmap, unmap}
@@ -34,8 +34,8 @@ pub no_ties : (x : ContestState) → is_valid x ≡ true → (s t : Submission) 
 no_ties x valid s t hs ht e =
     let rest = (both_equal _ _ e).1 in
     let ids = exact_bytes _ _ (both_equal _ _ rest).0 in
-    let team : t.team ≡ s.team = one_place (λ (u : Team). u.id) x.fixed.settings.teams (tests_of x (parts x valid).settings).teams t.team s.team (team_there x t valid ht) (team_there x s valid hs) ids in
-    one_submission x t s valid ht hs team (same_nat _ _ (both_equal _ _ rest).1)
+    let team : t.team ≡ s.team = one_place (λ (u : Team). u.id) x.fixed.settings.teams (is_settings x (parts x valid).settings).teams t.team s.team (team_there x t valid ht) (team_there x s valid hs) ids in
+    one_submission x t s valid ht hs team (exact_unsigned _ _ (both_equal _ _ rest).1)
 
 -- which submissions the loaded rows are, sorted, is which those of the contest are in their order
 pub ordered : (x lists : ContestState) (rows : List Submission) → is_valid x ≡ true → lists ≡ loaded x → IsPermutation lists.submissions rows → IsSorted (row_cmp lists.fixed.settings) rows

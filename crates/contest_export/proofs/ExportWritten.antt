@@ -7,8 +7,9 @@ use Rattle.std.specs.Option.{option_map_or}
 use Rattle.std.proofs.lemmas.Bool.Decides.{nat_tests}
 use Rattle.std.proofs.lemmas.Grind.{flat_map-append}
 use Rattle.std.proofs.lemmas.List.{append_assoc, append-nil, take-append-drop}
+use Rattle.std.proofs.KnownBytes.{Appends-trans}
 use Rattle.contest_streams.specs.Streams.{AppendsFront, Stream}
-use Rattle.contest_streams.proofs.StreamLemmas.{appends_both, front_first, front_second}
+use Rattle.contest_streams.proofs.StreamLemmas.{front_first, front_second}
 use Rattle.contest_store.specs.Keeping.{Kept}
 use Rattle.contest_desk.specs.Serving.{OnlyReads}
 use Rattle.contest_export.specs.Exports.{FailsIfWrite, Writes, next_record}
@@ -59,7 +60,7 @@ written_more old mid new o m n count w next calm reads = record {
       let same : mid.contest ≡ old.contest = (w.reads.ok before).now_is in
       let x = old.contest in
       subst (Appends o.bytes n.bytes) (sym (one_more_text (record_of x) (all_in_order x) count))
-      (appends_both o.bytes m.bytes n.bytes (flat_map (record_of x) (take count (all_in_order x))) (next_record x count) (w.written before) (subst (λ y. Appends m.bytes n.bytes (next_record y count)) same (next clean))));
+      (Appends-trans o.bytes m.bytes n.bytes (flat_map (record_of x) (take count (all_in_order x))) (next_record x count) (w.written before) (subst (λ y. Appends m.bytes n.bytes (next_record y count)) same (next clean))));
 }
 
 -- a front of one more is a front of all
@@ -85,5 +86,5 @@ front_if_err (Err fault) o n text err front = front
 
 -- one text is out, and then another is written
 pub writes_then : (r : Result (Unit {0}) ExportFault) (o m n : Stream) (first rest : List ℕ) → Appends o.bytes m.bytes first → Writes r m n rest → Writes r o n (first ++ rest)
-writes_then (Ok done) o m n first rest out w = appends_both o.bytes m.bytes n.bytes first rest out w
+writes_then (Ok done) o m n first rest out w = Appends-trans o.bytes m.bytes n.bytes first rest out w
 writes_then (Err fault) o m n first rest out w = front_second o.bytes m.bytes n.bytes first rest out w

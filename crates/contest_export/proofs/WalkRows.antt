@@ -15,8 +15,9 @@ use Rattle.contest_types.proofs.PlaceLemmas.{and_left, and_right, both_true}
 use Rattle.contest_types.proofs.SeenWhole.{one_submission}
 use Rattle.contest_view.specs.Rows.{row_cmp}
 use Rattle.contest_view.proofs.NamedLemmas.{none_below, numbered}
-use Rattle.contest_view.proofs.OwnNumbers.{find_both, number_of, own_loaded, own_numbers}
+use Rattle.contest_view.proofs.OwnNumbers.{find_both, number_of, own_numbers}
 use Rattle.contest_export.specs.Walks.{all_in_order, has_numbers, numbers_of}
+use Rattle.contest_types.proofs.OwnLemmas.{own_loaded}
 
 -- the submission with a submission's numbers is itself
 named_is : (x : ContestState) (s : Submission) → is_valid x ≡ true → Has x.submissions s → find (has_numbers (numbers_of s)) x.submissions ≡ Some s

@@ -6,7 +6,8 @@ ghost use Rattle.contest_streams.specs.Streams.{stream};
 ghost use Rattle.contest_lists.specs.Lists.{loaded};
 ghost use Rattle.contest_desk.specs.Serving.{IsReady, IsSettled, OnlyReads};
 ghost use Rattle.contest_export.specs.Exports.{FailsIfWrite, Writes, next_record, of_store};
-ghost use Rattle.contest_export.specs.SubmissionsCsv.{header, last_type, record_of, submissions_csv};
+ghost use Rattle.contest_export.specs.SubmissionsCsv.{header, last_type, record_of};
+ghost use Rattle.contest_export.specs.SubmissionsCsv.{submissions_csv};
 ghost use Rattle.contest_export.specs.Walks.{IsOver, all_in_order, given_by, order_in, stepped};
 
 use crate::Walk;
@@ -27,14 +28,15 @@ pub enum ExportFault {
     Store(StoreError),
 }
 
-/// Writes the submissions of all teams as CSV, by time, team id and number: `id`, `team_id`, `problem_id`,
-/// `language_id`, `time`, `contest_time`, the `judgement_type_id` of the last release, which is empty where
-/// there is none, and the SHA-256 digest of the file in hexadecimal (own). One file is in memory at a time.
+/// Writes the submissions of all teams as CSV, by time, team id and number: `id`, `team_id`,
+/// `problem_id`, `language_id`, `time`, `contest_time`, the `judgement_type_id` of the last
+/// release, which is empty where there is none, and the SHA-256 digest of the file in hexadecimal
+/// (own). One file is in memory at a time.
 ///
 /// # Errors
 ///
-/// `Write` where the stream failed, and `Store` where the store failed or memory was refused: a front of
-/// the text is out then. The contest is as before.
+/// `Write` where the stream failed, and `Store` where the store failed or memory was refused: a
+/// front of the text is out then. The contest is as before.
 pub fn submissions_csv<S: ContestStore, W: Write>(
     alloc: Global,
     store: &mut S,
@@ -81,8 +83,8 @@ fn write_header<W: Write>(alloc: Global, out: &mut Counted<W>) -> Result<(), Exp
     }
 }
 
-// All that the walk gives from its beginning. The lists are in memory (`loaded`), so no row loads any: each
-// asks the store for one file.
+// All that the walk gives from its beginning. The lists are in memory (`loaded`), so no row loads
+// any: each asks the store for one file.
 fn write_rows<S: ContestStore, W: Write>(
     alloc: Global,
     store: &mut S,

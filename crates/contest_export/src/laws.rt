@@ -1,5 +1,5 @@
-//! Laws of the walk and the export: functions that do nothing, and whose contracts say what holds of every
-//! contest.
+//! Laws of the walk and the export: functions that do nothing, and whose contracts say what holds
+//! of every contest.
 ghost use Rattle.contest_export.specs.Laws.{GivesEachOnce, ReadsBack};
 
 /// A walk gives each submission of a contest once, by time, team id and number, and nothing else.

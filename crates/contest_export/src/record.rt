@@ -8,7 +8,8 @@ ghost use Rattle.contest_types.specs.RelTimeText.{rel_time_text};
 ghost use Rattle.contest_types.specs.SettingsNames.{language_id_at};
 ghost use Rattle.contest_types.specs.TeamPlaces.{team_id_at};
 ghost use Rattle.contest_types.specs.VisibleIds.{submission_id};
-ghost use Rattle.contest_export.specs.SubmissionsCsv.{contest_time_text, header, header_fields, submission_record, type_text};
+ghost use Rattle.contest_export.specs.SubmissionsCsv.{contest_time_text, header, header_fields};
+ghost use Rattle.contest_export.specs.SubmissionsCsv.{submission_record, type_text};
 
 use contest_objects::submission_id;
 use contest_text::{push_fields, record_text};
@@ -47,8 +48,8 @@ fn header_fields(alloc: Global) -> Result<ByteRecord, AllocError>
     Ok(fields)
 }
 
-/// The record of a submission whose last release has the judgement type at a place, from 0, if it has a
-/// release.
+/// The record of a submission whose last release has the judgement type at a place, from 0, if it
+/// has a release.
 ///
 /// # Errors
 ///

@@ -1,12 +1,14 @@
 //! A walk over the submissions of a contest.
-ghost use Rattle.std.specs.Prelude.{◌≡◌, true, IfOk, IsTrue, OnErr, OnOk, find, length, map, slice_get};
+ghost use Rattle.std.specs.Prelude.{◌≡◌, true, IfOk, IsTrue, OnErr, OnOk, find, length, map};
+ghost use Rattle.std.specs.Prelude.{slice_get};
 ghost use Rattle.std.specs.Option.{option_map};
 ghost use Rattle.contest_types.specs.Loads.{file_of, without_file};
 ghost use Rattle.contest_types.specs.State.{ContestState};
 ghost use Rattle.contest_types.specs.Valid.{is_valid};
 ghost use Rattle.contest_lists.specs.Lists.{loaded};
 ghost use Rattle.contest_desk.specs.Serving.{IsReady, IsSettled, OnlyReads};
-ghost use Rattle.contest_export.specs.Walks.{IsOver, all_in_order, given_by, has_numbers, numbers_of, order_in, stepped};
+ghost use Rattle.contest_export.specs.Walks.{IsOver, all_in_order, given_by, has_numbers};
+ghost use Rattle.contest_export.specs.Walks.{numbers_of, order_in, stepped};
 
 use crate::order::{Numbers, order_of};
 use contest_lists::{CopyRow, Lists};
@@ -15,9 +17,10 @@ use contest_types::{Rows, Submission};
 use std::alloc::{AllocError, Global};
 
 /// The submissions of a contest, one at a time, by time, team id and number (Contest API 2023-06,
-/// submissions): those that were given are a front of the list, and at the end all of it. One file is in
-/// memory at a time. A step that has read calls `ContestStore::rest`. Only the store in SQLite
-/// tables promises that no transaction is open after it (`Store::rest` of contest_store_sqlite).
+/// submissions): those that were given are a front of the list, and at the end all of it. One file
+/// is in memory at a time. A step that has read calls `ContestStore::rest`. Only the store in
+/// SQLite tables promises that no transaction is open after it (`Store::rest` of
+/// contest_store_sqlite).
 #[derive(Drop)]
 pub struct Walk {
     // which submissions, in their order

@@ -41,7 +41,7 @@ use Rattle.contest_types.specs.declared.refusal.Cause.{Cause}
 use Rattle.contest_types.specs.declared.refusal.Cause.TheVariants as cause
 use Rattle.contest_types.specs.declared.refusal.Refusal.{Refusal}
 use Rattle.contest_types.proofs.AccountLemmas.{named_still}
-use Rattle.contest_types.proofs.PlaceLemmas.{same_bytes}
+use Rattle.contest_types.proofs.PlaceLemmas.{same_bytes, bytes_same}
 use Rattle.contest_files.specs.JsonMembers.{flag_in, flag_or_false, id_in, items_in, name_in, number_in}
 use Rattle.contest_import.specs.CsvFiles.{account_by, account_fields, account_names, account_or_malformed, account_record, four_of, role_of, team_names, team_record}
 use Rattle.contest_import.specs.Files.{csv_records, or_off_form, rows_in}
@@ -51,7 +51,8 @@ use Rattle.contest_import.specs.Teams.{group_places, team_by, team_or_malformed}
 use Rattle.contest_import.specs.declared.account_row.AccountRow.{AccountRow}
 use Rattle.contest_import.specs.declared.team_row.TeamRow.{TeamRow}
 use Rattle.contest_import.proofs.RowLemmas.{Fits, IsSoundRow, records_fit}
-use Rattle.contest_import.proofs.SoundRows.{map_holds, sound_account_record, sound_object, sound_team_record, then_holds}
+use Rattle.contest_import.proofs.SoundRows.{IsType, IsLanguage, IsProblem, IsGroup, IsTeam, object_kind, sound_account_record, sound_object, sound_team_record, team_holds}
+use Rattle.contest_types.proofs.AdditionLemmas.{new_found}
 
 -- a record adds nothing to what stands: a row that equals the one that it says is there
 record Stands {A : Type 0} (row_of : FixedPart → A → Result Entry Cause) (f : FixedPart) (r : A) : Type 0 where
@@ -142,9 +143,6 @@ rows_again row_of K S sound x rs rows h =
 
 -- what is found under an id
 
-text_itself : (t : List ℕ) → bytes_eq t t ≡ true
-text_itself t = (bytes_eq-Decides t t).1 refl
-
 flag_itself : (b : Bool) → beq b b ≡ true
 flag_itself true = refl
 flag_itself false = refl
@@ -179,13 +177,6 @@ same_adds m full is = ap (λ n. addition_by n full) is
 same_keyed_adds : (m : IdMatch) (held full : Bool) → m ≡ Same → keyed_addition m held full ≡ Ok false
 same_keyed_adds m held full is = ap (λ n. keyed_addition n held full) is
 
--- nothing was found, or an equal row
-found_new : {T : Type 0} (same : T → T → Bool) (row : T) (o : Option T) → id_match_by same row o ≡ New → o ≡ None
-found_new same row None h = refl
-found_new same row (Some other) h =
-    let go : (b : Bool) → (if b then Same else Other) ≡ New → Some other ≡ None = elim [ true ↦ λ e. absurd (cc e) | false ↦ λ e. absurd (cc e) ] in
-    go (same other row) h
-
 found_same : {T : Type 0} (same : T → T → Bool) (row : T) (o : Option T) → id_match_by same row o ≡ Same → (other : T) × (o ≡ Some other)
 found_same same row None h = absurd (cc h)
 found_same same row (Some other) h = (other, refl)
@@ -194,8 +185,8 @@ found_same same row (Some other) h = (other, refl)
 put_stands : {T : Type 0} (id : T → List ℕ) (same : T → T → Bool) (rows : List T) (row : T) → same row row ≡ true → id_match_of id same rows row ≡ New → id_match_of id same (rows ++ row ∷ []) row ≡ Same
 put_stands {T} id same rows row itself new =
     let test : T → Bool = λ other. bytes_eq (id row) (id other) in
-    let none : find test rows ≡ None = found_new same row (find test rows) new in
-    ap (id_match_by same row) (find-append test rows (row ∷ []) ∙ (ap (λ o. option_or o (find test (row ∷ []))) none ∙ ap (λ b. if b then Some row else None) (text_itself (id row))))
+    let none : find test rows ≡ None = new_found same row (find test rows) new in
+    ap (id_match_by same row) (find-append test rows (row ∷ []) ∙ (ap (λ o. option_or o (find test (row ∷ []))) none ∙ ap (λ b. if b then Some row else None) (bytes_same (id row))))
     ∙ ap (λ b. if b then Same else Other) itself
 
 -- and one that stands stands behind one more
@@ -207,35 +198,15 @@ still_stands {T} id same rows more row h =
 
 -- each kind of row
 
-abbrev IsType : Entry → Type 0
-IsType e = (t : JudgementType) × (e ≡ NewType t)
-
-abbrev IsLanguage : Entry → Type 0
-IsLanguage e = (l : Language) × (e ≡ NewLanguage l)
-
-abbrev IsProblem : Entry → Type 0
-IsProblem e = (p : Problem) × (e ≡ NewProblem p)
-
-abbrev IsGroup : Entry → Type 0
-IsGroup e = (g : Group) × (e ≡ NewGroup g)
-
-abbrev IsTeam : Entry → Type 0
-IsTeam e = (t : Team) × (e ≡ NewTeam t)
-
 abbrev IsAccount : Entry → Type 0
 IsAccount e = (a : Account) × (e ≡ NewAccount a)
 
-read_holds : (P : Entry → Type 0) (o : Option Entry) → IfSome o P → IfOk (or_malformed o) P
-read_holds P None h = tt
-read_holds P (Some e) h = h
-
 type_itself : (t : JudgementType) → same_type t t ≡ true
-type_itself t = rw (text_itself t.id, text_itself t.name, flag_itself t.solved, flag_itself t.penalty) refl
+type_itself t = rw (bytes_same t.id, bytes_same t.name, flag_itself t.solved, flag_itself t.penalty) refl
 
 types_settle : Settles (object_row settings.JudgementTypes) IsType
 types_settle = record {
-  kind = λ f d. read_holds IsType (type_in d) (then_holds IsType _ (id_in (codes "id") d) (λ id. then_holds IsType _ (name_in (codes "name") d) (λ name. then_holds IsType _ (flag_in (codes "solved") d)
-      (λ solved. map_holds IsType _ (flag_or_false (codes "penalty") d) (λ penalty. (record { id = id; name = name; solved = solved; penalty = penalty }, refl))))));
+  kind = object_kind settings.JudgementTypes;
   apart = λ f e d k. refl;
   here = λ f e k is. (let t = k.0 in let g : row_addition f (NewType t) ≡ Ok true = subst (λ z. row_addition f z ≡ Ok true) k.1 is in
       subst (λ z. row_addition (with_row f z) z ≡ Ok false) (sym k.1)
@@ -245,12 +216,11 @@ types_settle = record {
 }
 
 language_itself : (l : Language) → same_language l l ≡ true
-language_itself l = rw (text_itself l.id, text_itself l.name, flag_itself l.entry_point_required) refl
+language_itself l = rw (bytes_same l.id, bytes_same l.name, flag_itself l.entry_point_required) refl
 
 languages_settle : Settles (object_row settings.Languages) IsLanguage
 languages_settle = record {
-  kind = λ f d. read_holds IsLanguage (language_in d) (then_holds IsLanguage _ (id_in (codes "id") d) (λ id. then_holds IsLanguage _ (name_in (codes "name") d)
-      (λ name. map_holds IsLanguage _ (flag_or_false (codes "entry_point_required") d) (λ required. (record { id = id; name = name; entry_point_required = required }, refl)))));
+  kind = object_kind settings.Languages;
   apart = λ f e d k. refl;
   here = λ f e k is. (let t = k.0 in let g : row_addition f (NewLanguage t) ≡ Ok true = subst (λ z. row_addition f z ≡ Ok true) k.1 is in
       subst (λ z. row_addition (with_row f z) z ≡ Ok false) (sym k.1)
@@ -260,12 +230,11 @@ languages_settle = record {
 }
 
 problem_itself : (p : Problem) → same_problem p p ≡ true
-problem_itself p = rw (text_itself p.id, text_itself p.label, text_itself p.name, eq-eqb p.ordinal p.ordinal refl) refl
+problem_itself p = rw (bytes_same p.id, bytes_same p.label, bytes_same p.name, eq-eqb p.ordinal p.ordinal refl) refl
 
 problems_settle : Settles (object_row settings.Problems) IsProblem
 problems_settle = record {
-  kind = λ f d. read_holds IsProblem (problem_in d) (then_holds IsProblem _ (id_in (codes "id") d) (λ id. then_holds IsProblem _ (name_in (codes "label") d) (λ label. then_holds IsProblem _ (name_in (codes "name") d)
-      (λ name. map_holds IsProblem _ (number_in 65_535 (codes "ordinal") d) (λ ordinal. (record { id = id; label = label; name = name; ordinal = ordinal }, refl))))));
+  kind = object_kind settings.Problems;
   apart = λ f e d k. refl;
   here = λ f e k is. (let t = k.0 in let g : row_addition f (NewProblem t) ≡ Ok true = subst (λ z. row_addition f z ≡ Ok true) k.1 is in
       subst (λ z. row_addition (with_row f z) z ≡ Ok false) (sym k.1)
@@ -275,11 +244,11 @@ problems_settle = record {
 }
 
 group_itself : (g : Group) → same_group g g ≡ true
-group_itself g = rw (text_itself g.id, text_itself g.name) refl
+group_itself g = rw (bytes_same g.id, bytes_same g.name) refl
 
 groups_settle : Settles (object_row settings.Groups) IsGroup
 groups_settle = record {
-  kind = λ f d. read_holds IsGroup (group_in d) (then_holds IsGroup _ (id_in (codes "id") d) (λ id. map_holds IsGroup _ (name_in (codes "name") d) (λ name. (record { id = id; name = name }, refl))));
+  kind = object_kind settings.Groups;
   apart = λ f e d k. refl;
   here = λ f e k is. (let t = k.0 in let g : row_addition f (NewGroup t) ≡ Ok true = subst (λ z. row_addition f z ≡ Ok true) k.1 is in
       subst (λ z. row_addition (with_row f z) z ≡ Ok false) (sym k.1)
@@ -294,17 +263,7 @@ tested true r c v h = (refl, h)
 tested false r c v h = absurd (cc h)
 
 team_itself : (t : Team) → same_team t t ≡ true
-team_itself t = rw (text_itself t.id, text_itself t.name, text_itself t.groups, flag_itself t.hidden) refl
-
-team_by_holds : (t : TeamRow) (o : Option (List ℕ)) → IfOk (team_by t o) IsTeam
-team_by_holds t None = tt
-team_by_holds t (Some groups) = (record { id = t.id; name = t.name; groups = groups; hidden = t.hidden }, refl)
-
-team_holds : (s : Setup) (o : Option TeamRow) → IfOk (team_or_malformed s o) IsTeam
-team_holds s None = tt
-team_holds s (Some t) =
-    let go : (b : Bool) → IfOk (if b then team_by t (group_places s t.groups) else Err cause.Malformed) IsTeam = elim [ true ↦ team_by_holds t (group_places s t.groups) | false ↦ tt ] in
-    go (are_different t.groups)
+team_itself t = rw (bytes_same t.id, bytes_same t.name, bytes_same t.groups, flag_itself t.hidden) refl
 
 -- a team is read by the groups alone
 by_groups : (s u : Setup) → u.groups ≡ s.groups → (o : Option TeamRow) → team_or_malformed u o ≡ team_or_malformed s o
@@ -329,7 +288,7 @@ team_stays f d e (t, k) (u, l) added none =
 
 team_objects_settle : Settles (object_row settings.Teams) IsTeam
 team_objects_settle = record {
-  kind = λ f d. team_holds f.settings (team_in d);
+  kind = object_kind settings.Teams;
   apart = λ f e d k. by_groups f.settings (with_row f e).settings (teams_apart f e k) (team_in d);
   here = team_here;
   stays = team_stays;
@@ -357,7 +316,7 @@ role_itself role.Judge = refl
 role_itself role.Admin = refl
 
 account_itself : (a : Account) → same_account a a ≡ true
-account_itself a = rw (text_itself a.id, role_itself a.role, text_itself a.digest) refl
+account_itself a = rw (bytes_same a.id, role_itself a.role, bytes_same a.digest) refl
 
 turned : (a b : List ℕ) → bytes_eq a b ≡ bytes_eq b a
 turned a b =
@@ -405,14 +364,14 @@ named_itself accounts a =
     let test : Account → Bool = λ b. bytes_eq b.id a.id in
     let before = filter (λ b. comes_before b a) accounts in
     let after = filter (λ b. comes_before a b) accounts in
-    find-append test before (a ∷ after) ∙ (ap (λ o. option_or o (find test (a ∷ after))) (none_before accounts a) ∙ ap (λ b. if b then Some a else find test after) (text_itself a.id))
+    find-append test before (a ∷ after) ∙ (ap (λ o. option_or o (find test (a ∷ after))) (none_before accounts a) ∙ ap (λ b. if b then Some a else find test after) (bytes_same a.id))
 
 account_here : (f : FixedPart) (e : Entry) → IsAccount e → row_addition f e ≡ Ok true → row_addition (with_row f e) e ≡ Ok false
 account_here f e (a, k) is =
     let accounts = f.accounts in
     let g : row_addition f (NewAccount a) ≡ Ok true = subst (λ z. row_addition f z ≡ Ok true) k is in
     let both = tested (has_valid_role f.settings a.role) (keyed_addition (id_match_of (λ (c : Account). c.id) same_account accounts a) (is_among (map (λ (c : Account). c.digest) accounts) a.digest) (nat_le ACCOUNTS (length accounts))) cause.UnknownReference true g in
-    let new : account_named accounts a.id ≡ None = sym (looked_up accounts a.id) ∙ found_new same_account a _ (keyed_new _ _ _ both.1) in
+    let new : account_named accounts a.id ≡ None = sym (looked_up accounts a.id) ∙ new_found same_account a _ (keyed_new _ _ _ both.1) in
     let named : account_named (with_account accounts a) a.id ≡ Some a = named_itself accounts a in
     let stands : id_match_of (λ (b : Account). b.id) same_account (with_account accounts a) a ≡ Same =
     ap (id_match_by same_account a) (looked_up (with_account accounts a) a.id ∙ named) ∙ ap (λ b. if b then Same else Other) (account_itself a) in
@@ -425,7 +384,7 @@ account_stays f d e (a, k) (b, l) added none =
     let h : row_addition f (NewAccount b) ≡ Ok false = subst (λ z. row_addition f z ≡ Ok false) l none in
     let one = tested (has_valid_role f.settings a.role) (keyed_addition (id_match_of (λ (c : Account). c.id) same_account accounts a) (is_among (map (λ (c : Account). c.digest) accounts) a.digest) (nat_le ACCOUNTS (length accounts))) cause.UnknownReference true g in
     let other = tested (has_valid_role f.settings b.role) (keyed_addition (id_match_of (λ (c : Account). c.id) same_account accounts b) (is_among (map (λ (c : Account). c.digest) accounts) b.digest) (nat_le ACCOUNTS (length accounts))) cause.UnknownReference false h in
-    let new : account_named accounts a.id ≡ None = sym (looked_up accounts a.id) ∙ found_new same_account a _ (keyed_new _ _ _ one.1) in
+    let new : account_named accounts a.id ≡ None = sym (looked_up accounts a.id) ∙ new_found same_account a _ (keyed_new _ _ _ one.1) in
     let was : id_match_of (λ (c : Account). c.id) same_account accounts b ≡ Same = keyed_same _ _ _ other.1 in
     let found = found_same same_account b _ was in
     let still : account_named (with_account accounts a) b.id ≡ Some found.0 = named_still accounts a (none_among accounts a.id new) b.id found.0 (sym (looked_up accounts b.id) ∙ found.1) in

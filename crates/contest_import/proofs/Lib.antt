@@ -4,5 +4,4 @@ pub mod AgainLemmas
 mod ContestExamples
 pub mod ObjectLemmas
 pub mod RecordLemmas
-pub mod WordLemmas
 pub mod FaultLemmas

@@ -1,5 +1,5 @@
 -- What the records of files say is sound: no account is called `import`.
-use Rattle.std.proofs.Common.{◌≡◌, ℕ, Bool, true, false, List, Option, Some, None, Result, Ok, Err, refl, sym, option_and_then, option_map}
+use Rattle.std.proofs.Common.{◌≡◌, ℕ, Bool, true, false, List, Option, Some, None, Result, Ok, Err, refl, sym, subst, option_and_then, option_map}
 use Rattle.std.specs.Prelude.{IfOk, IfSome, codes, if◌then◌else◌}
 use Rattle.std.specs.Str.{bytes_eq}
 use Rattle.serde_json.specs.Data.{Data}
@@ -10,6 +10,13 @@ use Rattle.contest_types.specs.Setup.{Setup}
 use Rattle.contest_types.specs.State.{FixedPart, ContestState}
 use Rattle.contest_types.specs.declared.entry.Entry.{Entry}
 use Rattle.contest_types.specs.declared.account.Role.{Role}
+use Rattle.contest_types.specs.declared.entry.Entry.TheVariants.{NewType, NewLanguage, NewProblem, NewGroup, NewTeam}
+use Rattle.contest_types.specs.declared.objects.JudgementType.{JudgementType}
+use Rattle.contest_types.specs.declared.objects.Language.{Language}
+use Rattle.contest_types.specs.declared.objects.Problem.{Problem}
+use Rattle.contest_types.specs.declared.objects.Group.{Group}
+use Rattle.contest_types.specs.declared.objects.Team.{Team}
+use Rattle.contest_types.specs.declared.refusal.Cause.{Cause}
 use Rattle.contest_types.specs.declared.refusal.Cause.TheVariants as cause
 use Rattle.contest_types.specs.declared.refusal.Refusal.{Refusal}
 use Rattle.contest_files.specs.FieldTexts.{Text}
@@ -37,30 +44,69 @@ pub map_holds : {A B : Type 0} (P : B → Type 0) (f : A → B) (o : Option A) �
 map_holds P f None h = tt
 map_holds P f (Some a) h = h a
 
-sound_or_malformed : (o : Option Entry) → IfSome o IsSoundRow → IfOk (or_malformed o) IsSoundRow
-sound_or_malformed None h = tt
-sound_or_malformed (Some e) h = h
+-- each kind of row
+abbrev pub IsType : Entry → Type 0
+IsType e = (t : JudgementType) × (e ≡ NewType t)
 
-sound_team_by : (t : TeamRow) (o : Option (List ℕ)) → IfOk (team_by t o) IsSoundRow
-sound_team_by t None = tt
-sound_team_by t (Some groups) = tt
+abbrev pub IsLanguage : Entry → Type 0
+IsLanguage e = (l : Language) × (e ≡ NewLanguage l)
 
-sound_team : (s : Setup) (o : Option TeamRow) → IfOk (team_or_malformed s o) IsSoundRow
-sound_team s None = tt
-sound_team s (Some t) =
-    let go : (b : Bool) → IfOk (if b then team_by t (group_places s t.groups) else Err cause.Malformed) IsSoundRow = elim [ true ↦ sound_team_by t (group_places s t.groups) | false ↦ tt ] in
+abbrev pub IsProblem : Entry → Type 0
+IsProblem e = (p : Problem) × (e ≡ NewProblem p)
+
+abbrev pub IsGroup : Entry → Type 0
+IsGroup e = (g : Group) × (e ≡ NewGroup g)
+
+abbrev pub IsTeam : Entry → Type 0
+IsTeam e = (t : Team) × (e ≡ NewTeam t)
+
+abbrev pub IsOfKind : SettingsKind → Entry → Type 0
+IsOfKind settings.JudgementTypes e = IsType e
+IsOfKind settings.Languages e = IsLanguage e
+IsOfKind settings.Problems e = IsProblem e
+IsOfKind settings.Groups e = IsGroup e
+IsOfKind settings.Teams e = IsTeam e
+
+read_holds : (P : Entry → Type 0) (o : Option Entry) → IfSome o P → IfOk (or_malformed o) P
+read_holds P None h = tt
+read_holds P (Some e) h = h
+
+team_by_holds : (t : TeamRow) (o : Option (List ℕ)) → IfOk (team_by t o) IsTeam
+team_by_holds t None = tt
+team_by_holds t (Some groups) = (_, refl)
+
+pub team_holds : (s : Setup) (o : Option TeamRow) → IfOk (team_or_malformed s o) IsTeam
+team_holds s None = tt
+team_holds s (Some t) =
+    let go : (b : Bool) → IfOk (if b then team_by t (group_places s t.groups) else Err cause.Malformed) IsTeam = elim [ true ↦ team_by_holds t (group_places s t.groups) | false ↦ tt ] in
     go (are_different t.groups)
 
+-- an object of a file says a row of the file's kind
+pub object_kind : (k : SettingsKind) (f : FixedPart) (d : Data) → IfOk (object_row k f d) (IsOfKind k)
+object_kind settings.JudgementTypes f d =
+    read_holds IsType (type_in d) (then_holds IsType _ (id_in (codes "id") d) (λ id. then_holds IsType _ (name_in (codes "name") d)
+    (λ name. then_holds IsType _ (flag_in (codes "solved") d) (λ solved. map_holds IsType _ (flag_or_false (codes "penalty") d) (λ penalty. (_, refl))))))
+object_kind settings.Languages f d =
+    read_holds IsLanguage (language_in d) (then_holds IsLanguage _ (id_in (codes "id") d) (λ id. then_holds IsLanguage _ (name_in (codes "name") d)
+    (λ name. map_holds IsLanguage _ (flag_or_false (codes "entry_point_required") d) (λ required. (_, refl)))))
+object_kind settings.Problems f d =
+    read_holds IsProblem (problem_in d) (then_holds IsProblem _ (id_in (codes "id") d) (λ id. then_holds IsProblem _ (name_in (codes "label") d)
+    (λ label. then_holds IsProblem _ (name_in (codes "name") d) (λ name. map_holds IsProblem _ (number_in 65_535 (codes "ordinal") d) (λ ordinal. (_, refl))))))
+object_kind settings.Groups f d =
+    read_holds IsGroup (group_in d) (then_holds IsGroup _ (id_in (codes "id") d) (λ id. map_holds IsGroup _ (name_in (codes "name") d) (λ name. (_, refl))))
+object_kind settings.Teams f d = team_holds f.settings (team_in d)
+
+-- and is no account
+sound_kind : (k : SettingsKind) (r : Result Entry Cause) → IfOk r (IsOfKind k) → IfOk r IsSoundRow
+sound_kind k (Err cause) h = tt
+sound_kind settings.JudgementTypes (Ok e) (t, is) = subst IsSoundRow (sym is) tt
+sound_kind settings.Languages (Ok e) (l, is) = subst IsSoundRow (sym is) tt
+sound_kind settings.Problems (Ok e) (p, is) = subst IsSoundRow (sym is) tt
+sound_kind settings.Groups (Ok e) (g, is) = subst IsSoundRow (sym is) tt
+sound_kind settings.Teams (Ok e) (t, is) = subst IsSoundRow (sym is) tt
+
 pub sound_object : (k : SettingsKind) (f : FixedPart) (d : Data) → IfOk (object_row k f d) IsSoundRow
-sound_object settings.JudgementTypes f d =
-    sound_or_malformed (type_in d) (then_holds IsSoundRow _ (id_in (codes "id") d) (λ id. then_holds IsSoundRow _ (name_in (codes "name") d) (λ name. then_holds IsSoundRow _ (flag_in (codes "solved") d) (λ solved. map_holds IsSoundRow _ (flag_or_false (codes "penalty") d) (λ penalty. tt)))))
-sound_object settings.Languages f d =
-    sound_or_malformed (language_in d) (then_holds IsSoundRow _ (id_in (codes "id") d) (λ id. then_holds IsSoundRow _ (name_in (codes "name") d) (λ name. map_holds IsSoundRow _ (flag_or_false (codes "entry_point_required") d) (λ required. tt))))
-sound_object settings.Problems f d =
-    sound_or_malformed (problem_in d) (then_holds IsSoundRow _ (id_in (codes "id") d) (λ id. then_holds IsSoundRow _ (name_in (codes "label") d) (λ label. then_holds IsSoundRow _ (name_in (codes "name") d) (λ name. map_holds IsSoundRow _ (number_in 65_535 (codes "ordinal") d) (λ ordinal. tt)))))
-sound_object settings.Groups f d =
-    sound_or_malformed (group_in d) (then_holds IsSoundRow _ (id_in (codes "id") d) (λ id. map_holds IsSoundRow _ (name_in (codes "name") d) (λ name. tt)))
-sound_object settings.Teams f d = sound_team f.settings (team_in d)
+sound_object k f d = sound_kind k (object_row k f d) (object_kind k f d)
 
 abbrev HasSoundId : AccountRow → Type 0
 HasSoundId a = bytes_eq a.id (codes "import") ≡ false
@@ -106,7 +152,7 @@ pub sound_account_record : (f : FixedPart) (row : List Text) → IfOk (account_r
 sound_account_record f row = sound_account f.settings (option_and_then account_fields (four_of row)) (then_holds HasSoundId account_fields (four_of row) sound_fields)
 
 pub sound_team_record : (f : FixedPart) (row : List Text) → IfOk (team_record f row) IsSoundRow
-sound_team_record f row = sound_team f.settings (option_and_then _ (four_of row))
+sound_team_record f row = sound_kind settings.Teams (team_record f row) (team_holds f.settings (option_and_then _ (four_of row)))
 
 off_form_addable : {A : Type 0} (x : ContestState) (rows : List A → Result (List Entry) Refusal) (o : Option (List A)) → ((found : List A) → IfOk (rows found) (λ es. are_addable x es ≡ true)) → IfOk (or_off_form rows o) (λ es. are_addable x es ≡ true)
 off_form_addable x rows None h = tt

@@ -6,4 +6,3 @@ pub mod CsvFiles
 pub mod Files
 pub mod ContestFile
 pub mod CsvKinds
-pub mod Words

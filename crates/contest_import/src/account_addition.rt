@@ -2,15 +2,16 @@
 ghost use Rattle.std.specs.Prelude.{◌≡◌, find, map};
 ghost use Rattle.std.specs.Option.{option_map};
 ghost use Rattle.std.specs.Str.{bytes_eq};
-ghost use Rattle.contest_types.specs.Accounts.{account_addition, has_valid_role, same_account, same_role};
+ghost use Rattle.contest_types.specs.Accounts.{account_addition, has_valid_role, same_account};
+ghost use Rattle.contest_types.specs.Accounts.{same_role};
 ghost use Rattle.contest_types.specs.Places.{is_among};
 ghost use Rattle.contest_types.specs.declared.account.Account.{Account as TheAccount};
 
 use contest_types::limits::ACCOUNTS;
 use contest_types::{Account, Cause, Digest, Id, Role, Settings};
 
-/// Whether an account is added to those that stand: where an equal one stands it adds nothing. It takes
-/// no memory.
+/// Whether an account is added to those that stand: where an equal one stands it adds nothing. It
+/// takes no memory.
 ///
 /// # Errors
 ///

@@ -2,7 +2,9 @@
 ghost use Rattle.std.specs.Prelude.{◌≡◌, Ok, IfOk, IfErr};
 ghost use Rattle.csv.specs.Records.{fields_of};
 ghost use Rattle.contest_types.specs.Additions.{IsFaultOf};
-ghost use Rattle.contest_import.specs.CsvFiles.{account_by, account_fields, account_id, account_record, four_of, named_role, role_of, token_digest};
+ghost use Rattle.contest_import.specs.CsvFiles.{account_by, account_fields, account_id};
+ghost use Rattle.contest_import.specs.CsvFiles.{account_record, four_of, named_role, role_of};
+ghost use Rattle.contest_import.specs.CsvFiles.{token_digest};
 
 use crate::account_row::{AccountRow, NamedRole};
 use crate::csv_record::{CsvRecord, four_fields};
@@ -17,7 +19,8 @@ use std::alloc::Global;
 ///
 /// # Errors
 ///
-/// A field off its form (`Malformed`), a team that isn't there (`UnknownReference`), or want of memory.
+/// A field off its form (`Malformed`), a team that isn't there (`UnknownReference`), or want of
+/// memory.
 pub(crate) fn account_record(
     alloc: Global,
     fixed: &Fixed,

@@ -1,8 +1,10 @@
 //! The rows that a file adds to what stands, one after the other.
-ghost use Rattle.std.specs.Prelude.{◌≡◌, ◌++◌, ◌∷◌, ◌⊎◌, [], true, Ok, Err, OnOk, IfOk, IfErr, IsOkAnd, is_ok, if◌then◌else◌};
+ghost use Rattle.std.specs.Prelude.{◌≡◌, ◌++◌, ◌∷◌, ◌⊎◌, [], true, Ok, Err, OnOk, IfOk, IfErr};
+ghost use Rattle.std.specs.Prelude.{IsOkAnd, is_ok, if◌then◌else◌};
 ghost use Rattle.contest_types.specs.Accounts.{account_addition, with_account};
 ghost use Rattle.contest_types.specs.Additions.{IsFaultOf};
-ghost use Rattle.contest_import.specs.RowAdditions.{none_yet, row_addition, with_addition, with_row};
+ghost use Rattle.contest_import.specs.RowAdditions.{none_yet, row_addition, with_addition};
+ghost use Rattle.contest_import.specs.RowAdditions.{with_row};
 
 use crate::account_addition::account_addition;
 use contest_lists::{CopyRow, add_account, copied_fixed};

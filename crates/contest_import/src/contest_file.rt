@@ -11,9 +11,9 @@ use contest_types::{Contest, ContestHead, Refusal};
 use serde_json::Value;
 use std::alloc::Global;
 
-/// The contest that a JSON file says (Contest API 2023-06, contest object): id, name and duration, and,
-/// where they are there, start_time, scoreboard_freeze_duration, scoreboard_type, penalty_time,
-/// verification and medals.
+/// The contest that a JSON file says (Contest API 2023-06, contest object): id, name and duration,
+/// and, where they are there, start_time, scoreboard_freeze_duration, scoreboard_type,
+/// penalty_time, verification and medals.
 ///
 /// # Errors
 ///

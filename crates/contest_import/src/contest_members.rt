@@ -4,8 +4,11 @@ ghost use Rattle.serde_json.specs.Find.{as_str};
 ghost use Rattle.serde_json.specs.View.{view};
 ghost use Rattle.contest_types.specs.declared.limits.TheConstants.{MEDAL_PLACES};
 ghost use Rattle.contest_files.specs.FieldTexts.{span_of};
-ghost use Rattle.contest_files.specs.JsonMembers.{number_or, number_to, optional, or_usual, present_in, text_in};
-ghost use Rattle.contest_import.specs.ContestFile.{SaysStart, freeze_of, is_pass_fail, medals_of, penalty_of, start_in, usual_medals, whole_minutes};
+ghost use Rattle.contest_files.specs.JsonMembers.{number_or, number_to, optional, or_usual};
+ghost use Rattle.contest_files.specs.JsonMembers.{present_in, text_in};
+ghost use Rattle.contest_import.specs.ContestFile.{SaysStart, freeze_of, is_pass_fail, medals_of};
+ghost use Rattle.contest_import.specs.ContestFile.{penalty_of, start_in, usual_medals};
+ghost use Rattle.contest_import.specs.ContestFile.{whole_minutes};
 
 use contest_files::{present_in, text_in, time_span};
 use contest_types::limits::{MEDAL_PLACES, PENALTY_MINUTES};

@@ -8,8 +8,8 @@ ghost use Rattle.contest_types.specs.ValidFixed.{has_valid_clock};
 use contest_types::limits::{LAST_MOMENT, LONGEST_CONTEST, MEDAL_PLACES, PENALTY_MINUTES};
 use contest_types::{Contest, ContestHead, Medals, TimeSpan};
 
-/// Whether each number of the contest is within its range, and its end, where the start is set, is a
-/// moment.
+/// Whether each number of the contest is within its range, and its end, where the start is set, is
+/// a moment.
 pub(crate) fn can_be_set_up(contest: &Contest) -> bool
     ensures { result ≡ is_valid (new_contest contest.now) }
 {

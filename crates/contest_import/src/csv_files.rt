@@ -1,11 +1,13 @@
 //! Teams and accounts as CSV files.
-ghost use Rattle.std.specs.Prelude.{◌≡◌, ◌≤◌, ◌+◌, ◌∷◌, ◌^◌, ℕ, List, true, false, None, Some, Ok, IfOk, IfErr, OnOk, length};
+ghost use Rattle.std.specs.Prelude.{◌≡◌, ◌≤◌, ◌+◌, ◌∷◌, ◌^◌, ℕ, List, true, false, None, Some, Ok};
+ghost use Rattle.std.specs.Prelude.{IfOk, IfErr, OnOk, length};
 ghost use Rattle.csv.specs.Records.{fields_of};
 ghost use Rattle.contest_types.specs.Additions.{IsFaultOf};
 ghost use Rattle.contest_files.specs.Refused.{Refuses};
 ghost use Rattle.contest_import.specs.CsvFiles.{account_names, team_names};
 ghost use Rattle.contest_import.specs.Files.{account_rows, or_off_form, records_under, team_rows};
-ghost use Rattle.contest_import.specs.RowAdditions.{after_record, after_records, none_yet, rows_of, rows_or_refusal};
+ghost use Rattle.contest_import.specs.RowAdditions.{after_record, after_records, none_yet, rows_of};
+ghost use Rattle.contest_import.specs.RowAdditions.{rows_or_refusal};
 ghost use Rattle.contest_import.specs.declared.csv_files.CsvKind.{CsvKind};
 ghost use Rattle.contest_import.specs.CsvKinds.{kind_rows, names_of, record_row};
 
@@ -31,8 +33,8 @@ pub(crate) enum CsvKind {
 ///
 /// # Errors
 ///
-/// `Malformed` where the header is missing; else the first record at fault, with its number, from 1,
-/// and the cause (`ImportRow`); or want of memory.
+/// `Malformed` where the header is missing; else the first record at fault, with its number, from
+/// 1, and the cause (`ImportRow`); or want of memory.
 pub fn read_teams_csv(alloc: Global, bytes: &[u8], fixed: &Fixed) -> Result<Rows<Entry>, Refusal>
     ensures ok { IfOk result (λ rows. team_rows fixed.now bytes.now ≡ Ok rows) }
     ensures err { IfErr result (λ e. Refuses e (team_rows fixed.now bytes.now)) }
@@ -40,8 +42,8 @@ pub fn read_teams_csv(alloc: Global, bytes: &[u8], fixed: &Fixed) -> Result<Rows
     read_csv(alloc, CsvKind::Teams, bytes, fixed)
 }
 
-/// The accounts that a CSV file adds to what stands, in its order: `id,role,team_id,token`. Of a token
-/// its digest alone is kept.
+/// The accounts that a CSV file adds to what stands, in its order: `id,role,team_id,token`. Of a
+/// token its digest alone is kept.
 ///
 /// # Errors
 ///

@@ -1,5 +1,5 @@
-//! What the files of a contest director add to a contest: settings, teams and accounts, and the contest
-//! itself as it is set up.
+//! What the files of a contest director add to a contest: settings, teams and accounts, and the
+//! contest itself as it is set up.
 #![tactic(auto)]
 
 mod account_addition;

@@ -5,7 +5,8 @@ ghost use Rattle.serde_json.specs.View.{view};
 ghost use Rattle.contest_types.specs.Additions.{IsFaultOf};
 ghost use Rattle.contest_files.specs.Refused.{Refuses};
 ghost use Rattle.contest_import.specs.Files.{settings_rows};
-ghost use Rattle.contest_import.specs.RowAdditions.{after_record, after_records, none_yet, rows_of, rows_or_refusal};
+ghost use Rattle.contest_import.specs.RowAdditions.{after_record, after_records, none_yet, rows_of};
+ghost use Rattle.contest_import.specs.RowAdditions.{rows_or_refusal};
 ghost use Rattle.contest_import.specs.SettingsObjects.{object_row};
 
 use crate::additions::RowAdditions;
@@ -20,8 +21,8 @@ use std::alloc::Global;
 ///
 /// # Errors
 ///
-/// `Malformed` where the file isn't an array; else its first object at fault, with its number, from 1,
-/// and the cause (`ImportRow`); or want of memory.
+/// `Malformed` where the file isn't an array; else its first object at fault, with its number, from
+/// 1, and the cause (`ImportRow`); or want of memory.
 pub fn read_settings_json(
     alloc: Global,
     kind: SettingsKind,

@@ -3,7 +3,8 @@ ghost use Rattle.std.specs.Prelude.{◌≡◌, [], Ok, IfOk, IfErr, codes};
 ghost use Rattle.contest_types.specs.Additions.{IsFaultOf};
 ghost use Rattle.contest_files.specs.JsonMembers.{number_in, or_usual, present_in};
 ghost use Rattle.contest_files.specs.IdArrays.{ids_in};
-ghost use Rattle.contest_import.specs.SettingsObjects.{group_in, language_in, object_row, or_malformed, problem_in, team_in, type_in};
+ghost use Rattle.contest_import.specs.SettingsObjects.{group_in, language_in, object_row};
+ghost use Rattle.contest_import.specs.SettingsObjects.{or_malformed, problem_in, team_in, type_in};
 ghost use Rattle.serde_json.specs.View.{view};
 
 use crate::TeamRow;
@@ -21,8 +22,8 @@ use std::alloc::Global;
 ///
 /// # Errors
 ///
-/// An object that says none (`Malformed`), a team whose groups aren't there (`UnknownReference`), or
-/// want of memory.
+/// An object that says none (`Malformed`), a team whose groups aren't there (`UnknownReference`),
+/// or want of memory.
 pub(crate) fn object_row(
     alloc: Global,
     kind: SettingsKind,

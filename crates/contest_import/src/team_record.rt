@@ -7,7 +7,7 @@ ghost use Rattle.contest_types.specs.Options.{all_some};
 ghost use Rattle.contest_types.specs.Additions.{IsFaultOf};
 ghost use Rattle.contest_types.specs.IdText.{id_of};
 ghost use Rattle.contest_import.specs.CsvFiles.{four_of, ids_of, team_fields, team_record};
-ghost use Rattle.contest_import.specs.Words.{words};
+ghost use Rattle.contest_types.specs.Words.{words};
 
 use crate::TeamRow;
 use crate::csv_record::{CsvRecord, four_fields};
@@ -22,8 +22,8 @@ use std::alloc::Global;
 ///
 /// # Errors
 ///
-/// A record that tells of none (`Malformed`), a group that isn't there (`UnknownReference`), or want of
-/// memory.
+/// A record that tells of none (`Malformed`), a group that isn't there (`UnknownReference`), or
+/// want of memory.
 pub(crate) fn team_record(alloc: Global, fixed: &Fixed, row: &ByteRecord) -> Result<Entry, RowFault>
     ensures ok { IfOk result (λ entry. team_record fixed.now (fields_of row.now) ≡ Ok entry) }
     ensures err { IfErr result (λ e. IsFaultOf e (team_record fixed.now (fields_of row.now))) }
@@ -97,7 +97,7 @@ fn ids_named(alloc: Global, text: &[u8]) -> Result<Option<Rows<Id>>, Refusal>
 }
 
 // The text before the first space, and the one after it.
-#[tactic(auto, using(crate::proofs::WordLemmas::cut_there, crate::proofs::WordLemmas::cut_nowhere))]
+#[tactic(auto, using(contest_types::proofs::WordLemmas::cut_there, contest_types::proofs::WordLemmas::cut_nowhere))]
 fn cut(text: &[u8]) -> (&[u8], Option<&[u8]>)
     ensures parts { words text.now ≡ result.0.now ∷ option_map_or (λ rest. words rest.now) result.1 [] }
     ensures shorter { IfSome result.1 (λ rest. length rest.now < length text.now) }

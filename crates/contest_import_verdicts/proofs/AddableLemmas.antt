@@ -2,6 +2,7 @@
 use Rattle.std.proofs.Common.{◌≡◌, ◌+◌, ◌∙◌, ℕ, Bool, true, false, List, [], ◌∷◌, ◌++◌, append-nil, length, Option, Some, None, Result, Ok, Err, refl, sym, ap, subst}
 use Rattle.std.specs.Prelude.{◌==◌, not, nat_le, if◌then◌else◌}
 use Rattle.std.specs.List.{flat_map}
+use Rattle.std.proofs.lemmas.Bool.{false≢true}
 use Rattle.std.proofs.lemmas.List.{append_assoc}
 use Rattle.csv.specs.Reading.{default_config, records, strip_bom}
 use Rattle.contest_files.specs.FieldTexts.{Text}
@@ -27,42 +28,48 @@ use Rattle.contest_rules.specs.declared.verdicts.WantedVerdict.{WantedVerdict}
 use Rattle.contest_rules.proofs.ProposedLemmas.{IsNamed, named_there, release_fits}
 use Rattle.contest_import_verdicts.specs.Laws.{VerdictsAreAddable}
 use Rattle.contest_import_verdicts.specs.VerdictFiles.{after_records, below_header, entries_if, if_added, imported_verdict, or_fault_of, verdict_on, verdict_wanted, verdicts_in, wanted_in, with_verdict, with_verdicts}
-use Rattle.contest_import_verdicts.proofs.SoFarLemmas.{proposals_more, releases_more}
+use Rattle.contest_import_verdicts.proofs.SoFarLemmas.{none_so_far, verdicts_more}
 
 -- a contest with one verdict more is what adding its rows makes
 with_one : (x : ContestState) (so_far : List NewVerdict) (p : Proposal) (o : Option Release)
     → add_all (with_verdicts x so_far) (entries_of (record { proposal = p; release = o })) ≡ with_verdicts x (so_far ++ record { proposal = p; release = o } ∷ [])
 with_one x so_far p None =
-    let v : NewVerdict = record { proposal = p; release = None } in
-    let ps = proposals_more x so_far v in
-    let vs = sym (append-nil (with_verdicts x so_far).releases) ∙ releases_more x so_far v in
-    λ i. record x { proposals = ps i; releases = vs i }
-with_one x so_far p (Some r) =
-    let v : NewVerdict = record { proposal = p; release = Some r } in
-    λ i. record x { proposals = proposals_more x so_far v i; releases = releases_more x so_far v i }
+    let y = with_verdicts x so_far in
+    (λ i. record y { proposals = y.proposals ++ p ∷ []; releases = sym (append-nil y.releases) i }) ∙ verdicts_more x so_far (record { proposal = p; release = None })
+with_one x so_far p (Some r) = verdicts_more x so_far (record { proposal = p; release = Some r })
 
--- one that is added has no release yet
-same_or_other : (b : Bool) → (if b then Ok false else Err KeyReused) ≡ Ok true → ⊥
-same_or_other true h = cc h
-same_or_other false h = cc h
+-- what was tested of a verdict, by the one that was imported for its submission before, if one was
+abbrev pub IsTested : ContestState → Proposal → (added : Bool) → (earlier : Option Proposal) → Type 0
+IsTested y p added None = (added ≡ true) × (has_release y p.team p.number ≡ false)
+IsTested y p added (Some q) = (added ≡ false) × ((q.verdict == p.verdict) ≡ true)
 
-unreleased : (y : ContestState) (p : Proposal) → verdict_addition y p ≡ Ok true → has_release y p.team p.number ≡ false
-unreleased y p h =
-    let go : (valid : Bool) (earlier : Option Proposal) (full released : Bool)
-    → (if not valid then Err UnknownReference else (elim earlier as (λ _. Result Bool Cause) [
-      | (Some q) ↦ if q.verdict == p.verdict then Ok false else Err KeyReused
+pub tested : (y : ContestState) (p : Proposal) (added : Bool) → verdict_addition y p ≡ Ok added → (o : Option Proposal) → imported_for y (of_proposal p) ≡ o → IsTested y p added o
+tested y p added h o e =
+    let go : (valid : Bool) (q : Option Proposal) (full released : Bool) → has_release y p.team p.number ≡ released
+    → (if not valid then Err UnknownReference else (elim q as (λ _. Result Bool Cause) [
+      | (Some earlier) ↦ if earlier.verdict == p.verdict then Ok false else Err KeyReused
       | None ↦ if full then Err TableFull else (if released then Err AlreadyReleased else Ok true)
-    ])) ≡ Ok true → released ≡ false = elim [
-      | false ↦ λ earlier full released k. absurd (cc k)
+    ])) ≡ Ok added → IsTested y p added q = elim [
+      | false ↦ λ q full released f k. absurd (cc k)
       | true ↦ elim [
-        | (Some q) ↦ λ full released k. absurd (same_or_other (q.verdict == p.verdict) k)
+        | (Some earlier) ↦ λ full released f k. stood (earlier.verdict == p.verdict) k
         | None ↦ elim [
-          | true ↦ λ released k. absurd (cc k)
-          | false ↦ elim [ true ↦ λ k. absurd (cc k) | false ↦ λ k. refl ]
+          | true ↦ λ released f k. absurd (cc k)
+          | false ↦ elim [ true ↦ λ f k. absurd (cc k) | false ↦ λ f k. (cc k, f) ]
         ]
       ]
     ] in
-    go (is_valid_proposal y p) (imported_for y (of_proposal p)) (nat_le PROPOSALS (length (proposals_for p.team p.number y.proposals))) (has_release y p.team p.number) h
+    subst (IsTested y p added) e (go (is_valid_proposal y p) (imported_for y (of_proposal p)) (nat_le PROPOSALS (length (proposals_for p.team p.number y.proposals))) (has_release y p.team p.number) refl h)
+  where
+    stood : (b : Bool) → (if b then Ok false else Err KeyReused) ≡ Ok added → (added ≡ false) × (b ≡ true)
+    stood true k = (cc k, refl)
+    stood false k = absurd (cc k)
+
+-- one that is added has no release yet
+unreleased : (y : ContestState) (p : Proposal) → verdict_addition y p ≡ Ok true → has_release y p.team p.number ≡ false
+unreleased y p h =
+    let go : (o : Option Proposal) → imported_for y (of_proposal p) ≡ o → has_release y p.team p.number ≡ false = elim [ None ↦ λ e. (tested y p true h None e).1 | (Some q) ↦ λ e. absurd (false≢true (sym (tested y p true h (Some q) e).0)) ] in
+    go (imported_for y (of_proposal p)) refl
 
 -- its rows may be added
 verdict_addable : (x : ContestState) (now : ℕ) (so_far : List NewVerdict) (n : NamedVerdict) → IsNamed x n
@@ -115,9 +122,6 @@ more_added x now so_far n (row ∷ rows) all h =
       | (Some w) ↦ λ k. named w (named_verdict x.fixed x.submissions w) refl k
     ] in
     wanted (wanted_in row) h
-
-pub none_so_far : (x : ContestState) → with_verdicts x [] ≡ x
-none_so_far x = λ i. record x { proposals = append-nil x.proposals i; releases = append-nil x.releases i }
 
 pub verdicts_are_addable : VerdictsAreAddable
 verdicts_are_addable x now bytes rows h =

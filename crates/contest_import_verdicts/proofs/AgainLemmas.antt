@@ -1,6 +1,6 @@
 -- A file of verdicts that was imported adds nothing when it is imported again.
-use Rattle.std.proofs.Common.{◌≡◌, ◌+◌, ◌∙◌, ℕ, Bool, true, false, List, [], ◌∷◌, ◌++◌, length, map, Option, Some, None, Result, Ok, Err, refl, sym, ap, subst, cond}
-use Rattle.std.specs.Prelude.{◌==◌, not, filter, find, nat_le, if◌then◌else◌}
+use Rattle.std.proofs.Common.{◌≡◌, ◌+◌, ◌∙◌, ℕ, Bool, true, false, List, [], ◌∷◌, ◌++◌, map, Option, Some, None, Result, Ok, Err, refl, sym, ap, subst, cond}
+use Rattle.std.specs.Prelude.{◌==◌, filter, find}
 use Rattle.std.specs.List.{flat_map}
 use Rattle.std.specs.Option.{option_or}
 use Rattle.std.proofs.lemmas.Bool.{eq-eqb, false≢true}
@@ -10,13 +10,10 @@ use Rattle.std.proofs.lemmas.List.Folds.{find-append}
 use Rattle.csv.specs.Reading.{default_config, records, strip_bom}
 use Rattle.contest_files.specs.FieldTexts.{Text}
 use Rattle.contest_types.specs.State.{ContestState, add_all, names, of_proposal, proposals_for}
-use Rattle.contest_types.specs.ValidRejudgings.{has_release}
 use Rattle.contest_types.specs.ValidSubmissions.{is_imported, is_valid_proposal}
-use Rattle.contest_types.specs.VerdictAdditions.{first_addition, verdict_addition}
-use Rattle.contest_types.specs.declared.limits.TheConstants.{PROPOSALS}
+use Rattle.contest_types.specs.VerdictAdditions.{verdict_addition}
 use Rattle.contest_types.specs.declared.proposal.Proposal.{Proposal}
 use Rattle.contest_types.specs.declared.refusal.Cause.{Cause}
-use Rattle.contest_types.specs.declared.refusal.Cause.TheVariants.{AlreadyReleased, KeyReused, TableFull, UnknownReference}
 use Rattle.contest_types.specs.declared.refusal.Refusal.{Refusal}
 use Rattle.contest_types.proofs.PlaceLemmas.{both_true}
 use Rattle.contest_rules.specs.Proposing.{entries_of}
@@ -26,8 +23,8 @@ use Rattle.contest_rules.specs.declared.verdicts.NamedVerdict.{NamedVerdict}
 use Rattle.contest_rules.specs.declared.verdicts.WantedVerdict.{WantedVerdict}
 use Rattle.contest_import_verdicts.specs.Laws.{VerdictsAddNothingAgain}
 use Rattle.contest_import_verdicts.specs.VerdictFiles.{after_records, below_header, entries_if, if_added, imported_verdict, or_fault_of, verdict_on, verdict_wanted, verdicts_in, wanted_in, with_verdict, with_verdicts}
-use Rattle.contest_import_verdicts.proofs.AddableLemmas.{add_verdicts, more_added, none_so_far}
-use Rattle.contest_import_verdicts.proofs.SoFarLemmas.{named_fits}
+use Rattle.contest_import_verdicts.proofs.AddableLemmas.{add_verdicts, more_added, tested}
+use Rattle.contest_import_verdicts.proofs.SoFarLemmas.{named_fits, none_so_far, proposals_more}
 
 abbrev imported : ContestState → NamedVerdict → Option Proposal
 imported x n = find is_imported (proposals_for n.team n.number x.proposals)
@@ -55,52 +52,20 @@ still x so_far more n h =
     }
 
 -- one that is added is the first that was imported
-none_before : (b : Bool) → (if b then Ok false else Err KeyReused) ≡ Ok true → ⊥
-none_before true h = cc h
-none_before false h = cc h
-
-first_one : (y : ContestState) (p : Proposal) (r : Bool) → verdict_addition y p ≡ Ok r → (o : Option Proposal) → find is_imported (proposals_for p.team p.number y.proposals) ≡ o
-    → (elim o as (λ _. Type 0) [ None ↦ r ≡ true | (Some q) ↦ (r ≡ false) × ((q.verdict == p.verdict) ≡ true) ])
-first_one y p r h o e =
-    let go : (valid : Bool) (q : Option Proposal) → (if not valid then Err UnknownReference else (elim q as (λ _. Result Bool Cause) [
-      | (Some earlier) ↦ if earlier.verdict == p.verdict then Ok false else Err KeyReused
-      | None ↦ first_addition y p
-    ])) ≡ Ok r → (elim q as (λ _. Type 0) [ None ↦ r ≡ true | (Some u) ↦ (r ≡ false) × ((u.verdict == p.verdict) ≡ true) ]) = elim [
-      | false ↦ λ q k. absurd (cc k)
-      | true ↦ elim [
-        | None ↦ λ k. fresh (nat_le PROPOSALS (length (proposals_for p.team p.number y.proposals))) (has_release y p.team p.number) k
-        | (Some earlier) ↦ λ k. stood (earlier.verdict == p.verdict) k
-      ]
-    ] in
-    subst (λ q. (elim q as (λ _. Type 0) [ None ↦ r ≡ true | (Some u) ↦ (r ≡ false) × ((u.verdict == p.verdict) ≡ true) ])) e
-    (go (is_valid_proposal y p) (find is_imported (proposals_for p.team p.number y.proposals)) h)
-  where
-    fresh : (full released : Bool) → (if full then Err TableFull else (if released then Err AlreadyReleased else Ok true)) ≡ Ok r → r ≡ true
-    fresh true released k = absurd (cc k)
-    fresh false true k = absurd (cc k)
-    fresh false false k = cc k
-
-    stood : (b : Bool) → (if b then Ok false else Err KeyReused) ≡ Ok r → (r ≡ false) × (b ≡ true)
-    stood true k = (cc k, refl)
-    stood false k = absurd (cc k)
-
 has_added : (x : ContestState) (now : ℕ) (so_far : List NewVerdict) (n : NamedVerdict) → verdict_addition (with_verdicts x so_far) (imported_verdict x.fixed now n).proposal ≡ Ok true
     → Has (with_verdicts x (so_far ++ imported_verdict x.fixed now n ∷ [])) n
 has_added x now so_far n h =
-    let of : NewVerdict → Proposal = λ v. v.proposal in
     let own : Proposal → Bool = λ p. names n.team n.number (of_proposal p) in
     let v = imported_verdict x.fixed now n in
     let before = (with_verdicts x so_far).proposals in
-    let after : (with_verdicts x (so_far ++ v ∷ [])).proposals ≡ before ++ v.proposal ∷ [] =
-    ap (λ ps. x.proposals ++ ps) (map-append of so_far (v ∷ [])) ∙ sym (append_assoc x.proposals (map of so_far) (v.proposal ∷ [])) in
     let its_own : own v.proposal ≡ true = both_true _ _ (eq-eqb n.team n.team refl) (eq-eqb n.number n.number refl) in
     let none : (o : Option Proposal) → find is_imported (filter own before) ≡ o → option_or o (find is_imported (cond (own v.proposal) (v.proposal ∷ []) [])) ≡ Some v.proposal = elim [
       | None ↦ λ e. rw its_own refl
-      | (Some q) ↦ λ e. absurd (false≢true (sym (first_one (with_verdicts x so_far) v.proposal true h (Some q) e).0))
+      | (Some q) ↦ λ e. absurd (false≢true (sym (tested (with_verdicts x so_far) v.proposal true h (Some q) e).0))
     ] in
     record {
       proposal = v.proposal;
-      found = ap (λ ps. find is_imported (proposals_for n.team n.number ps)) after
+      found = ap (λ ps. find is_imported (proposals_for n.team n.number ps)) (sym (proposals_more x so_far v))
           ∙ (ap (find is_imported) (filter-append own before (v.proposal ∷ []))
           ∙ (find-append is_imported (filter own before) (filter own (v.proposal ∷ [])) ∙ none (find is_imported (filter own before)) refl));
       same = eq-eqb n.verdict n.verdict refl;
@@ -110,8 +75,8 @@ has_stood : (x : ContestState) (now : ℕ) (so_far : List NewVerdict) (n : Named
 has_stood x now so_far n h =
     let y = with_verdicts x so_far in
     let go : (o : Option Proposal) → imported y n ≡ o → Has y n = elim [
-      | None ↦ λ e. absurd (false≢true (first_one y (imported_verdict x.fixed now n).proposal false h None e))
-      | (Some q) ↦ λ e. record { proposal = q; found = e; same = (first_one y (imported_verdict x.fixed now n).proposal false h (Some q) e).1 }
+      | None ↦ λ e. absurd (false≢true (tested y (imported_verdict x.fixed now n).proposal false h None e).0)
+      | (Some q) ↦ λ e. record { proposal = q; found = e; same = (tested y (imported_verdict x.fixed now n).proposal false h (Some q) e).1 }
     ] in
     go (imported y n) refl
 
@@ -121,7 +86,7 @@ adds_nothing : (x : ContestState) (later : ℕ) (all : List NewVerdict) (w : Wan
 adds_nothing x later all w n e h =
     let y = with_verdicts x all in
     let p = (imported_verdict x.fixed later n).proposal in
-    let fits : is_valid_proposal y p ≡ true = named_fits x later w (Some n) (imported_verdict x.fixed later n) e refl in
+    let fits : is_valid_proposal y p ≡ true = named_fits x later w n e in
     let here : verdict_addition y p ≡ Ok false = rw (fits, h.found, h.same) refl in
     subst (λ (z : ContestState). verdict_addition z p ≡ Ok false) (sym (none_so_far y)) here
 

@@ -1,4 +1,4 @@
-pub mod StandingLemmas
+pub mod ImportedLemmas
 pub mod RecordLemmas
 pub mod SoFarLemmas
 pub mod AddableLemmas

@@ -1,4 +1,4 @@
-pub mod StandingVerdicts
+pub mod ImportedVerdicts
 pub mod VerdictFiles
 pub mod SoFar
 pub mod Laws

@@ -1,4 +1,5 @@
-//! Laws of imported verdicts: functions that do nothing, and whose contracts say what holds of every file.
+//! Laws of imported verdicts: functions that do nothing, and whose contracts say what holds of
+//! every file.
 ghost use Rattle.contest_import_verdicts.specs.Laws.{VerdictsAddNothingAgain, VerdictsAreAddable};
 
 /// The rows that a file of verdicts adds may be added to a valid contest, one after the other.

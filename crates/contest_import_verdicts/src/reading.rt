@@ -1,5 +1,6 @@
 //! A CSV file of verdicts.
-ghost use Rattle.std.specs.Prelude.{◌≡◌, ◌≢◌, ◌≤◌, ◌+◌, ◌∷◌, ◌++◌, ◌^◌, [], ℕ, List, true, false, None, Some, Ok, IfOk, IfErr, OnOk, length};
+ghost use Rattle.std.specs.Prelude.{◌≡◌, ◌≢◌, ◌≤◌, ◌+◌, ◌∷◌, ◌^◌, [], ℕ, List, true, false, None};
+ghost use Rattle.std.specs.Prelude.{Some, Ok, IfOk, IfErr, OnOk, length};
 ghost use Rattle.std.specs.List.{flat_map};
 ghost use Rattle.csv.specs.Records.{fields_of};
 ghost use Rattle.contest_types.specs.State.{ContestState};
@@ -8,7 +9,8 @@ ghost use Rattle.contest_files.specs.Refused.{Refuses};
 ghost use Rattle.contest_lists.specs.Lists.{loaded};
 ghost use Rattle.contest_rules.specs.Proposing.{entries_of};
 ghost use Rattle.contest_import_verdicts.specs.SoFar.{SoFar};
-ghost use Rattle.contest_import_verdicts.specs.VerdictFiles.{after_records, below_header, verdict_rows, verdicts_in};
+ghost use Rattle.contest_import_verdicts.specs.VerdictFiles.{after_records, below_header};
+ghost use Rattle.contest_import_verdicts.specs.VerdictFiles.{verdict_rows, verdicts_in};
 
 use crate::record::is_header;
 use crate::verdicts::VerdictsSoFar;
@@ -20,17 +22,17 @@ use csv::ByteRecord;
 use std::alloc::{AllocError, Global};
 
 /// What a CSV file of verdicts adds at a moment to the contest with these lists, in its order:
-/// `submission_id,judgement_type_id`. A verdict is proposed by the reserved account `import`. Where the
-/// contest asks for no verification its release comes after it. A record whose submission has an equal
-/// imported verdict adds nothing.
+/// `submission_id,judgement_type_id`. A verdict is proposed by the reserved account `import`. Where
+/// the contest asks for no verification its release comes after it. A record whose submission has
+/// an equal imported verdict adds nothing.
 ///
 /// # Errors
 ///
-/// `Malformed` where the header is missing; else the first record at fault, with its number, from 1,
-/// and the cause (`ImportRow`); or want of memory. The causes: a field that is no id (`Malformed`), a
-/// submission or a judgement type that isn't there (`UnknownReference`), a submission with an imported
-/// verdict of another type (`KeyReused`), one for which 1,000 verdicts were proposed (`TableFull`), and
-/// one that has a release (`AlreadyReleased`).
+/// `Malformed` where the header is missing; else the first record at fault, with its number, from
+/// 1, and the cause (`ImportRow`); or want of memory. The causes: a field that is no id
+/// (`Malformed`), a submission or a judgement type that isn't there (`UnknownReference`), a
+/// submission with an imported verdict of another type (`KeyReused`), one for which 1,000 verdicts
+/// were proposed (`TableFull`), and one that has a release (`AlreadyReleased`).
 pub fn read_verdicts_csv(
     alloc: Global,
     bytes: &[u8],
@@ -89,9 +91,9 @@ fn take_all(
     now: Moment,
 ) -> Result<(), Refusal>
     requires { length records.old ≤ 2 ^ 63 }
-    ensures ok { OnOk result ((x : ContestState) → SoFar x lists.now so_far.old.standing.imported_verdicts so_far.old.standing.proposal_counts so_far.old.standing.released_submissions so_far.old.verdicts
+    ensures ok { OnOk result ((x : ContestState) → SoFar x lists.now so_far.old.imported so_far.old.verdicts
         → after_records x now so_far.old.verdicts 1 records.old ≡ Ok so_far.new.verdicts) }
-    ensures err { IfErr result (λ e. (x : ContestState) → SoFar x lists.now so_far.old.standing.imported_verdicts so_far.old.standing.proposal_counts so_far.old.standing.released_submissions so_far.old.verdicts
+    ensures err { IfErr result (λ e. (x : ContestState) → SoFar x lists.now so_far.old.imported so_far.old.verdicts
         → Refuses e (after_records x now so_far.old.verdicts 1 records.old)) }
     ensures ordinary { IfErr result (λ e. e ≢ Refusal.StoreFault) }
 {
@@ -113,10 +115,10 @@ fn take(
     lists: &Lists,
     now: Moment,
 ) -> Result<(), Refusal>
-    ensures ok { OnOk result ((x : ContestState) → SoFar x lists.now so_far.old.standing.imported_verdicts so_far.old.standing.proposal_counts so_far.old.standing.released_submissions so_far.old.verdicts
-        → SoFar x lists.now so_far.new.standing.imported_verdicts so_far.new.standing.proposal_counts so_far.new.standing.released_submissions so_far.new.verdicts
+    ensures ok { OnOk result ((x : ContestState) → SoFar x lists.now so_far.old.imported so_far.old.verdicts
+        → SoFar x lists.now so_far.new.imported so_far.new.verdicts
         × ((rest : List (List (List ℕ))) → after_records x now so_far.old.verdicts n (fields_of row.now ∷ rest) ≡ after_records x now so_far.new.verdicts (n + 1) rest)) }
-    ensures err { IfErr result (λ e. (x : ContestState) → SoFar x lists.now so_far.old.standing.imported_verdicts so_far.old.standing.proposal_counts so_far.old.standing.released_submissions so_far.old.verdicts
+    ensures err { IfErr result (λ e. (x : ContestState) → SoFar x lists.now so_far.old.imported so_far.old.verdicts
         → (rest : List (List (List ℕ))) → Refuses e (after_records x now so_far.old.verdicts n (fields_of row.now ∷ rest))) }
     ensures ordinary { IfErr result (λ e. e ≢ Refusal.StoreFault) }
 {
@@ -133,17 +135,7 @@ fn entries_of(alloc: Global, verdicts: Rows<NewVerdict>) -> Result<Rows<Entry>, 
 {
     let mut entries = Rows::new(alloc);
     for verdict in verdicts.into_vec() {
-        push_verdict(&mut entries, verdict)?;
+        verdict.push_into(&mut entries)?;
     }
     Ok(entries)
-}
-
-fn push_verdict(entries: &mut Rows<Entry>, verdict: NewVerdict) -> Result<(), AllocError>
-    ensures { OnOk result (entries.new ≡ entries.old ++ entries_of verdict) }
-{
-    entries.push(Entry::NewProposal(verdict.proposal))?;
-    if let Some(release) = verdict.release {
-        entries.push(Entry::NewRelease(release))?;
-    }
-    Ok(())
 }

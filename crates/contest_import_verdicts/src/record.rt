@@ -1,7 +1,8 @@
 //! A record of a file of verdicts.
 ghost use Rattle.std.specs.Prelude.{◌≡◌, IfOk, IfErr};
 ghost use Rattle.csv.specs.Records.{fields_of};
-ghost use Rattle.contest_import_verdicts.specs.VerdictFiles.{are_names, is_header, two_of, wanted_by, wanted_in};
+ghost use Rattle.contest_import_verdicts.specs.VerdictFiles.{are_names, is_header, two_of};
+ghost use Rattle.contest_import_verdicts.specs.VerdictFiles.{wanted_by, wanted_in};
 
 use contest_files::field;
 use contest_rules::WantedVerdict;

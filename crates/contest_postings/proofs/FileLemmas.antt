@@ -10,12 +10,7 @@ use Rattle.contest_types.specs.State.{ContestState, submissions_of}
 use Rattle.contest_types.specs.Valid.{is_valid}
 use Rattle.contest_types.specs.declared.submission.Submission.{Submission}
 use Rattle.contest_view.proofs.OwnNumbers.{number_of, find_both, own_numbers}
-
-first_is : (n k m : ℕ) (ns : List ℕ) → n ∷ ns ≡ range_with_len k (suc m) → n ≡ k
-first_is n k m ns e = cc e
-
-rest_is : (n k m : ℕ) (ns : List ℕ) → n ∷ ns ≡ range_with_len k (suc m) → ns ≡ range_with_len (k + 1) m
-rest_is n k m ns e = cc e
+use Rattle.contest_types.proofs.Ranges.{first_is, rest_is}
 
 number_at : (ss : List Submission) (k n i : ℕ) (s : Submission) → map number_of ss ≡ range_with_len k n → slice_get ss i ≡ Some s → s.number ≡ k + i
 number_at [] k n i s all at = absurd (cc at)

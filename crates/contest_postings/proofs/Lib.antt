@@ -2,6 +2,5 @@ pub mod OwnRows
 pub mod OwnLemmas
 pub mod FileLemmas
 pub mod PostLemmas
-pub mod NamedVerdictLemmas
+pub mod NamedSubmissionLemmas
 pub mod LoadedClock
-pub mod JudgedLemmas

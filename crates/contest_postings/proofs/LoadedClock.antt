@@ -30,8 +30,8 @@ set_over x l now w are fixed submissions clarifications =
     (λ i. set_clock (fixed i) (submissions i) (clarifications i) now w)
     ∙ (ap (λ (y : ContestState). set_clock y.fixed y.submissions y.clarifications now w) are ∙ set_by_loaded x.fixed x.submissions x.clarifications now w)
 
-pub final_over : (x l : ContestState) (now : ℕ) {f : FixedPart} {ss : List Submission} {vs : List Release} {rs : List Rejudging} → l ≡ loaded x → f ≡ l.fixed → ss ≡ l.submissions → vs ≡ l.releases → rs ≡ l.rejudgings
-    → finalize f ss vs rs now ≡ finalize x.fixed x.submissions x.releases x.rejudgings now
-final_over x l now are fixed submissions releases rejudgings =
-    (λ i. finalize (fixed i) (submissions i) (releases i) (rejudgings i) now)
+pub final_over : (x l : ContestState) (now : ℕ) {f : FixedPart} {ss : List Submission} {rs : List Rejudging} → l ≡ loaded x → f ≡ l.fixed → ss ≡ l.submissions → rs ≡ l.rejudgings
+    → finalize f ss l.releases rs now ≡ finalize x.fixed x.submissions x.releases x.rejudgings now
+final_over x l now are fixed submissions rejudgings =
+    (λ i. finalize (fixed i) (submissions i) l.releases (rejudgings i) now)
     ∙ (ap (λ (y : ContestState). finalize y.fixed y.submissions y.releases y.rejudgings now) are ∙ final_by_loaded x.fixed x.submissions x.releases x.rejudgings now)

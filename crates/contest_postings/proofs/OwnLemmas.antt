@@ -12,10 +12,10 @@ use Rattle.contest_rules.specs.Submitting.{has_key, so_far, standing_under}
 use Rattle.contest_rules.specs.declared.submitting.OwnSoFar.{OwnSoFar}
 use Rattle.contest_lists.specs.Lists.{places_of}
 use Rattle.contest_lists.proofs.TeamRowLemmas.{as_many}
-use Rattle.contest_view.proofs.OwnNumbers.{own_loaded}
 use Rattle.contest_postings.specs.OwnSubmissions.{file_at, bytes_of, keyed_row, with_file}
 use Rattle.contest_postings.proofs.FileLemmas.{file_there}
 use Rattle.contest_postings.proofs.OwnRows.{found_somewhere}
+use Rattle.contest_types.proofs.OwnLemmas.{own_loaded}
 
 time_of : (o : Option Submission) → option_map (λ (s : Submission). s.time) (option_map without_file o) ≡ option_map (λ (s : Submission). s.time) o
 time_of None = refl

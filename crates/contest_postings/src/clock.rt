@@ -1,4 +1,5 @@
 //! An administrator sets the start or the thaw, and makes the results final.
+use crate::judged::JudgedSoFar;
 use crate::posting::{Done, Posting};
 use contest_lists::Lists;
 use contest_objects::{contest_value, state_value};
@@ -79,13 +80,13 @@ impl<'a> Posting<'a> for Finalize {
 
     fn decide(
         self,
-        alloc: Global,
+        _alloc: Global,
         lists: &'a Lists,
         now: Moment,
     ) -> Result<Result<FinalResults, RuleRefusal>, AllocError> {
-        let (submissions, releases) = (lists.submissions(), lists.releases());
-        let fixed = lists.fixed();
-        match decide_final(alloc, fixed, submissions, releases, lists.rejudgings(), now)? {
+        let (submissions, rejudgings) = (lists.submissions(), lists.rejudgings());
+        let judged = JudgedSoFar { lists };
+        match decide_final(lists.fixed(), submissions, &judged, rejudgings, now) {
             Ok(change) => Ok(Ok(FinalResults { now, change })),
             Err(refusal) => Ok(Err(refusal)),
         }

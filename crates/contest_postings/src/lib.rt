@@ -1,5 +1,5 @@
-//! What is posted, once its body is read: what its rules decide over a contest's lists, and how that is
-//! answered.
+//! What is posted, once its body is read: what its rules decide over a contest's lists, and how
+//! that is answered.
 #![tactic(auto)]
 
 mod clarification;
@@ -16,7 +16,6 @@ mod verification;
 
 pub use clarification::Clarifying;
 pub use clock::{FinalResults, Finalize, SetClock};
-pub use named::named_verdict;
 pub use opening::{OpenedRejudging, Opening};
 pub use own_so_far::keyed_row;
 pub use posting::{Done, Posting, carry_out};

@@ -25,7 +25,8 @@ pub struct OpenedRejudging {
 }
 
 impl<'a> Posting<'a> for Opening {
-    ghost use Rattle.contest_postings.specs.PostRejudgings.{opening, opening_entries, opening_object};
+    ghost use Rattle.contest_postings.specs.PostRejudgings.{opening, opening_entries};
+    ghost use Rattle.contest_postings.specs.PostRejudgings.{opening_object};
 
     type Done = OpenedRejudging;
 

@@ -19,8 +19,8 @@ pub fn keyed_row(lists: &Lists, team: usize, key: &Option<Id>) -> Option<(usize,
     Some((team, submission.number))
 }
 
-/// The submissions so far of the team at a place, from 0, for one that it posts with a key; the file of
-/// the one that has the key comes with it. It takes no memory.
+/// The submissions so far of the team at a place, from 0, for one that it posts with a key; the
+/// file of the one that has the key comes with it. It takes no memory.
 pub fn own_so_far<'a>(
     lists: &'a Lists,
     team: usize,

@@ -6,7 +6,7 @@ use contest_lists::Lists;
 use contest_objects::proposal_value;
 use contest_requests::JuryVerdict;
 use contest_rules::{NewVerdict, RuleRefusal, decide_proposal};
-use contest_types::{Entry, Fixed, Moment, Rows};
+use contest_types::{Fixed, Moment, Rows};
 use std::alloc::{AllocError, Global};
 
 /// A verdict that a judge proposes.
@@ -47,10 +47,7 @@ impl<'a> Posting<'a> for Proposing {
         let value = proposal_value(alloc, &fixed.settings, &done.proposal, released)?;
         let text = value.to_vec(alloc)?;
         let mut entries = Rows::new(alloc);
-        entries.push(Entry::NewProposal(done.proposal))?;
-        if let Some(release) = done.release {
-            entries.push(Entry::NewRelease(release))?;
-        }
+        done.push_into(&mut entries)?;
         Ok(Done { text, entries })
     }
 }

@@ -8,7 +8,9 @@ ghost use Rattle.contest_lists.specs.Lists.{loaded};
 ghost use Rattle.contest_rules.specs.Rejudging.{apply_on, cancel_on, rejudge_on};
 ghost use Rattle.contest_rules.specs.Verdicts.{named_verdict};
 ghost use Rattle.contest_postings.specs.DoneThings.{done_of, ruled_with};
-ghost use Rattle.contest_postings.specs.PostRejudgings.{apply_change, cancel_change, change_entries, change_object, member_change};
+ghost use Rattle.contest_postings.specs.PostRejudgings.{apply_change, cancel_change};
+ghost use Rattle.contest_postings.specs.PostRejudgings.{change_entries, change_object};
+ghost use Rattle.contest_postings.specs.PostRejudgings.{member_change};
 
 use crate::judged::JudgedSoFar;
 use crate::named::named_verdict;
@@ -55,7 +57,8 @@ pub struct RejudgingChange {
 }
 
 impl<'a> Posting<'a> for Rejudge<'a> {
-    ghost use Rattle.contest_postings.specs.PostRejudgings.{change_entries, change_object, rejudging_change};
+    ghost use Rattle.contest_postings.specs.PostRejudgings.{change_entries, change_object};
+    ghost use Rattle.contest_postings.specs.PostRejudgings.{rejudging_change};
 
     type Done = RejudgingChange;
 

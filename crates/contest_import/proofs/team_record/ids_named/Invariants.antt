@@ -2,7 +2,7 @@ use Rattle.std.proofs.Common.{◌≡◌, ◌+◌, ◌++◌, ℕ, List, [], lengt
 use Rattle.std.specs.Option.{option_map, option_map_or}
 use Rattle.contest_types.specs.Options.{all_some}
 use Rattle.contest_types.specs.IdText.{id_of}
-use Rattle.contest_import.specs.Words.{words}
+use Rattle.contest_types.specs.Words.{words}
 use Rattle.contest_import.proofs.team_record.ids_named.Given as goal
 
 abbrev pub invariant-loop-rest : goal.invariant-loop-rest

@@ -10,10 +10,10 @@ results now change = record { now = now; change = change }
 
 pub returns-in-Ok : goal.returns-in-Ok
 returns-in-Ok c = λ x valid are fits.
-    ap (ruled_with (results c.args.now)) (sym c.in-Ok.is ∙ (c.in_ok-change.ensures
-    ∙ final_over x c.args.lists.now c.args.now are c.fixed-fixed.ensures c.submissions-submissions.ensures c.releases-releases.ensures c.rejudgings.ensures))
+    ap (ruled_with (results c.args.now)) (sym c.in-Ok.is ∙ (c.decide_final.ensures
+    ∙ final_over x c.args.lists.now c.args.now are c.fixed.ensures c.submissions-submissions.ensures c.rejudgings-rejudgings.ensures))
 
 pub returns-in-Err : goal.returns-in-Err
 returns-in-Err c = λ x valid are fits.
-    ap (ruled_with (results c.args.now)) (sym c.in-Err.is ∙ (c.in_ok-change.ensures
-    ∙ final_over x c.args.lists.now c.args.now are c.fixed-fixed.ensures c.submissions-submissions.ensures c.releases-releases.ensures c.rejudgings.ensures))
+    ap (ruled_with (results c.args.now)) (sym c.in-Err.is ∙ (c.decide_final.ensures
+    ∙ final_over x c.args.lists.now c.args.now are c.fixed.ensures c.submissions-submissions.ensures c.rejudgings-rejudgings.ensures))

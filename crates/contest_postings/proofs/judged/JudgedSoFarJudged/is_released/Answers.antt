@@ -1,6 +1,6 @@
 use Rattle.std.proofs.Common.{◌∙◌, ap}
 use Rattle.std.specs.Prelude.{nat_lt}
-use Rattle.contest_postings.proofs.JudgedLemmas.{counted_released}
+use Rattle.contest_rules.proofs.JudgedLemmas.{counted_released}
 use Rattle.contest_postings.proofs.judged.JudgedSoFarJudged.is_released.Goals as goal
 
 pub returns : goal.returns
