@@ -2,3 +2,4 @@ pub mod FiledLemmas
 pub mod LeaveLemmas
 pub mod CallsLeft
 pub mod ScoringLemmas
+pub mod CalmLemmas

@@ -1,9 +1,9 @@
 -- What scoring reads of lists, and of the same lists after a change.
-use Rattle.std.proofs.Common.{◌≡◌, ◌∙◌, List, [], ◌∷◌, Option, Some, None, ap, append-nil, true, false, refl, sym}
+use Rattle.std.proofs.Common.{◌≡◌, ◌∙◌, List, [], Option, Some, None, ap, append-nil, true, false, refl, sym}
 use Rattle.std.proofs.lemmas.Bool.{false≢true}
 use Rattle.std.specs.List.{last_or}
 use Rattle.std.specs.Option.{option_map}
-use Rattle.std.specs.Prelude.{◌==◌, ◌&&◌, if◌then◌else◌, map, ℕ}
+use Rattle.std.specs.Prelude.{◌==◌, ◌&&◌, if◌then◌else◌, ℕ}
 use Rattle.contest_types.specs.Loads.{without_file}
 use Rattle.contest_types.specs.Sight.{Judgement, judgement_of, last_on, type_of}
 use Rattle.contest_types.specs.State.{ContestState, of_release, releases_on}
@@ -17,10 +17,7 @@ use Rattle.contest_score.specs.CachedCells.{AreCellsOf, cached_at, has_number, m
 use Rattle.contest_score.specs.declared.cached_cells.CachedCells.{CachedCells}
 use Rattle.contest_score.proofs.CachedLemmas.{ScoredAlike, after_release, after_submission, cells_stay}
 use Rattle.contest_store.specs.Grown.{IsGrown, scores_nothing}
-
-last_mapped : {X Y : Type 0} (f : X → Y) (o : Option X) (xs : List X) → option_map f (last_or o xs) ≡ last_or (option_map f o) (map f xs)
-last_mapped f o [] = refl
-last_mapped f o (x ∷ xs) = last_mapped f (Some x) xs
+use Rattle.contest_types.proofs.LastLemmas.{last_mapped}
 
 mapped_again : {X Y Z : Type 0} (g : Y → Z) (f : X → Y) (o : Option X) → option_map g (option_map f o) ≡ option_map (λ x. g (f x)) o
 mapped_again g f None = refl

@@ -1,5 +1,5 @@
 -- A contest in memory.
-use Rattle.std.specs.Prelude.{◌≡◌, ◌≤◌, ℕ, ◌-◌, ◌==◌, Bool, true, false, List, length, map, Option, None, Some, Result, Err, take, if◌then◌else◌}
+use Rattle.std.specs.Prelude.{◌≡◌, ◌⊎◌, ◌≤◌, ℕ, ◌-◌, ◌==◌, Bool, true, false, List, length, map, Option, None, Some, IsTrue, Result, Err, take, if◌then◌else◌}
 use Rattle.std.specs.Option.{option_map}
 use Rattle.contest_streams.specs.Streams.{one_more}
 use Rattle.contest_types.specs.Loads.{without_file}
@@ -8,9 +8,9 @@ use Rattle.contest_types.specs.declared.entry.Entry.{Entry}
 use Rattle.contest_types.specs.declared.entry.Entry.TheVariants.{NewSubmission}
 use Rattle.contest_types.specs.declared.submission.Submission.{Submission}
 use Rattle.contest_lists.specs.Lists.{filed}
-use Rattle.contest_store.specs.Keeping.{Kept}
+use Rattle.contest_store.specs.Keeping.{Adds, Commits, Kept, Reads}
 use Rattle.contest_store.specs.declared.store_error.StoreError.{StoreError}
-use Rattle.contest_store.specs.declared.store_error.StoreError.TheVariants.{Fault}
+use Rattle.contest_store.specs.declared.store_error.StoreError.TheVariants.{Fault, Memory}
 
 -- the submissions with their files, and how many of them are committed; the lists as the last commit left
 -- them, and with what was added since, if anything was; how many calls failed, were refused memory and
@@ -93,6 +93,16 @@ gone_on s = record s { calls_left = option_map (λ calls. calls - 1) s.calls_lef
 abbrev pub FaultsIf : {T : Type 0} → Bool → Result T StoreError → Type 0
 FaultsIf due (Err Fault) = due ≡ true
 FaultsIf due _ = due ≡ false
+
+-- a call on it was refused memory: one that reads, adds or commits
+abbrev pub LacksMemory : (old new : Stored) → Type 0
+LacksMemory old new =
+    Reads {T = Unit {0}} (Err Memory) (kept_of old) (kept_of new)
+    ⊎ (((x : ContestState) × Adds {T = Unit {0}} (Err Memory) (kept_of old) (kept_of new) x) ⊎ ((x : ContestState) × Commits {T = Unit {0}} (Err Memory) (kept_of old) (kept_of new) x))
+
+-- that is no trouble to it, and doesn't shut it
+abbrev pub MemoryStaysCalm : Type 0
+MemoryStaysCalm = (old new : Stored) → LacksMemory old new → ((kept_of new).troubles ≡ (kept_of old).troubles) × IsTrue (kept_of new).is_open
 
 -- how many more calls go on after one, until one is made to fail; after that all do
 abbrev pub left_after : Option ℕ → Option ℕ

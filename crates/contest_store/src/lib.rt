@@ -1,6 +1,7 @@
 //! Where a contest is kept: what any store of one promises, and a store in memory.
 #![tactic(auto)]
 
+pub mod laws;
 mod memory;
 mod scored_lists;
 mod scoring;

@@ -1,8 +1,11 @@
 //! A contest in memory: for tests of what stands above a store.
-ghost use Rattle.std.specs.Prelude.{◌≡◌, ◌==◌, ◌&&◌, ◌++◌, IfOk, IsTrue, OnOk, OnErr, [], None, Some, true, false, find, map, option_map};
+ghost use Rattle.std.specs.Prelude.{◌≡◌, ◌==◌, ◌&&◌, ◌++◌, IfOk, IsTrue, OnOk, OnErr, [], None};
+ghost use Rattle.std.specs.Prelude.{Some, true, false, find, map, option_map};
 ghost use Rattle.std.specs.Option.{option_to_list};
 ghost use Rattle.contest_lists.specs.Lists.{filed, unfiled, with_submissions};
-ghost use Rattle.contest_store.specs.InMemory.{committed_of, contest_of, counted, failed, gone_on, is_due, lists_of, refused, rolled_back, submission_in};
+ghost use Rattle.contest_store.specs.InMemory.{committed_of, contest_of, counted, failed, gone_on};
+ghost use Rattle.contest_store.specs.InMemory.{is_due, lists_of, refused, rolled_back};
+ghost use Rattle.contest_store.specs.InMemory.{submission_in};
 ghost use Rattle.contest_types.specs.Addable.{is_addable};
 ghost use Rattle.contest_types.specs.Loads.{file_of, without_file};
 ghost use Rattle.contest_types.specs.State.{add};
@@ -264,7 +267,8 @@ impl ContestStore for MemoryStore {
         Ok(())
     }
 
-    // The entry is dropped by name: where it ends at a return, each of its kinds is a step of the proof.
+    // The entry is dropped by name: where it ends at a return, each of its kinds is a step of the
+    // proof.
     fn append(&mut self, alloc: Global, entry: Entry) -> Result<(), StoreError>
         requires loaded { IsTrue (kept_of self.old).is_loaded }
         requires addable { (kept_of self.old).is_clean → is_addable (kept_of self.old).contest entry ≡ true }

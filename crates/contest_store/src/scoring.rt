@@ -1,8 +1,19 @@
 //! The cells that lists come to, and those that a change bears on, counted again.
-ghost use Rattle.std.specs.Prelude.{◌≡◌, ◌<◌, ◌↔◌, ◌^◌, ◌==◌, ◌&&◌, ℕ, IfOk, IsTrue, None, OnOk, Some, if◌then◌else◌, length};
+//!
+//! 1. The cells are those of the lists (`AreCellsOf`); of more submissions than a cell can count
+//!    nothing is said (`cells_of`).
+//! 2. They are so again after each change, once the lists have it (`score`).
+//! 3. A submission or a release bears on one cell, under either mask; a proposal, a clarification,
+//!    a rejudging or an account on none (`scores_nothing`); all else on all cells.
+//! 4. A cell is counted from its own team's submissions at its problem, and from no other row
+//!    (`cell_of`).
+//! 5. After want of memory the cells are of no use (`score` says nothing of them then).
+ghost use Rattle.std.specs.Prelude.{◌≡◌, ◌<◌, ◌↔◌, ◌^◌, ◌==◌, ◌&&◌, ℕ, IfOk, IsTrue, None, OnOk};
+ghost use Rattle.std.specs.Prelude.{Some, if◌then◌else◌, length};
 ghost use Rattle.contest_types.specs.State.{ContestState};
 ghost use Rattle.contest_types.specs.Sight.{last_on, type_of};
-ghost use Rattle.contest_score.specs.CachedCells.{AreCellsOf, attempt_at, cached_at, cell_to_keep, has_number, masked_cell};
+ghost use Rattle.contest_score.specs.CachedCells.{AreCellsOf, attempt_at, cached_at, cell_to_keep};
+ghost use Rattle.contest_score.specs.CachedCells.{has_number, masked_cell};
 ghost use Rattle.contest_score.specs.Contest.{contest_cell};
 ghost use Rattle.contest_score.specs.Counting.{HasRoom, cell_with};
 ghost use Rattle.contest_score.specs.MaskedCells.{start_of};
@@ -13,8 +24,8 @@ use contest_score::{Attempt, CachedCells, Cell, MaskedCell, seen_attempt, with_a
 use contest_types::{Entry, Marks, Mask, Moment, Submission, TimeSpan};
 use std::alloc::{AllocError, Global};
 
-/// The cells that lists come to, each counted once. Of more submissions than a cell can count nothing is
-/// said.
+/// The cells that lists come to, each counted once. Of more submissions than a cell can count
+/// nothing is said.
 ///
 /// # Errors
 ///
@@ -107,8 +118,8 @@ fn count_again(
     cells.put(team, problem, masked_cell(lists, team, problem))
 }
 
-// Counts again the cells of a team at the problems of its submissions with a number, of which there is one
-// in a valid contest.
+// Counts again the cells of a team at the problems of its submissions with a number, of which there
+// is one in a valid contest.
 fn count_numbered(
     cells: &mut CachedCells,
     lists: &Lists,

@@ -18,7 +18,7 @@ use std::alloc::Global;
 /// A contest, whoever keeps it. Changes stand in one transaction until `commit`.
 ///
 /// An `Err` of a call leaves no change that wasn't committed. A store that a fault has shut stays
-/// shut; want of memory never shuts it.
+/// shut. It is shut only if what lies under it failed.
 ///
 /// # Errors
 ///
@@ -38,7 +38,8 @@ pub trait ContestStore {
         requires { IsTrue (kept self.now).is_loaded }
         ensures { (kept self.now).is_clean → result.now ≡ loaded (kept self.now).contest };
 
-    /// The cells that these lists come to, for each team and problem with a submission under either mask.
+    /// The cells that these lists come to, for each team and problem with a submission under either
+    /// mask.
     fn cells(&self) -> &CachedCells
         requires { IsTrue (kept self.now).is_loaded }
         ensures { (kept self.now).is_clean → is_valid (kept self.now).contest ≡ true → cell_cached result.now ≡ (λ mask. contest_cell mask (kept self.now).contest) };
@@ -67,7 +68,8 @@ pub trait ContestStore {
         requires addable { (kept self.old).is_clean → is_addable (kept self.old).contest entry ≡ true }
         ensures { Adds result (kept self.old) (kept self.new) (add (kept self.old).contest entry) };
 
-    /// Keeps all changes that were made since the last commit. Without one the contest stays as it is.
+    /// Keeps all changes that were made since the last commit. Without one the contest stays as it
+    /// is.
     fn commit(&mut self) -> Result<(), StoreError>
         requires { IsTrue (kept self.old).is_loaded }
         ensures { Commits result (kept self.old) (kept self.new) (kept self.old).contest };

@@ -3,7 +3,7 @@ use Rattle.std.proofs.Common.{◌≡◌, ◌≢◌, ◌⊎◌, ◌∙◌, Bool, 
 use Rattle.std.specs.Prelude.{◌&&◌, ◌==◌}
 use Rattle.std.specs.List.{AllByRecursion, list_any}
 use Rattle.std.proofs.Math.Path.{fun_ext}
-use Rattle.std.proofs.lemmas.Bool.{false≢true, eqb-true, eq-eqb}
+use Rattle.std.proofs.lemmas.Bool.{false≢true, eq-eqb}
 use Rattle.std.proofs.lemmas.List.{map-append}
 use Rattle.std.proofs.lemmas.List.Sorted.{IsPermutation-cons, IsPermutation-middle, IsPermutation-sym, IsPermutation-trans}
 use Rattle.sqlite_keyed.specs.Lists.{sort_by}
@@ -26,7 +26,7 @@ use Rattle.contest_types.proofs.SeenWhole.{one_submission}
 use Rattle.contest_score.specs.Scoring.{cell_of_attempts}
 use Rattle.contest_score.specs.MaskedCells.{start_of}
 use Rattle.contest_score.specs.ScoringLaws.{bears_on, is_at}
-use Rattle.contest_score.proofs.OneChange.{attempts_but_its, attempts_but_one, named_team, none_passes}
+use Rattle.contest_score.proofs.OneChange.{attempts_but_its, attempts_but_one, named_team, none_passes, named_number}
 use Rattle.contest_store_cells.specs.CellRows.{by_place, cell_row, cell_rows, cells_under, first_attempts}
 use Rattle.contest_store_cells.proofs.CellOrder.{IsPlaced, cells_apart, row_at}
 use Rattle.contest_store_cells.proofs.FirstAttempts.{at_place, elsewhere_first, one_more_first, place_turned}
@@ -139,16 +139,13 @@ pub submission_keeps : (x : ContestState) (s u : Submission) → at_place s u �
 submission_keeps x s u other mask =
     ap (λ attempts. cell_row x.fixed.settings mask u.team u.problem (cell_of_attempts (start_of x.fixed.marks) attempts)) (attempts_but_one mask x s u.team u.problem (off_place s u other))
 
-its_number : (v : Release) (u : Submission) → names u.team u.number (of_release v) ≡ true → v.number ≡ u.number
-its_number v u h = eqb-true v.number u.number (and_right (v.team == u.team) _ h)
-
 -- and so does a release on it
 pub release_keeps : (x : ContestState) (v : Release) (s u : Submission) → is_valid x ≡ true → Has x.submissions s → names s.team s.number (of_release v) ≡ true → at_place s u ≡ false → HasSameRow x (add x (NewRelease v)) u
 release_keeps x v s u valid there is other mask =
     let none : bears_on v x u.team u.problem ≡ false = none_passes (λ t. names t.team t.number (of_release v) && is_at u.team u.problem t) x.submissions
     (λ t h e.
     (let on : names t.team t.number (of_release v) ≡ true = and_left _ _ e in
-    let same : t ≡ s = one_submission x t s valid h there (sym (named_team v t on) ∙ named_team v s is) (sym (its_number v t on) ∙ its_number v s is) in
+    let same : t ≡ s = one_submission x t s valid h there (sym (named_team v t on) ∙ named_team v s is) (sym (named_number v t on) ∙ named_number v s is) in
     let at : at_place u s ≡ true = ap (at_place u) (sym same) ∙ and_right (names t.team t.number (of_release v)) _ e in
     false≢true (sym (place_turned u s ∙ other) ∙ at))) in
     ap (λ attempts. cell_row x.fixed.settings mask u.team u.problem (cell_of_attempts (start_of x.fixed.marks) attempts)) (attempts_but_its mask x v u.team u.problem none)

@@ -8,6 +8,8 @@ use Rattle.std.proofs.lemmas.Bool.{false≢true, eq-eqb, ltb-true}
 use Rattle.std.proofs.lemmas.Bool.Decides.{nat_tests}
 use Rattle.std.proofs.lemmas.Map.Text.{is_eq-slice_cmp}
 use Rattle.std.proofs.lemmas.Slice.Eq.{bytes_eq-Decides}
+use Rattle.std.proofs.Math.Bool.{and-false}
+use Rattle.std.proofs.lemmas.Option.{same_Some}
 use Rattle.sqlite_keyed.proofs.ListLemmas.{all_weaker, all_from_test, ascending-append, ascending-map}
 use Rattle.sqlite_trees.specs.Tree.{IsAscending}
 use Rattle.sqlite_value.specs.declared.value.Value.TheVariants.{Text}
@@ -62,10 +64,6 @@ keys_tied x m n a b =
     let ids = value_cmp (Text (problem_id_at x.fixed.settings.problems a.problem)) (Text (problem_id_at x.fixed.settings.problems b.problem)) in
     then_tied masks (ordering_then teams (ordering_then ids Equal)) ∙ ap (λ b. is_eq masks && b) (then_tied teams (ordering_then ids Equal) ∙ ap (λ b. is_eq teams && b) (then_tied ids Equal))
 
-nothing_more : (b : Bool) → (b && false) ≡ false
-nothing_more true = refl
-nothing_more false = refl
-
 -- different problems have different ids
 pub apart_ids : (ps : List Problem) (i j : ℕ) → are_different (map (λ (p : Problem). p.id) ps) ≡ true → i < length ps → j < length ps → (j == i) ≡ false → bytes_eq (problem_id_at ps i) (problem_id_at ps j) ≡ false
 apart_ids ps i j different here there other =
@@ -73,13 +71,10 @@ apart_ids ps i j different here there other =
       | true ↦ λ e.
           (let same = (bytes_eq-Decides (problem_id_at ps i) (problem_id_at ps j)).0 e in
           let places : Some i ≡ Some j = sym (place_there (λ (p : Problem). p.id) ps i different here) ∙ ap (λ id. place_of id (map (λ (p : Problem). p.id) ps)) same ∙ place_there (λ (p : Problem). p.id) ps j different there in
-          absurd (false≢true (sym other ∙ eq-eqb j i (sym (same_some i j places)))))
+          absurd (false≢true (sym other ∙ eq-eqb j i (sym (same_Some i j places)))))
       | false ↦ λ e. refl
     ] in
     go (bytes_eq (problem_id_at ps i) (problem_id_at ps j)) refl
-  where
-    same_some : (m n : ℕ) → Some m ≡ Some n → m ≡ n
-    same_some m n h = cc h
 
 module _ (x : ContestState) (placed : IsPlaced x) where
   abbrev IsThere : Submission → Type 0
@@ -99,13 +94,13 @@ module _ (x : ContestState) (placed : IsPlaced x) where
           | true ↦ λ t p h. absurd (false≢true (sym h))
           | false ↦ λ t p h.
               (let text : ids ≡ false = apart_texts _ _ (apart_ids x.fixed.settings.problems a.problem b.problem placed.different here there p) in
-              rw text (nothing_more teams))
+              rw text (and-false teams))
         ]
         | false ↦ λ p t q h.
             (let number : teams ≡ false = apart_numbers (a.team + 1) (b.team + 1) (grind (arith, nat_tests, t)) in
             rw number refl)
       ] in
-      keys_tied x mask mask a b ∙ ap (λ rest. masks && rest) (go (b.team == a.team) (b.problem == a.problem) refl refl other) ∙ nothing_more masks
+      keys_tied x mask mask a b ∙ ap (λ rest. masks && rest) (go (b.team == a.team) (b.problem == a.problem) refl refl other) ∙ and-false masks
 
   -- and those under different masks
   masks_apart : (a b : Submission) → AreApart (row_at x Held a) (row_at x Full b)

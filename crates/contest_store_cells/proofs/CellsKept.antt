@@ -1,9 +1,10 @@
 -- Changes but submissions and releases leave the rows of all cells.
-use Rattle.std.proofs.Common.{◌≡◌, ◌∙◌, ◌<◌, ℕ, zero, suc, Bool, true, false, List, [], ◌∷◌, ◌++◌, length, slice_get, Option, Some, None, refl, sym, ap, arith, subst}
+use Rattle.std.proofs.Common.{◌≡◌, ◌∙◌, ◌<◌, ℕ, Bool, true, false, List, [], ◌∷◌, ◌++◌, length, Option, Some, None, refl, sym, ap, subst}
 use Rattle.std.specs.Prelude.{IfSome, if◌then◌else◌}
 use Rattle.std.specs.List.{AllByRecursion}
 use Rattle.std.specs.Option.{option_map, option_map_or}
 use Rattle.std.proofs.lemmas.Bool.{eqb-true, false≢true}
+use Rattle.std.proofs.lemmas.List.{nil_from_length}
 use Rattle.sqlite_keyed.proofs.ListLemmas.{all_of, all_weaker}
 use Rattle.contest_types.specs.Addable.{is_addable}
 use Rattle.contest_types.specs.Clock.{is_frozen}
@@ -36,26 +37,17 @@ use Rattle.contest_store_cells.specs.CellLaws.{is_on_a_submission}
 use Rattle.contest_store_cells.proofs.CellChanges.{HasSameRow, cells_same}
 use Rattle.contest_store_cells.proofs.CellOrder.{is_placed}
 use Rattle.contest_store_cells.proofs.FirstAttempts.{all_first}
+use Rattle.contest_types.proofs.GrownSettings.{at_append}
 
 -- where no submission stands there are no cells
 no_start : (x : ContestState) (start : Option ℕ) → is_addable x (SetStart start) ≡ true → cell_rows (add x (SetStart start)) ≡ cell_rows x
 no_start x start may =
-    let none : x.submissions ≡ [] = empty x.submissions (eqb-true (length x.submissions) 0 (and_left _ _ (and_left _ _ may))) in
+    let none : x.submissions ≡ [] = nil_from_length x.submissions (eqb-true (length x.submissions) 0 (and_left _ _ (and_left _ _ may))) in
     cells_same x (add x (SetStart start)) refl (subst (λ ss. AllByRecursion (HasSameRow x (add x (SetStart start))) (first_attempts ss)) (sym none) tt)
-  where
-    empty : (ss : List Submission) → length ss ≡ 0 → ss ≡ []
-    empty [] h = refl
-    empty (s ∷ ss) h = absurd (cc h)
 
 -- a mark or a setting that no cell reads
 unread : (x y : ContestState) → first_attempts y.submissions ≡ first_attempts x.submissions → ((s : Submission) → HasSameRow x y s) → cell_rows y ≡ cell_rows x
 unread x y first same = cells_same x y first (all_of (HasSameRow x y) same (first_attempts x.submissions))
-
--- what stands at a place stands there with one more
-slice_kept : {X : Type 0} (xs more : List X) (i : ℕ) → i < length xs → slice_get (xs ++ more) i ≡ slice_get xs i
-slice_kept [] more i within = absurd (omega (arith, within))
-slice_kept (x ∷ xs) more zero within = refl
-slice_kept (x ∷ xs) more (suc i) within = slice_kept xs more i (omega (arith, within))
 
 -- a new judgement type, which no release names yet
 module _ (x : ContestState) (t : JudgementType) (valid : is_valid x ≡ true) where
@@ -70,7 +62,7 @@ module _ (x : ContestState) (t : JudgementType) (valid : is_valid x ≡ true) wh
 
   same_type : (v : Option ℕ) → IsThere v → verdict_of (s.types ++ t ∷ []) v ≡ verdict_of s.types v
   same_type None there = refl
-  same_type (Some place) there = ap (option_map (λ (u : JudgementType). record { solving = u.solved; penalised = u.penalty })) (slice_kept s.types (t ∷ []) place there)
+  same_type (Some place) there = ap (option_map (λ (u : JudgementType). record { solving = u.solved; penalised = u.penalty })) (at_append s.types (t ∷ []) place there)
 
   same_verdict : (mask : Mask) (time : ℕ) (v : Option ℕ) → IsThere v → verdict_of (s.types ++ t ∷ []) (verdict_under mask y.fixed.settings x.fixed.marks time v) ≡ verdict_of s.types (verdict_under mask s x.fixed.marks time v)
   same_verdict Full time v there = same_type v there
@@ -91,7 +83,7 @@ module _ (x : ContestState) (t : JudgementType) (valid : is_valid x ≡ true) wh
 
 -- a new problem, which no submission names yet
 id_kept : (ps : List Problem) (p : Problem) (i : ℕ) → i < length ps → problem_id_at (ps ++ p ∷ []) i ≡ problem_id_at ps i
-id_kept ps p i within = ap (λ (o : Option Problem). option_map_or (λ (q : Problem). q.id) o []) (slice_kept ps (p ∷ []) i within)
+id_kept ps p i within = ap (λ (o : Option Problem). option_map_or (λ (q : Problem). q.id) o []) (at_append ps (p ∷ []) i within)
 
 problem_keeps : (x : ContestState) (p : Problem) → is_valid x ≡ true → cell_rows (add x (NewProblem p)) ≡ cell_rows x
 problem_keeps x p valid =

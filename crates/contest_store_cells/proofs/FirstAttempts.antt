@@ -1,14 +1,15 @@
 -- The first submission of each team at each problem: no two at one place, and one more where a place is new.
-use Rattle.std.proofs.Common.{◌≡◌, ◌∙◌, ℕ, Bool, true, false, List, [], ◌∷◌, ◌++◌, filter, refl, sym, ap, append-nil}
-use Rattle.std.specs.Prelude.{not, ◌||◌, ◌==◌, if◌then◌else◌}
+use Rattle.std.proofs.Common.{◌≡◌, ◌∙◌, Bool, true, false, List, [], ◌∷◌, ◌++◌, filter, refl, sym, ap, append-nil}
+use Rattle.std.specs.Prelude.{not, ◌||◌, if◌then◌else◌}
 use Rattle.std.specs.List.{AllByRecursion, list_any}
-use Rattle.std.proofs.lemmas.Bool.{false≢true, eqb-true, eq-eqb, ne_eqb}
+use Rattle.std.proofs.lemmas.Bool.{false≢true}
 use Rattle.std.proofs.lemmas.List.Elements.{filter-append}
 use Rattle.sqlite_keyed.proofs.ListLemmas.{all-filter, ascending-filter, none_from_any}
 use Rattle.sqlite_trees.specs.Tree.{IsAscending}
 use Rattle.contest_types.specs.declared.submission.Submission.{Submission}
 use Rattle.contest_score.specs.ScoringLaws.{is_at}
 use Rattle.contest_store_cells.specs.CellRows.{first_attempts}
+use Rattle.contest_score.proofs.CachedLemmas.{eq_turned}
 
 -- the second is at the place of the first
 abbrev pub at_place : Submission → Submission → Bool
@@ -33,14 +34,6 @@ first_apart (s ∷ ss) = (passed (at_place s) (first_attempts ss), ascending-fil
 pub all_first : (P : Submission → Type 0) (ss : List Submission) → AllByRecursion P ss → AllByRecursion P (first_attempts ss)
 all_first P [] all = tt
 all_first P (s ∷ ss) all = (all.0, all-filter P (λ u. not (at_place s u)) (first_attempts ss) (all_first P ss all.1))
-
-pub eq_turned : (m n : ℕ) → (m == n) ≡ (n == m)
-eq_turned m n =
-    let go : (b : Bool) → (m == n) ≡ b → b ≡ (n == m) = elim [
-      | true ↦ λ e. sym (eq-eqb n m (sym (eqb-true m n e)))
-      | false ↦ λ e. sym (ne_eqb n m (λ k. false≢true (sym e ∙ eq-eqb m n (sym k))))
-    ] in
-    go (m == n) refl
 
 pub place_turned : (s u : Submission) → at_place s u ≡ at_place u s
 place_turned s u = rw (eq_turned u.team s.team, eq_turned u.problem s.problem) refl

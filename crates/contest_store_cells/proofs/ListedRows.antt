@@ -1,20 +1,15 @@
 -- Rows compared with those of cells.
-use Rattle.std.proofs.Common.{◌≡◌, ◌+◌, ◌<◌, ◌≤◌, ◌∙◌, ℕ, true, List, [], ◌∷◌, ◌++◌, length, map, take, get_or, Option, Some, None, refl, sym, ap, ap₂, subst}
+use Rattle.std.proofs.Common.{◌≡◌, ◌+◌, ◌<◌, ◌≤◌, ◌∙◌, ℕ, true, List, [], ◌∷◌, ◌++◌, length, map, take, get_or, refl, sym, ap, ap₂, subst}
 use Rattle.std.specs.List.{list_all}
 use Rattle.std.specs.Option.{option_map}
 use Rattle.std.proofs.lemmas.List.{get_or-map, length-map, map_more, take_all, take_more}
-use Rattle.sqlite.specs.Values.{or_null}
 use Rattle.sqlite_value.specs.Order.{Row}
 use Rattle.contest_types.specs.Setup.{Setup}
 use Rattle.contest_types.specs.declared.minute.Minute.{Minute}
-use Rattle.contest_store_rows.specs.Cells.{number, same_row}
-use Rattle.contest_store_rows.proofs.RowLemmas.{is_no_real, row_itself, same_rows}
+use Rattle.contest_store_rows.specs.Cells.{same_row}
+use Rattle.contest_store_rows.proofs.RowLemmas.{is_no_real, row_itself, same_rows, no_real_number}
 use Rattle.contest_store_cells.specs.PlacedCells.{placed_row}
 use Rattle.contest_store_cells.specs.declared.placed.PlacedCell.{PlacedCell}
-
-no_real_number : (minute : Option ℕ) → is_no_real (or_null number minute) ≡ true
-no_real_number None = refl
-no_real_number (Some minute) = refl
 
 no_reals : (s : Setup) (c : PlacedCell) → list_all is_no_real (placed_row s c) ≡ true
 no_reals s c = rw (no_real_number (option_map (λ (m : Minute). m.0) c.cell.solved)) refl

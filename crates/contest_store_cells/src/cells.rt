@@ -11,8 +11,8 @@ use contest_store_rows::number;
 use contest_types::{Mask, Minute, Settings};
 use sqlite::types::ValueRef;
 
-/// The cells of the row of what a team's attempts at a problem come to under a mask. Team and problem are
-/// places in the settings, from 0.
+/// The cells of the row of what a team's attempts at a problem come to under a mask. Team and
+/// problem are places in the settings, from 0.
 pub fn cell_cells(
     settings: &Settings,
     mask: Mask,

@@ -16,8 +16,8 @@ use contest_types::Settings;
 use sqlite::Row;
 use std::alloc::{AllocError, Global};
 
-/// Whether rows are exactly those of a contest's cells, in the order of their table. Of lists that are no
-/// valid contest nothing is said.
+/// Whether rows are exactly those of a contest's cells, in the order of their table. Of lists that
+/// are no valid contest nothing is said.
 ///
 /// # Errors
 ///

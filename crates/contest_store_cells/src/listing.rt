@@ -1,12 +1,14 @@
 //! The cells of a contest, listed in the order of their table.
-ghost use Rattle.std.specs.Prelude.{◌≡◌, ℕ, ◌+◌, ◌<◌, ◌^◌, ◌++◌, true, All, IfOk, OnOk, [], ◌∷◌, map, if◌then◌else◌};
+ghost use Rattle.std.specs.Prelude.{◌≡◌, ℕ, ◌+◌, ◌<◌, ◌^◌, ◌++◌, true, All, IfOk, OnOk, [], ◌∷◌};
+ghost use Rattle.std.specs.Prelude.{map, if◌then◌else◌};
 ghost use Rattle.contest_types.specs.State.{ContestState};
 ghost use Rattle.contest_types.specs.Valid.{is_valid};
 ghost use Rattle.contest_lists.specs.Lists.{loaded};
 ghost use Rattle.contest_score.specs.CachedCells.{cell_cached};
 ghost use Rattle.contest_score.specs.ScoringLaws.{is_at};
 ghost use Rattle.contest_store_cells.specs.CellRows.{cell_rows};
-ghost use Rattle.contest_store_cells.specs.Listing.{cell_at, cells_at, first_places, is_seen, place_of};
+ghost use Rattle.contest_store_cells.specs.Listing.{cell_at, cells_at, first_places, is_seen};
+ghost use Rattle.contest_store_cells.specs.Listing.{place_of};
 ghost use Rattle.contest_store_cells.specs.PlacedCells.{placed_row};
 
 use crate::placed::{PlacedCell, sort};
@@ -19,8 +21,8 @@ use std::collections::HashSet;
 /// The places of teams and of problems, each pair once.
 type Places = HashSet<(usize, usize)>;
 
-/// The cells of a contest in the order of their table, in one pass over the submissions. Those by teams that
-/// aren't in the settings are left out; a valid contest has none.
+/// The cells of a contest in the order of their table, in one pass over the submissions. Those by
+/// teams that aren't in the settings are left out; a valid contest has none.
 ///
 /// # Errors
 ///

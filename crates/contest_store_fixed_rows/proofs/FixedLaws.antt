@@ -1,15 +1,14 @@
 -- The fixed part of a contest and the rows of its four tables are one to one.
-use Rattle.std.proofs.Common.{◌≡◌, ◌∙◌, ℕ, true, List, [], ◌∷◌, ◌++◌, Option, Some, None, refl, sym, ap}
+use Rattle.std.proofs.Common.{◌≡◌, ◌∙◌, true, List, [], ◌∷◌, ◌++◌, Some, refl, sym, ap}
 use Rattle.std.specs.List.{list_all}
 use Rattle.std.specs.Option.{option_and_then}
-use Rattle.sqlite.specs.Values.{or_null}
 use Rattle.sqlite_value.specs.Order.{Row}
 use Rattle.contest_types.specs.Setup.{Setup, IsValid, is_valid_head}
 use Rattle.contest_types.specs.State.{FixedPart}
-use Rattle.contest_store_rows.specs.Cells.{number, same_row}
+use Rattle.contest_store_rows.specs.Cells.{same_row}
 use Rattle.contest_store_rows.specs.FixedRows.{contest_row, desk_row, items_rows}
 use Rattle.contest_store_rows.specs.declared.versions.Version.{Version}
-use Rattle.contest_store_rows.proofs.RowLemmas.{is_no_real, row_itself, same_rows}
+use Rattle.contest_store_rows.proofs.RowLemmas.{is_no_real, row_itself, same_rows, no_real_number}
 use Rattle.contest_store_fixed_rows.specs.AccountRows.{accounts_in}
 use Rattle.contest_store_fixed_rows.specs.FixedParts.{fixed_if, fixed_of_row, fixed_said, is_desk, only, settings_in, setup_of}
 use Rattle.contest_store_fixed_rows.specs.Heads.{head_in, marks_in}
@@ -20,10 +19,6 @@ use Rattle.contest_store_fixed_rows.proofs.HeadLaws.{head_read, marks_read}
 use Rattle.contest_store_fixed_rows.proofs.ItemLaws.{items_read}
 use Rattle.contest_store_fixed_rows.proofs.ItemsWritten.{items_written}
 use Rattle.contest_store_fixed_rows.proofs.OptionSteps.{bound, where_true}
-
-no_real_number : (n : Option ℕ) → is_no_real (or_null number n) ≡ true
-no_real_number None = refl
-no_real_number (Some n) = refl
 
 contest_plain : (f : FixedPart) → list_all is_no_real (contest_row f) ≡ true
 contest_plain f = rw (no_real_number f.settings.head.freeze, no_real_number f.marks.start, no_real_number f.marks.thaw, no_real_number f.marks.finalized) refl

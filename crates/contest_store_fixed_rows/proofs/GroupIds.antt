@@ -16,7 +16,8 @@ use Rattle.contest_types.proofs.PlaceLemmas.{and_left, and_right}
 use Rattle.contest_store_rows.specs.FixedRows.{joined_ids}
 use Rattle.contest_store_rows.specs.Lists.{each_some}
 use Rattle.contest_store_rows.proofs.PlaceBack.{place_there}
-use Rattle.contest_store_fixed_rows.specs.Items.{groups_in, groups_named, spaced_ids, words}
+use Rattle.contest_store_fixed_rows.specs.Items.{groups_in, groups_named, spaced_ids}
+use Rattle.contest_types.specs.Words.{words}
 use Rattle.contest_store_fixed_rows.specs.Laws.{IsWritableItem}
 use Rattle.contest_store_fixed_rows.proofs.WordLemmas.{joined_first}
 

@@ -2,6 +2,7 @@
 use Rattle.std.proofs.Common.{◌≡◌, ℕ, ◌≤◌, true, Option, Some, None, refl, arith}
 use Rattle.std.specs.Prelude.{nat_le, nat_lt, IfSome, ◌^◌, ◌&&◌}
 use Rattle.std.proofs.lemmas.Bool.Decides.{nat_tests}
+use Rattle.std.proofs.lemmas.Bool.{le-leb}
 use Rattle.sqlite.specs.Values.{or_null}
 use Rattle.contest_types.specs.Setup.{is_valid_head, has_valid_freeze, has_valid_medals}
 use Rattle.contest_types.specs.State.{FixedPart}
@@ -14,12 +15,9 @@ use Rattle.contest_store_rows.proofs.ClarificationLaws.{flag_back}
 use Rattle.contest_store_fixed_rows.specs.Heads.{head_in, marks_in, time_if_any}
 use Rattle.contest_store_fixed_rows.specs.Laws.{IsWritableItem, IsWritableMarks}
 
-within : (n : ℕ) → n ≤ LAST_MOMENT → nat_le n LAST_MOMENT ≡ true
-within n l = grind (arith, nat_tests, l)
-
 time_back : (t : Option ℕ) → IfSome t (λ n. n ≤ LAST_MOMENT) → time_if_any (or_null number t) ≡ Some t
 time_back None w = refl
-time_back (Some n) w = rw (within n w) refl
+time_back (Some n) w = rw (le-leb n LAST_MOMENT w) refl
 
 pub marks_read : (f : FixedPart) → IsWritableMarks f.marks → marks_in (contest_row f) ≡ Some f.marks
 marks_read f w = rw (time_back f.marks.start w.start, time_back f.marks.thaw w.thaw, time_back f.marks.finalized w.finalized) refl
@@ -66,4 +64,4 @@ pub head_read : (f : FixedPart) → is_valid_head f.settings.head ≡ true → I
 head_read f v w =
     let h = f.settings.head in
     let b = fits h v in
-    rw (b.gold, b.silver, b.bronze, b.penalty, within h.duration b.duration, time_back h.freeze b.freeze, w.id, w.name, flag_back h.verification) refl
+    rw (b.gold, b.silver, b.bronze, b.penalty, le-leb h.duration LAST_MOMENT b.duration, time_back h.freeze b.freeze, w.id, w.name, flag_back h.verification) refl

@@ -1,8 +1,8 @@
 -- The settings are read of their rows: each is the next of its kind and may be added.
 use Rattle.std.proofs.Common.{◌≡◌, ◌∙◌, ℕ, ◌+◌, ◌≤◌, true, List, [], ◌∷◌, ◌++◌, append_assoc, append-nil, length, length-append, Some, refl, sym, ap, arith}
-use Rattle.std.specs.Prelude.{map, nat_lt, ◌<◌, ◌^◌, Ok}
+use Rattle.std.specs.Prelude.{map, ◌^◌, Ok}
 use Rattle.std.specs.List.{AllByRecursion, list_all}
-use Rattle.std.proofs.lemmas.Bool.Decides.{nat_tests}
+use Rattle.std.proofs.lemmas.Bool.{lt-ltb}
 use Rattle.sqlite_value.specs.Order.{Row}
 use Rattle.contest_types.specs.Places.{are_different}
 use Rattle.contest_types.specs.Rows.{same_type, same_language, same_group, same_team}
@@ -71,9 +71,6 @@ group_added s valid front g gs is w =
     let few : length (front ++ g ∷ gs) ≤ GROUPS = rw is valid.few_groups in
     rw (w.id, w.name, row_itself (group_row (length front + 1) g) refl, is_next (λ (x : Group). x.id) same_group GROUPS front g gs different few) refl
 
-small : (n : ℕ) → n < 2 ^ 16 → nat_lt n (2 ^ 16) ≡ true
-small n l = grind (arith, nat_tests, l)
-
 problem_next : (s : Setup) → IsValid s → (front : List Problem) (p : Problem) (ps : List Problem) → front ++ p ∷ ps ≡ s.problems → problem_addition (with_problems s front) p ≡ Ok true
 problem_next s valid front p ps is =
     let different : are_different (map (λ (x : Problem). x.id) (front ++ p ∷ ps)) ≡ true = rw is valid.problems in
@@ -84,7 +81,7 @@ problem_next s valid front p ps is =
 problem_added : (s : Setup) → IsValid s → (front : List Problem) (p : Problem) (ps : List Problem) → front ++ p ∷ ps ≡ s.problems → IsWritableProblem p →
     with_item_in (with_problems s front) (problem_row (length front + 1) p) ≡ Some (with_problems s (front ++ p ∷ []))
 problem_added s valid front p ps is w =
-    rw (small p.ordinal w.ordinal, w.id, w.name, w.label, row_itself (problem_row (length front + 1) p) refl, problem_next s valid front p ps is) refl
+    rw (lt-ltb p.ordinal (2 ^ 16) w.ordinal, w.id, w.name, w.label, row_itself (problem_row (length front + 1) p) refl, problem_next s valid front p ps is) refl
 
 team_next : (s : Setup) → IsValid s → (front : List Team) (t : Team) (ts : List Team) → front ++ t ∷ ts ≡ s.teams → refers (length s.groups) t ≡ true → team_addition (with_teams s front) t ≡ Ok true
 team_next s valid front t ts is there =

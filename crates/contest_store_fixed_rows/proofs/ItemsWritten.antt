@@ -18,6 +18,7 @@ use Rattle.contest_store_rows.proofs.ListLaws.{one_more, rows_from}
 use Rattle.contest_store_rows.proofs.RowLemmas.{same_rows}
 use Rattle.contest_store_fixed_rows.specs.Items.{is_in_order, is_new, items_in, with_item_in, with_kind_in, with_type_in, with_language_in, with_group_in, with_problem_in, with_team_in, type_said, language_said, group_said, problem_said, team_said}
 use Rattle.contest_store_fixed_rows.proofs.OptionSteps.{bound, where_true}
+use Rattle.contest_types.proofs.AddClarification.{empty_of}
 
 -- what was added, and its row
 record Added {X : Type 0} (row : X → Row) (r : Row) (grown : X → Setup) (next : Setup) : Type 0 where
@@ -41,10 +42,6 @@ after front more one r is = ap (λ rows. front ++ rows) is ∙ sym (append_assoc
 
 end_row : {X : Type 0} (row_of : ℕ → X → Row) (xs : List X) (x : X) → rows_from row_of 1 (xs ++ x ∷ []) ++ [] ≡ (rows_from row_of 1 xs ++ []) ++ row_of (length xs + 1) x ∷ []
 end_row row_of xs x = at_end (rows_from row_of 1 (xs ++ x ∷ [])) (rows_from row_of 1 xs) (row_of (length xs + 1) x ∷ []) (one_more row_of 1 xs x)
-
-nothing : {X : Type 0} (xs : List X) → (length xs == 0) ≡ true → xs ≡ []
-nothing [] is = refl
-nothing (x ∷ xs) is = absurd (grind (arith, nat_tests, is))
 
 type_added : (s next : Setup) (r : Row) (x : JudgementType) → r ≡ type_row (length s.types + 1) x → next ≡ record s { types = s.types ++ x ∷ [] } → s.languages ≡ [] → s.groups ≡ [] → s.problems ≡ [] → s.teams ≡ [] → items_rows next ≡ items_rows s ++ r ∷ []
 type_added s next r x row_is next_is l g p t = rw (next_is, row_is, l, g, p, t)
@@ -91,29 +88,29 @@ team_written s next r is =
     let a = added (team_row s (length s.teams + 1)) r (λ x. is_new (team_addition s x)) (λ x. record s { teams = s.teams ++ x ∷ [] }) (team_said s r) next is in
     team_added s next r a.x a.row_is a.next_is
 
-no_kind : (kind : ℕ) (s : Setup) (r : Row) → (kind == 0) ≡ false → (kind == 1) ≡ false → (kind == 2) ≡ false → (kind == 3) ≡ false → (kind == 4) ≡ false → with_kind_in kind s r ≡ None
+pub no_kind : (kind : ℕ) (s : Setup) (r : Row) → (kind == 0) ≡ false → (kind == 1) ≡ false → (kind == 2) ≡ false → (kind == 3) ≡ false → (kind == 4) ≡ false → with_kind_in kind s r ≡ None
 no_kind kind s r a b c d e = rw (a, b, c, d, e) refl
 
-some_and_none : (s : Setup) → Some s ≡ None → ⊥
+pub some_and_none : (s : Setup) → Some s ≡ None → ⊥
 some_and_none s is = absurd (cc is)
 
 by_kind : (kind : ℕ) (s next : Setup) (r : Row) → is_in_order kind s ≡ true → with_kind_in kind s r ≡ Some next → items_rows next ≡ items_rows s ++ r ∷ []
 by_kind zero s next r o is =
     type_written s next r is
-    (nothing s.languages (and_left _ _ (and_left _ _ (and_left _ (length s.teams == 0) o))))
-    (nothing s.groups (and_right (length s.languages == 0) _ (and_left _ _ (and_left _ (length s.teams == 0) o))))
-    (nothing s.problems (and_right ((length s.languages == 0) && (length s.groups == 0)) _ (and_left _ (length s.teams == 0) o)))
-    (nothing s.teams (and_right ((length s.languages == 0) && (length s.groups == 0) && (length s.problems == 0)) _ o))
+    (empty_of s.languages (and_left _ _ (and_left _ _ (and_left _ (length s.teams == 0) o))))
+    (empty_of s.groups (and_right (length s.languages == 0) _ (and_left _ _ (and_left _ (length s.teams == 0) o))))
+    (empty_of s.problems (and_right ((length s.languages == 0) && (length s.groups == 0)) _ (and_left _ (length s.teams == 0) o)))
+    (empty_of s.teams (and_right ((length s.languages == 0) && (length s.groups == 0) && (length s.problems == 0)) _ o))
 by_kind (suc zero) s next r o is =
     language_written s next r is
-    (nothing s.groups (and_left _ _ (and_left _ (length s.teams == 0) o)))
-    (nothing s.problems (and_right (length s.groups == 0) _ (and_left _ (length s.teams == 0) o)))
-    (nothing s.teams (and_right ((length s.groups == 0) && (length s.problems == 0)) _ o))
+    (empty_of s.groups (and_left _ _ (and_left _ (length s.teams == 0) o)))
+    (empty_of s.problems (and_right (length s.groups == 0) _ (and_left _ (length s.teams == 0) o)))
+    (empty_of s.teams (and_right ((length s.groups == 0) && (length s.problems == 0)) _ o))
 by_kind (suc (suc zero)) s next r o is =
     group_written s next r is
-    (nothing s.problems (and_left _ (length s.teams == 0) o))
-    (nothing s.teams (and_right (length s.problems == 0) _ o))
-by_kind (suc (suc (suc zero))) s next r o is = problem_written s next r is (nothing s.teams o)
+    (empty_of s.problems (and_left _ (length s.teams == 0) o))
+    (empty_of s.teams (and_right (length s.problems == 0) _ o))
+by_kind (suc (suc (suc zero))) s next r o is = problem_written s next r is (empty_of s.teams o)
 by_kind (suc (suc (suc (suc zero)))) s next r o is = team_written s next r is
 by_kind (suc (suc (suc (suc (suc n))))) s next r o is =
     let none = no_kind (suc (suc (suc (suc (suc n))))) s r (grind (arith, nat_tests)) (grind (arith, nat_tests)) (grind (arith, nat_tests)) (grind (arith, nat_tests)) (grind (arith, nat_tests)) in

@@ -4,9 +4,10 @@ use Rattle.std.specs.Prelude.{find, nat_le, not, Ok}
 use Rattle.std.specs.List.{list_all}
 use Rattle.std.specs.Str.{bytes_eq}
 use Rattle.std.proofs.lemmas.Bool.Decides.{nat_tests}
+use Rattle.std.proofs.lemmas.Bool.{not-true}
 use Rattle.contest_types.specs.Additions.{addition}
 use Rattle.contest_types.specs.Places.{are_different, is_among}
-use Rattle.contest_types.proofs.PlaceLemmas.{and_left, and_right, both_false, differs, not_true, or_left, or_right}
+use Rattle.contest_types.proofs.PlaceLemmas.{and_left, and_right, both_false, differs, or_left, or_right}
 
 unlike : {T : Type 0} (id : T → List ℕ) (x : T) (rest : List T) (front : List T) (text : List ℕ) → is_among (map id (front ++ x ∷ rest)) text ≡ false → bytes_eq (id x) text ≡ false
 unlike id x rest [] text n = or_left _ _ n
@@ -15,14 +16,14 @@ unlike id x rest (y ∷ ys) text n = unlike id x rest ys text (or_right (bytes_e
 pub new_before : {T : Type 0} (id : T → List ℕ) (front : List T) (x : T) (rest : List T) → are_different (map id (front ++ x ∷ rest)) ≡ true → find (λ other. bytes_eq (id x) (id other)) front ≡ None
 new_before id [] x rest d = refl
 new_before id (y ∷ ys) x rest d =
-    let off : bytes_eq (id x) (id y) ≡ false = unlike id x rest ys (id y) (not_true _ (and_left _ _ d)) in
+    let off : bytes_eq (id x) (id y) ≡ false = unlike id x rest ys (id y) (not-true _ (and_left _ _ d)) in
     rw off (new_before id ys x rest (and_right (not (is_among (map id (ys ++ x ∷ rest)) (id y))) _ d))
 
 pub not_before : {T : Type 0} (id : T → List ℕ) (front : List T) (x : T) (rest : List T) → are_different (map id (front ++ x ∷ rest)) ≡ true → is_among (map id front) (id x) ≡ false
 not_before id [] x rest d = refl
 not_before id (y ∷ ys) x rest d =
     both_false _ _
-    (differs (id x) (id y) (unlike id x rest ys (id y) (not_true _ (and_left _ _ d))))
+    (differs (id x) (id y) (unlike id x rest ys (id y) (not-true _ (and_left _ _ d))))
     (not_before id ys x rest (and_right (not (is_among (map id (ys ++ x ∷ rest)) (id y))) _ d))
 
 pub has_room : {T : Type 0} (most : ℕ) (front : List T) (x : T) (rest : List T) → length (front ++ x ∷ rest) ≤ most → nat_le most (length front) ≡ false

@@ -1,12 +1,13 @@
 -- The settings that rows are: each row is added to those before it.
 use Rattle.std.specs.Prelude.{ℕ, ◌+◌, ◌^◌, nat_lt, ◌&&◌, ◌||◌, ◌==◌, ◌++◌, Bool, false, List, [], ◌∷◌, length, map, Option, Some, None, Result, Ok, Err, if◌then◌else◌}
-use Rattle.std.specs.List.{flat_map, slice_split}
+use Rattle.std.specs.List.{flat_map}
 use Rattle.std.specs.Option.{option_map, option_and_then}
 use Rattle.sqlite_value.specs.Order.{Row, column}
 use Rattle.contest_types.specs.Places.{place_of}
 use Rattle.contest_types.specs.Setup.{Setup}
 use Rattle.contest_types.specs.SettingsNames.{group_id_at}
 use Rattle.contest_types.specs.SetupAdditions.{type_addition, language_addition, group_addition, problem_addition, team_addition}
+use Rattle.contest_types.specs.Words.{words}
 use Rattle.contest_types.specs.declared.objects.JudgementType.{JudgementType}
 use Rattle.contest_types.specs.declared.objects.Language.{Language}
 use Rattle.contest_types.specs.declared.objects.Problem.{Problem}
@@ -60,10 +61,6 @@ with_group_in s r =
 abbrev pub with_problem_in : Setup → Row → Option Setup
 with_problem_in s r =
     option_and_then (λ p. if same_row r (problem_row (length s.problems + 1) p) && is_new (problem_addition s p) then Some (record s { problems = s.problems ++ p ∷ [] }) else None) (problem_said r)
-
--- the words of a text, one space between each two
-abbrev pub words : List ℕ → List (List ℕ)
-words = slice_split (λ c. c == 32)
 
 -- the places of the groups whose ids are the words
 abbrev pub groups_named : Setup → (text : List ℕ) → Option (List ℕ)

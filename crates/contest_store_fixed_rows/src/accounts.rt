@@ -3,7 +3,8 @@ ghost use Rattle.std.specs.Prelude.{◌≡◌, ◌==◌, Some, None, IfOk, lengt
 ghost use Rattle.sqlite_value.specs.Order.{column};
 ghost use Rattle.contest_store_rows.specs.Cells.{lent};
 ghost use Rattle.contest_store_rows.specs.FixedRows.{account_row, role_number, role_team};
-ghost use Rattle.contest_store_fixed_rows.specs.AccountRows.{account_in, account_said, accounts_in, digest_in, role_in};
+ghost use Rattle.contest_store_fixed_rows.specs.AccountRows.{account_in, account_said, accounts_in};
+ghost use Rattle.contest_store_fixed_rows.specs.AccountRows.{digest_in, role_in};
 ghost use Rattle.sqlite_value.specs.Value.{owned};
 ghost use Rattle.sqlite_value.specs.declared.value.Value.TheVariants.{Text};
 ghost use Rattle.sqlite.specs.Values.{or_null};

@@ -5,7 +5,9 @@ ghost use Rattle.contest_store_fixed_rows.specs.AccountRows.{accounts_in};
 ghost use Rattle.contest_store_fixed_rows.specs.Items.{items_in};
 ghost use Rattle.contest_store_rows.specs.Cells.{same_row};
 ghost use Rattle.contest_store_rows.specs.FixedRows.{contest_row};
-ghost use Rattle.contest_store_fixed_rows.specs.FixedParts.{fixed_if, fixed_in, fixed_of_row, fixed_said, is_desk, only, settings_in, setup_of};
+ghost use Rattle.contest_store_fixed_rows.specs.FixedParts.{fixed_if, fixed_in, fixed_of_row};
+ghost use Rattle.contest_store_fixed_rows.specs.FixedParts.{fixed_said, is_desk, only, settings_in};
+ghost use Rattle.contest_store_fixed_rows.specs.FixedParts.{setup_of};
 
 use crate::accounts::read_accounts;
 use crate::heads::{contest_cells, desk_cells, head_in, marks_in};
@@ -15,8 +17,9 @@ use contest_types::{ContestHead, Fixed, Marks, Settings};
 use sqlite::Row;
 use std::alloc::{AllocError, Global};
 
-/// The fixed part of the contest that the rows of the tables `desk`, `contest`, `items` and `accounts`
-/// are in a version of the schema, each in the order of its key; none where they are those of no contest.
+/// The fixed part of the contest that the rows of the tables `desk`, `contest`, `items` and
+/// `accounts` are in a version of the schema, each in the order of its key; none where they are
+/// those of no contest.
 ///
 /// # Errors
 ///

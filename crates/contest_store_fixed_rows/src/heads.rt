@@ -5,7 +5,8 @@ ghost use Rattle.sqlite_value.specs.Value.{owned};
 ghost use Rattle.sqlite.specs.Values.{or_null};
 ghost use Rattle.contest_store_rows.specs.Cells.{lent, number};
 ghost use Rattle.contest_store_rows.specs.FixedRows.{contest_row, desk_row};
-ghost use Rattle.contest_store_fixed_rows.specs.Heads.{head_in, marks_in, marks_row, medals_in, small_in, time_if_any, within_time};
+ghost use Rattle.contest_store_fixed_rows.specs.Heads.{head_in, marks_in, marks_row, medals_in};
+ghost use Rattle.contest_store_fixed_rows.specs.Heads.{small_in, time_if_any, within_time};
 ghost use Rattle.contest_store_rows.specs.Readings.{number_if_any};
 
 use contest_store_rows::{Version, cell, id_in, is_set, name_in, number, number_at};

@@ -1,8 +1,11 @@
 //! The settings as rows, and the settings that rows are.
 ghost use Rattle.std.specs.Prelude.{◌≡◌, ◌<◌, ◌^◌, Some, None, true, false, IfOk};
 ghost use Rattle.contest_store_rows.specs.Cells.{lent};
-ghost use Rattle.contest_store_rows.specs.FixedRows.{group_row, item_row, language_row, problem_row, type_row};
-ghost use Rattle.contest_store_fixed_rows.specs.Items.{group_said, language_said, problem_said, type_said, with_group_in, with_language_in, with_problem_in, with_type_in};
+ghost use Rattle.contest_store_rows.specs.FixedRows.{group_row, item_row, language_row};
+ghost use Rattle.contest_store_rows.specs.FixedRows.{problem_row, type_row};
+ghost use Rattle.contest_store_fixed_rows.specs.Items.{group_said, language_said, problem_said};
+ghost use Rattle.contest_store_fixed_rows.specs.Items.{type_said, with_group_in, with_language_in};
+ghost use Rattle.contest_store_fixed_rows.specs.Items.{with_problem_in, with_type_in};
 
 use contest_store_rows::{id_in, is_row, is_set, name_in, number, number_at};
 use contest_types::{Group, JudgementType, Language, Problem, RowFault, Settings};

@@ -1,7 +1,9 @@
-//! Laws of the rows of a contest: functions that do nothing, and whose contracts say that its fixed part, and
-//! the whole of it, and their rows are one to one.
-ghost use Rattle.contest_store_fixed_rows.specs.Laws.{AccountsReadBack, AccountsWriteBack, FixedReadsBack, FixedWritesBack};
-ghost use Rattle.contest_store_fixed_rows.specs.SpellingLaws.{ContestsReadBack, ContestsWriteBack, FirstContestsReadBack};
+//! Laws of the rows of a contest: functions that do nothing, and whose contracts say that its fixed
+//! part, and the whole of it, and their rows are one to one.
+ghost use Rattle.contest_store_fixed_rows.specs.Laws.{AccountsReadBack, AccountsWriteBack};
+ghost use Rattle.contest_store_fixed_rows.specs.Laws.{FixedReadsBack, FixedWritesBack};
+ghost use Rattle.contest_store_fixed_rows.specs.SpellingLaws.{ContestsReadBack, ContestsWriteBack};
+ghost use Rattle.contest_store_fixed_rows.specs.SpellingLaws.{FirstContestsReadBack};
 
 /// Accounts are read of their own rows, and of no others.
 pub fn accounts_are_their_rows()

@@ -1,5 +1,5 @@
-//! The settings, the accounts and the marks of a contest as rows of their tables, and those that rows are;
-//! and the lists of a contest that the rows of all its tables are.
+//! The settings, the accounts and the marks of a contest as rows of their tables, and those that
+//! rows are; and the lists of a contest that the rows of all its tables are.
 #![tactic(auto)]
 
 mod accounts;

@@ -1,8 +1,8 @@
 //! The rows of all tables of a contest.
 use sqlite::Row;
 
-/// The rows of the tables of the lists as a load gives them, each table's in the order of its key; of a
-/// submission's file only its type and its size.
+/// The rows of the tables of the lists as a load gives them, each table's in the order of its key;
+/// of a submission's file only its type and its size.
 #[derive(Drop)]
 pub struct LoadedRows {
     pub desk: Vec<Row>,

@@ -1,7 +1,11 @@
 //! The lists of a contest from the rows of its tables.
 ghost use Rattle.std.specs.Prelude.{◌≡◌, Some, None, true, false, IfOk};
 ghost use Rattle.contest_store_rows.specs.Clarifications.{clarifications_in};
-ghost use Rattle.contest_store_fixed_rows.specs.Spelling.{lists_in_version, tables_of, with_clarifications_in, with_lists_in, with_proposals_in, with_rejudgings_in, with_releases_in, with_submissions_in, without_rows};
+ghost use Rattle.contest_store_fixed_rows.specs.Spelling.{lists_in_version, tables_of};
+ghost use Rattle.contest_store_fixed_rows.specs.Spelling.{with_clarifications_in, with_lists_in};
+ghost use Rattle.contest_store_fixed_rows.specs.Spelling.{with_proposals_in, with_rejudgings_in};
+ghost use Rattle.contest_store_fixed_rows.specs.Spelling.{with_releases_in, with_submissions_in};
+ghost use Rattle.contest_store_fixed_rows.specs.Spelling.{without_rows};
 
 use crate::LoadedRows;
 use crate::fixed_part::read_fixed;
@@ -11,8 +15,8 @@ use contest_types::{Clarification, Fixed, Rows, Settings};
 use std::alloc::{AllocError, Global};
 use std::rc::Rc;
 
-/// The lists that the rows of all tables are in a version of the schema; none where they are those of no contest. Whether the
-/// contest is a valid one is another question.
+/// The lists that the rows of all tables are in a version of the schema; none where they are those
+/// of no contest. Whether the contest is a valid one is another question.
 ///
 /// # Errors
 ///

@@ -9,8 +9,8 @@ use contest_types::Settings;
 use sqlite::Row;
 use std::alloc::{AllocError, Global};
 
-/// Adds what the rows are, one after the other, and answers whether they come kind by kind and each is
-/// the next of its kind and may be added. Where one isn't, the settings are of no use any more.
+/// Adds what the rows are, one after the other, and answers whether they come kind by kind and each
+/// is the next of its kind and may be added. Where one isn't, the settings are of no use any more.
 ///
 /// # Errors
 ///

@@ -1,11 +1,14 @@
 //! Teams as rows, and the teams that rows add.
-ghost use Rattle.std.specs.Prelude.{◌≡◌, ◌<◌, ◌^◌, ◌==◌, ◌∷◌, [], Some, None, true, false, IfOk, IfSome, OnOk, ◌++◌, length, string_bytes};
+ghost use Rattle.std.specs.Prelude.{◌≡◌, ◌<◌, ◌^◌, ◌==◌, ◌∷◌, [], Some, None, true, false, IfOk};
+ghost use Rattle.std.specs.Prelude.{IfSome, OnOk, ◌++◌, length, string_bytes};
 ghost use Rattle.std.specs.List.{position};
 ghost use Rattle.std.specs.Option.{option_map_or};
 ghost use Rattle.sqlite_value.specs.Order.{column};
+ghost use Rattle.contest_types.specs.Words.{words};
 ghost use Rattle.contest_store_rows.specs.Cells.{lent, same_row, text_of};
 ghost use Rattle.contest_store_rows.specs.FixedRows.{item_row, joined_ids, team_row};
-ghost use Rattle.contest_store_fixed_rows.specs.Items.{groups_in, groups_named, spaced_ids, team_said, with_team_in, words};
+ghost use Rattle.contest_store_fixed_rows.specs.Items.{groups_in, groups_named, spaced_ids};
+ghost use Rattle.contest_store_fixed_rows.specs.Items.{team_said, with_team_in};
 
 use crate::items::{Item, item_cells};
 use contest_store_rows::{id_in, is_row, is_set, name_in, text_at};
@@ -49,7 +52,7 @@ fn groups_named(
 }
 
 // The text before the first space, and the one after it.
-#[tactic(auto, using(crate::proofs::WordLemmas::cut_there, crate::proofs::WordLemmas::cut_nowhere))]
+#[tactic(auto, using(contest_types::proofs::WordLemmas::cut_there, contest_types::proofs::WordLemmas::cut_nowhere))]
 fn cut(text: &[u8]) -> (&[u8], Option<&[u8]>)
     ensures parts { words text.now ≡ result.0.now ∷ option_map_or (λ rest. words rest.now) result.1 [] }
     ensures shorter { IfSome result.1 (λ rest. length rest.now < length text.now) }
@@ -121,8 +124,8 @@ fn push_ids(text: &mut String, settings: &Settings, groups: &[usize]) -> Result<
     Ok(())
 }
 
-/// The cells of the row of a team, which is the one with this number, from 1; `joined_ids` gives the
-/// ids of its groups.
+/// The cells of the row of a team, which is the one with this number, from 1; `joined_ids` gives
+/// the ids of its groups.
 pub fn team_cells<'a>(number: u64, group_ids: &'a str, team: &'a Team) -> [ValueRef<'a>; 9]
     requires { number < 2 ^ 63 }
     ensures { lent result ≡ item_row 4 number team.now.id team.now.name [] 0 team.now.hidden false group_ids.now }

@@ -3,6 +3,7 @@ use Rattle.std.proofs.Common.{◌≡◌, ℕ, ◌<◌, Bool, true, false, List, 
 use Rattle.std.specs.Prelude.{◌==◌, IfSome, slice_get}
 use Rattle.std.specs.List.{list_all}
 use Rattle.std.specs.Option.{option_map, option_map_or}
+use Rattle.std.proofs.lemmas.Bool.{le-leb}
 use Rattle.sqlite.specs.Values.{or_null}
 use Rattle.sqlite_value.specs.declared.value.Value.TheVariants.{Text}
 use Rattle.contest_types.specs.Places.{are_different}
@@ -21,7 +22,7 @@ use Rattle.contest_store_rows.specs.ListRows.{audience_kind, audience_number, cl
 use Rattle.contest_store_rows.specs.Readings.{place_if_any}
 use Rattle.contest_store_rows.proofs.PlaceBack.{place_back}
 use Rattle.contest_store_rows.proofs.ReferenceLaws.{reference_back}
-use Rattle.contest_store_rows.proofs.RowLaws.{id_back, less_one, within}
+use Rattle.contest_store_rows.proofs.RowLaws.{id_back, less_one}
 use Rattle.contest_store_rows.proofs.RowLemmas.{is_no_real, no_real_text, reads_back, writes_back}
 
 pub place_if_back : {T : Type 0} (id : T → List ℕ) (rows : List T) (at : Option ℕ) → are_different (map id rows) ≡ true → IfSome at (λ p. p < length rows) →
@@ -49,7 +50,7 @@ clarification_is_said s valid n c w =
       w.text,
       id_back c.key w.key,
       reply_back c.reply w.reply,
-      within c.time LAST_MOMENT w.time,
+      le-leb c.time LAST_MOMENT w.time,
       addressee_back c.addressee,
       flag_back c.from_jury,
       place_if_back (λ (p : Problem). p.id) s.problems c.problem valid.problems w.problem,

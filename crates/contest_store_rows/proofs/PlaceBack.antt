@@ -5,8 +5,9 @@ use Rattle.std.specs.List.{position_from}
 use Rattle.std.specs.Option.{option_map_or, unwrap_or}
 use Rattle.std.specs.Str.{bytes_eq}
 use Rattle.std.proofs.lemmas.Slice.Eq.{bytes_eq-Decides}
+use Rattle.std.proofs.lemmas.Bool.{not-true}
 use Rattle.contest_types.specs.Places.{is_among, are_different, place_of}
-use Rattle.contest_types.proofs.PlaceLemmas.{and_left, and_right, not_true, or_left, or_right}
+use Rattle.contest_types.proofs.PlaceLemmas.{and_left, and_right, or_left, or_right}
 
 -- a text that isn't among the ids is none of them
 unlike : {T : Type 0} (id : T → List ℕ) (rows : List T) (x : List ℕ) (at : ℕ) → is_among (map id rows) x ≡ false → at < length rows → bytes_eq (option_map_or id (slice_get rows at) []) x ≡ false
@@ -18,7 +19,7 @@ place_from : {T : Type 0} (id : T → List ℕ) (rows : List T) (n at : ℕ) →
 place_from id [] n at d l = absurd (omega (arith, l))
 place_from id (row ∷ rows) n zero d l = rw ((bytes_eq-Decides (id row) (id row)).1 refl, add-zero n) refl
 place_from id (row ∷ rows) n (suc at) d l =
-    let other = unlike id rows (id row) at (not_true _ (and_left _ _ d)) (omega (arith, l)) in
+    let other = unlike id rows (id row) at (not-true _ (and_left _ _ d)) (omega (arith, l)) in
     let count : n + 1 + at ≡ n + suc at = omega arith in
     rw other (place_from id rows (n + 1) at (and_right (not (is_among (map id rows) (id row))) _ d) (omega (arith, l)) ∙ ap Some count)
 

@@ -13,6 +13,7 @@ use Rattle.std.proofs.lemmas.Fmt.{decimal_is_IsNumeral}
 use Rattle.std.proofs.lemmas.Str.Parse.{digit_from_value}
 use Rattle.std.proofs.Math.Seq.{take-append_seam}
 use Rattle.std.proofs.lemmas.List.Sums.{take_while-cons}
+use Rattle.std.proofs.lemmas.Bool.{le-leb}
 use Rattle.contest_types.proofs.PlaceLemmas.{and_left, and_right, both_true}
 use Rattle.contest_types.specs.VisibleIds.{clarification_id}
 use Rattle.contest_types.specs.declared.clarification.Addressee.{Addressee}
@@ -22,12 +23,12 @@ use Rattle.contest_store_rows.specs.Laws.{IsWritableReference}
 use Rattle.contest_store_rows.specs.ListRows.{audience_number, reference_id}
 use Rattle.contest_store_rows.specs.References.{addressee_named, addressee_numbered, dash_in, largest, number_written, reference_of}
 use Rattle.contest_store_rows.proofs.NumeralLemmas.{numeral_tested}
-use Rattle.contest_store_rows.proofs.RowLaws.{after_all, within, less_one}
+use Rattle.contest_store_rows.proofs.RowLaws.{after_all, less_one}
 
 number_back : (n : ℕ) → n ≤ largest → number_written (decimal n) ≡ Some n
 number_back n small =
     let is = decimal_is_IsNumeral n (omega (arith, small)) in
-    rw (numeral_tested (decimal n) is.0, is.1, within n largest small) refl
+    rw (numeral_tested (decimal n) is.0, is.1, le-leb n largest small) refl
 
 no_dash : (c : ℕ) → digit_value c < 10 → not (c == 45) ≡ true
 no_dash c digit =

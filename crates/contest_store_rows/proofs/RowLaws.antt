@@ -1,10 +1,10 @@
 -- Rows and what is read of them, one to one.
-use Rattle.std.proofs.Common.{◌≡◌, ℕ, ◌+◌, ◌-◌, ◌≤◌, Bool, true, false, cond, List, length, Option, Some, None, refl, subst, arith, inl, inr}
+use Rattle.std.proofs.Common.{◌≡◌, ℕ, ◌+◌, ◌-◌, Bool, true, false, cond, List, length, Option, Some, None, refl, subst, arith, inl, inr}
 use Rattle.std.specs.Prelude.{nat_le, ◌==◌, ◌≢◌, IfSome, codes}
 use Rattle.std.specs.List.{list_all}
 use Rattle.std.specs.Option.{option_and_then}
 use Rattle.std.specs.Str.{bytes_eq}
-use Rattle.std.proofs.lemmas.Bool.{cases_Bool}
+use Rattle.std.proofs.lemmas.Bool.{cases_Bool, le-leb, leb-true}
 use Rattle.std.proofs.lemmas.Bool.Decides.{nat_tests}
 use Rattle.std.proofs.lemmas.Slice.Eq.{bytes_eq-Decides}
 use Rattle.sqlite.specs.Values.{or_null}
@@ -34,9 +34,6 @@ use Rattle.contest_store_rows.specs.Laws.{ReadsBack, WritesBack, IsWritablePropo
 use Rattle.contest_store_rows.proofs.RowLemmas.{is_no_real, no_real_text, reads_back, row_itself, same_rows, writes_back}
 use Rattle.contest_store_rows.proofs.PlaceBack.{place_back}
 
-pub within : (m n : ℕ) → m ≤ n → nat_le m n ≡ true
-within m n l = grind (arith, nat_tests, l)
-
 pub less_one : (n : ℕ) → n + 1 - 1 ≡ n
 less_one n = omega arith
 
@@ -45,7 +42,7 @@ after_all n = grind (arith, nat_tests)
 
 release_is_said : (s : Setup) → IsValid s → (n : ℕ) (v : Release) → IsWritableRelease s v → release_said s (release_row s n v) ≡ Some v
 release_is_said s valid n v w =
-    rw (within v.time LAST_MOMENT w.time, place_back (λ (t : JudgementType). t.id) s.types v.verdict valid.types w.verdict, less_one v.team) refl
+    rw (le-leb v.time LAST_MOMENT w.time, place_back (λ (t : JudgementType). t.id) s.types v.verdict valid.types w.verdict, less_one v.team) refl
 
 pub releases_read_back : ReadsBack IsWritableRelease release_row release_in
 releases_read_back s valid n v w = reads_back (release_row s n) (release_said s (release_row s n v)) v (release_is_said s valid n v w) refl
@@ -65,7 +62,7 @@ proposer_back proposer.Import w = refl
 
 proposal_is_said : (s : Setup) → IsValid s → (n : ℕ) (p : Proposal) → IsWritableProposal s p → proposal_said s (proposal_row s n p) ≡ Some p
 proposal_is_said s valid n p w =
-    rw (proposer_back p.proposer w.proposer, within p.time LAST_MOMENT w.time, place_back (λ (t : JudgementType). t.id) s.types p.verdict valid.types w.verdict, less_one p.team) refl
+    rw (proposer_back p.proposer w.proposer, le-leb p.time LAST_MOMENT w.time, place_back (λ (t : JudgementType). t.id) s.types p.verdict valid.types w.verdict, less_one p.team) refl
 
 pub proposals_read_back : ReadsBack IsWritableProposal proposal_row proposal_in
 proposals_read_back s valid n p w = reads_back (proposal_row s n) (proposal_said s (proposal_row s n p)) p (proposal_is_said s valid n p w) refl
@@ -86,7 +83,7 @@ submission_is_said s valid n x w =
     rw (
       name_back x.entry_point w.entry_point,
       id_back x.key w.key,
-      within x.time LAST_MOMENT w.time,
+      le-leb x.time LAST_MOMENT w.time,
       place_back (λ (p : Problem). p.id) s.problems x.problem valid.problems w.problem,
       place_back (λ (l : Language). l.id) s.languages x.language valid.languages w.language,
       less_one x.team,
@@ -96,7 +93,7 @@ pub submissions_read_back : SubmissionsReadBack
 submissions_read_back s valid n x w =
     let r = loaded_submission_row s n (length x.file) x in
     let no_real : list_all is_no_real r ≡ true = rw (no_real_text x.entry_point, no_real_text x.key) refl in
-    rw (submission_is_said s valid n x w, within (length x.file) POSTED_FILE w.file, row_itself r no_real) refl
+    rw (submission_is_said s valid n x w, le-leb (length x.file) POSTED_FILE w.file, row_itself r no_real) refl
 
 kept_submission : (s : Setup) (n : ℕ) (r : Row) (x y : Submission) (b : Bool) → is_submission_row s n r x ≡ b → cond b (Some x) None ≡ Some y → is_submission_row s n r y ≡ true
 kept_submission s n r x y true own is =
@@ -108,11 +105,8 @@ said_submission : (s : Setup) (n : ℕ) (r : Row) (said : Option Submission) (x 
 said_submission s n r None x is = absurd (cc is)
 said_submission s n r (Some y) x is = kept_submission s n r y x (is_submission_row s n r y) refl is
 
-small : (m n : ℕ) → nat_le m n ≡ true → m ≤ n
-small m n t = grind (arith, nat_tests, t)
-
 pub submissions_write_back : SubmissionsWriteBack
 submissions_write_back s n r x is =
     let size = number_of (column r 8) in
     let own = said_submission s n r (submission_said s r) x is in
-    (size, small size POSTED_FILE (and_left _ _ own), same_rows r (loaded_submission_row s n size x) (and_right (nat_le size POSTED_FILE) _ own))
+    (size, leb-true size POSTED_FILE (and_left _ _ own), same_rows r (loaded_submission_row s n size x) (and_right (nat_le size POSTED_FILE) _ own))

@@ -11,7 +11,7 @@ use Rattle.sqlite_value.specs.declared.value.Value.{Value}
 use Rattle.sqlite_value.specs.declared.value.Value.TheVariants.{Null, Int, Real, Text, Blob}
 use Rattle.sqlite_value.specs.Order.{Row}
 use Rattle.contest_types.proofs.PlaceLemmas.{and_left, and_right, both_true}
-use Rattle.contest_store_rows.specs.Cells.{same_cell, same_row}
+use Rattle.contest_store_rows.specs.Cells.{number, same_cell, same_row}
 use Rattle.contest_store_rows.specs.Readings.{if_its_row}
 
 same_cells : (a b : Value) → same_cell a b ≡ true → a ≡ b
@@ -30,6 +30,10 @@ same_rows _ _ same = absurd (false≢true same)
 abbrev pub is_no_real : Value → Bool
 is_no_real (Real _) = false
 is_no_real _ = true
+
+pub no_real_number : (n : Option ℕ) → is_no_real (or_null number n) ≡ true
+no_real_number None = refl
+no_real_number (Some n) = refl
 
 itself : (v : Value) → is_no_real v ≡ true → same_cell v v ≡ true
 itself Null is = refl

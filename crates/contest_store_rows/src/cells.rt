@@ -5,7 +5,8 @@ ghost use Rattle.sqlite_value.specs.Value.{owned};
 ghost use Rattle.sqlite_value.specs.declared.value.Value.TheVariants.{Text};
 ghost use Rattle.sqlite.specs.Values.{or_null};
 ghost use Rattle.contest_store_rows.specs.Readings.{id_if_any, id_in, is_set, name_if_any, name_in};
-ghost use Rattle.contest_store_rows.specs.Cells.{is_null, lent, number, number_of, same_cell, same_row, text_of};
+ghost use Rattle.contest_store_rows.specs.Cells.{is_null, lent, number, number_of, same_cell};
+ghost use Rattle.contest_store_rows.specs.Cells.{same_row, text_of};
 
 use contest_types::{Id, Name};
 use sqlite::Row;

@@ -10,8 +10,10 @@ ghost use Rattle.contest_types.specs.IdText.{id_of};
 ghost use Rattle.contest_types.specs.ProblemPlaces.{problem_id_at};
 ghost use Rattle.contest_types.specs.declared.objects.Problem.{Problem as TheProblem};
 ghost use Rattle.contest_store_rows.specs.Cells.{lent, number_of, same_row, text_of};
-ghost use Rattle.contest_store_rows.specs.Clarifications.{addressee_of, clarification_in, clarification_said, reply_if_any};
-ghost use Rattle.contest_store_rows.specs.ListRows.{audience_kind, audience_number, clarification_row, reference_id};
+ghost use Rattle.contest_store_rows.specs.Clarifications.{addressee_of, clarification_in};
+ghost use Rattle.contest_store_rows.specs.Clarifications.{clarification_said, reply_if_any};
+ghost use Rattle.contest_store_rows.specs.ListRows.{audience_kind, audience_number};
+ghost use Rattle.contest_store_rows.specs.ListRows.{clarification_row, reference_id};
 ghost use Rattle.contest_store_rows.specs.Readings.{if_its_row, place_if_any};
 
 use crate::cells::{id_if_any, id_or_null, is_null, is_row, number, number_at, text_at};
@@ -22,8 +24,8 @@ use sqlite::Row;
 use sqlite::types::ValueRef;
 use std::alloc::{AllocError, Global};
 
-/// The cells of the row with a number, from 1, that keeps a clarification. The id of the one that it
-/// answers is made before.
+/// The cells of the row with a number, from 1, that keeps a clarification. The id of the one that
+/// it answers is made before.
 pub fn clarification_cells<'a>(
     settings: &'a Settings,
     row: u64,

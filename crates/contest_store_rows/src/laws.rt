@@ -1,11 +1,18 @@
-//! Laws of rows: functions that do nothing, and whose contracts say that a contest and its tables are
-//! one to one.
+//! Laws of rows: functions that do nothing, and whose contracts say that a contest and its tables
+//! are one to one.
 ghost use Rattle.contest_store_rows.specs.Clarifications.{clarification_in};
-ghost use Rattle.contest_store_rows.specs.Laws.{IsWritableClarification, IsWritableProposal, IsWritableRelease, ListsReadBack, ListsWriteBack, ReadsBack, RejudgingsReadBack, RejudgingsWriteBack, SubmissionsReadBack, SubmissionsWriteBack, WritesBack};
+ghost use Rattle.contest_store_rows.specs.Laws.{IsWritableClarification, IsWritableProposal};
+ghost use Rattle.contest_store_rows.specs.Laws.{IsWritableRelease, ListsReadBack, ListsWriteBack};
+ghost use Rattle.contest_store_rows.specs.Laws.{ReadsBack, RejudgingsReadBack, RejudgingsWriteBack};
+ghost use Rattle.contest_store_rows.specs.Laws.{SubmissionsReadBack, SubmissionsWriteBack};
+ghost use Rattle.contest_store_rows.specs.Laws.{WritesBack};
 ghost use Rattle.contest_store_rows.specs.ListRows.{clarification_row, proposal_row, release_row};
 ghost use Rattle.contest_store_rows.specs.Proposals.{proposal_in};
 ghost use Rattle.contest_store_rows.specs.Releases.{release_in};
-ghost use Rattle.contest_store_rows.specs.Tables.{ClarificationIsOneRow, FinalizedIsOneCell, ProposalIsOneRow, RejudgingIsItsRows, ReleaseIsOneRow, StartIsOneCell, StateIsOneCell, SubmissionIsOneRow, ThawIsOneCell};
+ghost use Rattle.contest_store_rows.specs.Tables.{ClarificationIsOneRow, FinalizedIsOneCell};
+ghost use Rattle.contest_store_rows.specs.Tables.{ProposalIsOneRow, RejudgingIsItsRows};
+ghost use Rattle.contest_store_rows.specs.Tables.{ReleaseIsOneRow, StartIsOneCell, StateIsOneCell};
+ghost use Rattle.contest_store_rows.specs.Tables.{SubmissionIsOneRow, ThawIsOneCell};
 
 /// A release is read of its own row, and of no other.
 pub fn releases_are_their_rows()
@@ -43,8 +50,8 @@ pub fn lists_are_their_rows<T>()
     ensures written { ListsWriteBack T }
 {}
 
-/// What is added to a list of a contest is one more row at the end of its table; a rejudging has one
-/// more for each of its members, in theirs.
+/// What is added to a list of a contest is one more row at the end of its table; a rejudging has
+/// one more for each of its members, in theirs.
 pub fn additions_are_rows()
     ensures submission { SubmissionIsOneRow }
     ensures proposal { ProposalIsOneRow }

@@ -1,4 +1,5 @@
-//! The lists of a contest as rows of their tables: the cells of each row, and what a row that was read is.
+//! The lists of a contest as rows of their tables: the cells of each row, and what a row that was
+//! read is.
 #![tactic(auto)]
 
 mod cells;

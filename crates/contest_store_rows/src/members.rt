@@ -8,7 +8,8 @@ ghost use Rattle.sqlite.specs.Values.{or_null};
 ghost use Rattle.contest_types.specs.SettingsNames.{type_id_at};
 ghost use Rattle.contest_types.specs.declared.objects.JudgementType.{JudgementType as TheType};
 ghost use Rattle.contest_store_rows.specs.Cells.{lent, number_of};
-ghost use Rattle.contest_store_rows.specs.ListRows.{is_ready, member_account, member_row, member_type};
+ghost use Rattle.contest_store_rows.specs.ListRows.{is_ready, member_account, member_row};
+ghost use Rattle.contest_store_rows.specs.ListRows.{member_type};
 ghost use Rattle.contest_store_rows.specs.Readings.{if_its_row, place_if_any};
 ghost use Rattle.contest_store_rows.specs.Rejudgings.{member_in, member_said, member_state_by};
 

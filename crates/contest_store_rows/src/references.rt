@@ -7,7 +7,8 @@ ghost use Rattle.sqlite_value.specs.declared.value.Value.TheVariants.{Text};
 ghost use Rattle.sqlite.specs.Values.{or_null};
 ghost use Rattle.contest_types.specs.VisibleIds.{clarification_id};
 ghost use Rattle.contest_store_rows.specs.ListRows.{reference_id};
-ghost use Rattle.contest_store_rows.specs.References.{addressee_named, addressee_numbered, dash_in, largest, number_written, reference_of};
+ghost use Rattle.contest_store_rows.specs.References.{addressee_named, addressee_numbered, dash_in};
+ghost use Rattle.contest_store_rows.specs.References.{largest, number_written, reference_of};
 
 use arrayvec::ArrayString;
 use contest_types::{Addressee, Reference, decimal_number};
@@ -21,7 +22,8 @@ const ID: usize = 96;
 // What stands for all in an id.
 const ALL: &str = "g";
 
-/// The visible id of the clarification that one answers, if it answers one. Contracts see its bytes.
+/// The visible id of the clarification that one answers, if it answers one. Contracts see its
+/// bytes.
 #[derive(Drop)]
 pub struct ReplyId {
     id: Option<ArrayString<ID>>,
@@ -105,7 +107,8 @@ pub(crate) fn reference_of(text: &[u8]) -> Option<Reference>
     }
 }
 
-// The addressee that a text names: `g` alone is all, `c<team number>` and `g<group number>` are these.
+// The addressee that a text names: `g` alone is all, `c<team number>` and `g<group number>` are
+// these.
 fn addressee_named(text: &[u8]) -> Option<Addressee>
     ensures { result ≡ addressee_named text.now }
 {

@@ -6,7 +6,8 @@ ghost use Rattle.contest_store_rows.specs.Cells.{lent, number_of, text_of};
 ghost use Rattle.contest_store_rows.specs.Lists.{list_in};
 ghost use Rattle.contest_store_rows.specs.ListRows.{rejudging_row, state_number};
 ghost use Rattle.contest_store_rows.specs.Readings.{if_its_row};
-ghost use Rattle.contest_store_rows.specs.Rejudgings.{head_in, member_in, own_rows, rejudging_in, rejudging_said, rejudgings_in, state_of};
+ghost use Rattle.contest_store_rows.specs.Rejudgings.{head_in, member_in, own_rows, rejudging_in};
+ghost use Rattle.contest_store_rows.specs.Rejudgings.{rejudging_said, rejudgings_in, state_of};
 
 use crate::cells::{is_row, number, number_at, text_at};
 use crate::members::read_member;
@@ -15,8 +16,8 @@ use sqlite::Row;
 use sqlite::types::ValueRef;
 use std::alloc::{AllocError, Global};
 
-/// The cells of the row with a number, from 1, that keeps a rejudging; its members have rows of their
-/// own.
+/// The cells of the row with a number, from 1, that keeps a rejudging; its members have rows of
+/// their own.
 pub fn rejudging_cells(row: u64, rejudging: &Rejudging) -> [ValueRef<'_>; 3]
     requires { row < 2 ^ 63 }
     ensures { lent result ≡ rejudging_row row rejudging.now }

@@ -8,7 +8,8 @@ ghost use Rattle.contest_types.specs.declared.objects.Problem.{Problem as ThePro
 ghost use Rattle.contest_store_rows.specs.Cells.{lent, number_of};
 ghost use Rattle.contest_store_rows.specs.Readings.{place_in};
 ghost use Rattle.contest_store_rows.specs.ListRows.{loaded_submission_row, submission_row};
-ghost use Rattle.contest_store_rows.specs.Submissions.{is_submission_row, submission_if, submission_in, submission_said};
+ghost use Rattle.contest_store_rows.specs.Submissions.{is_submission_row, submission_if};
+ghost use Rattle.contest_store_rows.specs.Submissions.{submission_in, submission_said};
 
 use crate::cells::{
     id_if_any, id_or_null, is_row, name_if_any, name_or_null, number, number_at, text_at,
@@ -44,7 +45,8 @@ pub fn submission_cells<'a>(
     ]
 }
 
-// The cells of what a load shows of it: of the file, which has this size, its type and its length alone.
+// The cells of what a load shows of it: of the file, which has this size, its type and its length
+// alone.
 fn loaded_cells<'a>(
     settings: &'a Settings,
     row: u64,

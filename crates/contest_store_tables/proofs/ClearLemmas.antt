@@ -1,5 +1,5 @@
 -- What a DELETE of all rows makes of the rows that the tables show.
-use Rattle.std.proofs.Common.{◌≡◌, ◌≢◌, ◌∙◌, ℕ, Bool, true, false, not, cond, List, [], ◌∷◌, map, filter, slice_get, rules, IsTrue, IsPermutation, inl, inr, Some, None, Ok, refl, sym, ap, subst}
+use Rattle.std.proofs.Common.{◌≡◌, ◌≢◌, ◌∙◌, ℕ, true, false, cond, List, [], ◌∷◌, map, filter, rules, IsTrue, IsPermutation, inl, inr, None, Ok, refl, sym, ap, subst}
 use Rattle.std.specs.List.{AllByRecursion}
 use Rattle.std.proofs.lemmas.List.Sorted.{IsPermutation-map}
 use Rattle.sqlite.specs.declared.types.Value.TheVariants.{Null}
@@ -28,7 +28,7 @@ use Rattle.sqlite_trees.specs.Tree.{rowid}
 use Rattle.contest_store_tables.specs.Clearing.{all_query, Clears, HasCleared}
 use Rattle.contest_store_tables.specs.Schema.{form_of, index_of, desk_schema}
 use Rattle.contest_store_tables.specs.Steps.{Content, HasContent, Within, Full}
-use Rattle.contest_store_tables.specs.Tables.{rows_in, show, by_key}
+use Rattle.contest_store_tables.specs.Tables.{rows_in}
 use Rattle.contest_store_tables.specs.declared.table_name.TableName.TheVariants.{Clarifications}
 use Rattle.contest_store_tables.proofs.InsertLemmas.{went, same_value}
 use Rattle.contest_store_tables.proofs.PlaceLemmas.{left_over}

@@ -13,10 +13,10 @@ use Rattle.sqlite.specs.Schema.{Schema}
 use Rattle.sqlite.specs.Table.{Table}
 use Rattle.std.specs.List.{AllByRecursion}
 use Rattle.contest_store.specs.declared.store_error.StoreError.{StoreError}
-use Rattle.contest_store_tables.specs.Connected.{IsAtRest, IsOfDesk, IsLacking, IsBare, IsUndone}
-use Rattle.contest_store_tables.specs.Tables.{rows_in, lacking}
+use Rattle.contest_store_tables.specs.Connected.{IsAtRest, IsCelless, IsOfDesk, IsLacking, IsBare, IsUndone}
+use Rattle.contest_store_tables.specs.Tables.{rows_in, lacking, with_cells_back}
 use Rattle.contest_store_tables.specs.declared.later_table.LaterTable.{LaterTable}
-use Rattle.contest_store_tables.specs.Steps.{Content, OnlyMade, Showing, Lacking, HasContent, Spells, Holds, Within, AreNumbered}
+use Rattle.contest_store_tables.specs.Steps.{Celless, Content, OnlyMade, Showing, Lacking, HasContent, Spells, Holds, Within, AreNumbered}
 use Rattle.contest_store_tables.proofs.OneWordTexts.{begin_is, commit_is}
 use Rattle.contest_store_tables.proofs.UndoLemmas.{runs_word, commits_word}
 
@@ -57,6 +57,12 @@ lacking_holds table s rest is numbered =
     let all : HasContent s.now (Lacking table (rows_in (lacking table s.now.trees))) = (is, refl, numbered) in
     record { is_open = rest.0; shows = all; keeps = subst (λ d. HasContent d (Lacking table (rows_in (lacking table s.now.trees)))) rest.1 all }
 
+pub celless_holds : (place : LaterTable) (s : State) → IsAtRest s → IsCelless place s → AreNumbered (with_cells_back place s.now.trees)
+    → Holds s (Celless (rows_in (with_cells_back place s.now.trees))) (Celless (rows_in (with_cells_back place s.now.trees)))
+celless_holds place s rest is numbered =
+    let all : HasContent s.now (Celless (rows_in (with_cells_back place s.now.trees))) = (place, is, refl, numbered) in
+    record { is_open = rest.0; shows = all; keeps = subst (λ d. HasContent d (Celless (rows_in (with_cells_back place s.now.trees)))) rest.1 all }
+
 pub begun : (old new : State) (now kept : Content) (count : ℕ) → Holds old now kept → Executes (codes "BEGIN") [] old new (Ok count) → Within new now kept
 begun old new now kept count h ran =
     let shown = (runs_word (codes "BEGIN") Begin 5 begin_is (omega arith) old new count ran).1 in
@@ -89,6 +95,7 @@ spelled : (d : Database) (x : Content) → HasContent d x → Spells d.trees x
 spelled d (OnlyMade made) h = tt
 spelled d (Showing rows) h = h.1
 spelled d (Lacking table rows) h = h.1
+spelled d (Celless rows) h = (h.0, h.2)
 
 -- a crash in the commit leaves what it could leave before, or the rows of the transaction
 pub commit_leaves : (s : State) (now kept : Content) (db : Trees) → Holds s now kept → CommitsBy (codes "COMMIT") [] s db → Spells db now

@@ -10,7 +10,7 @@ use Rattle.sqlite_keyed.specs.Lists.{sort_by}
 use Rattle.sqlite_trees.specs.Tree.{with_tree}
 use Rattle.contest_store_tables.specs.Making.{Creates, up_to}
 use Rattle.contest_store_tables.specs.Schema.{form_of, desk_schema, later_name, schema_before}
-use Rattle.contest_store_tables.specs.Steps.{AreNumbered, Content, Lacking, HasContent, FullLacking, HasLater, Within, with_later, with_rows}
+use Rattle.contest_store_tables.specs.Steps.{AreNumbered, Content, HasContent, FullLacking, HasLater, Within, with_later, with_rows}
 use Rattle.contest_store_tables.specs.Tables.{TableRows, rows_in, show, by_key, lacking}
 use Rattle.contest_store_tables.specs.declared.later_table.LaterTable.{LaterTable}
 use Rattle.contest_store_tables.specs.declared.later_table.LaterTable.TheVariants as later
@@ -25,7 +25,7 @@ lacks_none later.Cells s desk is = let tables : 12 ≡ 10 = ap (λ (it : Schema)
 lacks_none later.Notices s desk is = let tables : 12 ≡ 11 = ap (λ (it : Schema). length it.tables) (sym desk ∙ is) in omega (arith, tables)
 
 -- where one table has no row those of the other tables are as they were
-one_less : (gone : TableName) (db : Trees) → rows_in (with_tree db (form_of gone).tree []) ≡ with_rows gone [] (rows_in db)
+pub one_less : (gone : TableName) (db : Trees) → rows_in (with_tree db (form_of gone).tree []) ≡ with_rows gone [] (rows_in db)
 one_less gone db i name = go ((form_of name).tree == (form_of gone).tree) i
   where
     go : (b : Bool) → sort_by (by_key (form_of name)) (map (show (form_of name)) (cond b [] (db (form_of name).tree))) ≡ cond b [] (rows_in db name)
@@ -54,10 +54,10 @@ module _ (old new : Trees) where
 cells_made : up_to Cells ≡ schema_before later.Notices
 cells_made = made_before later.Notices
 
-same_rows : (old new : Trees) (rows : TableRows) → ((name : TableName) → new (form_of name).tree ≡ old (form_of name).tree) → rows_in old ≡ rows → rows_in new ≡ rows
+pub same_rows : (old new : Trees) (rows : TableRows) → ((name : TableName) → new (form_of name).tree ≡ old (form_of name).tree) → rows_in old ≡ rows → rows_in new ≡ rows
 same_rows old new rows same was = (λ i name. sort_by (by_key (form_of name)) (map (show (form_of name)) (same name i))) ∙ was
 
-still_numbered : (old new : Trees) → ((name : TableName) → new (form_of name).tree ≡ old (form_of name).tree) → AreNumbered old → AreNumbered new
+pub still_numbered : (old new : Trees) → ((name : TableName) → new (form_of name).tree ≡ old (form_of name).tree) → AreNumbered old → AreNumbered new
 still_numbered old new same was name = subst IsNumbered (sym (same name)) (was name)
 
 has_later : (table : LaterTable) (d : Database) (old : Trees) (rows : TableRows) → d.schema ≡ up_to (later_name table) → ((name : TableName) → after table d.trees (form_of name).tree ≡ lacking table old (form_of name).tree)

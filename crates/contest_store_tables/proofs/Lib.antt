@@ -13,9 +13,11 @@ pub mod InsertLemmas
 pub mod RowLemmas
 pub mod MakingLemmas
 pub mod LaterLemmas
+pub mod CellessLemmas
 pub mod UpdateLemmas
 pub mod PlaceLemmas
 pub mod ChangeLemmas
 pub mod ClearLemmas
 pub mod ZipLemmas
+pub mod EndLemmas
 pub mod NumberedLemmas

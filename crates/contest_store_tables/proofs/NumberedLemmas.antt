@@ -22,10 +22,11 @@ use Rattle.sqlite_trees.specs.declared.store.Shape.TheVariants as shape
 use Rattle.sqlite_trees.specs.Objects.{catalog_tree, IsListed}
 use Rattle.sqlite_trees.specs.Props.{IsOrdered-prop}
 use Rattle.sqlite_trees.specs.View.{View, IsShaped, IsOrdered}
-use Rattle.contest_store_tables.specs.Connected.{IsAtRest, IsOfDesk, IsLacking, IsBare}
+use Rattle.contest_store_tables.specs.Connected.{IsAtRest, IsCelless, IsOfDesk, IsLacking, IsBare}
 use Rattle.contest_store_tables.specs.Numbered.{IsNumbered}
 use Rattle.contest_store_tables.specs.Steps.{AreNumbered}
-use Rattle.contest_store_tables.specs.Tables.{lacking}
+use Rattle.contest_store_tables.specs.Schema.{celless_schema, moved_notices, schema_before}
+use Rattle.contest_store_tables.specs.Tables.{lacking, with_cells_back}
 use Rattle.contest_store_tables.specs.declared.later_table.LaterTable.{LaterTable}
 use Rattle.contest_store_tables.specs.declared.later_table.LaterTable.TheVariants as later
 use Rattle.contest_store_tables.proofs.RowLemmas.{at_lacking, at_table}
@@ -76,11 +77,28 @@ bare_numbered s bare = subst (λ (schema : Schema). AllNumbered schema s.now.tre
 desk_numbered : (s : State) → AllNumbered s.now.schema s.now.trees → IsOfDesk s → AreNumbered s.now.trees
 desk_numbered s all desk name = at_table (λ t. IsShaped shape.Table (s.now.trees t.tree)) name (subst (λ (schema : Schema). AllNumbered schema s.now.trees) desk all)
 
+-- those that stand without the table of the cells are the first ones, and that of the notices
+first_numbered : (place : LaterTable) (db : Trees) → AllNumbered (celless_schema place) db → AllByRecursion (λ t. IsShaped shape.Table (with_cells_back place db t.tree)) (schema_before later.Cells).tables
+first_numbered place db h = (h.0, (h.1.0, (h.1.1.0, (h.1.1.1.0, (h.1.1.1.1.0, (h.1.1.1.1.1.0, (h.1.1.1.1.1.1.0, (h.1.1.1.1.1.1.1.0, (h.1.1.1.1.1.1.1.1.0, (h.1.1.1.1.1.1.1.1.1.0, tt))))))))))
+
+last_numbered : (place : LaterTable) (db : Trees) → AllNumbered (celless_schema place) db → IsShaped shape.Table (db (moved_notices place).tree)
+last_numbered place db h = h.1.1.1.1.1.1.1.1.1.1.0
+
 lacking_numbered : (table : LaterTable) (s : State) → AllNumbered s.now.schema s.now.trees → IsLacking table s → AreNumbered (lacking table s.now.trees)
 lacking_numbered later.Cells s all is name =
     at_lacking (λ t. IsShaped shape.Table (lacking later.Cells s.now.trees t.tree)) later.Cells name (subst (λ (schema : Schema). AllNumbered schema s.now.trees) is all) ((tt, tt), ((tt, tt), tt))
 lacking_numbered later.Notices s all is name =
     at_lacking (λ t. IsShaped shape.Table (lacking later.Notices s.now.trees t.tree)) later.Notices name (subst (λ (schema : Schema). AllNumbered schema s.now.trees) is all) ((tt, tt), tt)
 
+-- or where the table of the cells was taken out
+celless_numbered : (place : LaterTable) (s : State) → AllNumbered s.now.schema s.now.trees → IsCelless place s → AreNumbered (with_cells_back place s.now.trees)
+celless_numbered place s all is name =
+    let these = subst (λ (schema : Schema). AllNumbered schema s.now.trees) is all in
+    at_lacking (λ t. IsShaped shape.Table (with_cells_back place s.now.trees t.tree)) later.Cells name (first_numbered place s.now.trees these) ((tt, tt), (last_numbered place s.now.trees these, tt))
+
 pub all_numbered : (s : State) → (HasCleanDisk s → IsTrue s.is_open → AllNumbered s.now.schema s.now.trees) → IsNumbered s
-all_numbered s all = record { desk = λ clean up desk. desk_numbered s (all clean up) desk; lacking = λ table clean up is. lacking_numbered table s (all clean up) is }
+all_numbered s all = record {
+  desk = λ clean up desk. desk_numbered s (all clean up) desk;
+  lacking = λ table clean up is. lacking_numbered table s (all clean up) is;
+  celless = λ place clean up is. celless_numbered place s (all clean up) is;
+}

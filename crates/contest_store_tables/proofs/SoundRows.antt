@@ -23,8 +23,8 @@ use Rattle.sqlite_schema.specs.Rules.{Keeps, equal, differ, agree, clashes, guar
 use Rattle.sqlite_rules.proofs.KeyLemmas.{agree_back, differ_back}
 use Rattle.sqlite_catalog.specs.Listing.{IsSound}
 use Rattle.sqlite_keyed.proofs.ListLemmas.{all-append, all_weaker, all_both, all_from_test, ascending-map, ascending_weaker, none_from_any}
-use Rattle.contest_store_tables.specs.Schema.{form_of, desk_schema, desk_indexes, schema_before}
-use Rattle.contest_store_tables.specs.Tables.{rows_in, show, by_key, lacking}
+use Rattle.contest_store_tables.specs.Schema.{celless_schema, form_of, desk_schema, desk_indexes, schema_before}
+use Rattle.contest_store_tables.specs.Tables.{rows_in, show, by_key, lacking, with_cells_back}
 use Rattle.contest_store_tables.specs.Steps.{AreNumbered, Rises}
 use Rattle.contest_store_tables.specs.declared.later_table.LaterTable.{LaterTable}
 use Rattle.contest_store_tables.specs.declared.later_table.LaterTable.TheVariants as later
@@ -203,3 +203,16 @@ lacking_rises_in later.Cells db sound numbered name =
     rises (lacking later.Cells db) (all_keep NotNull later.Cells db (sound.obeys.rules NotNull)) (all_keep Unique later.Cells db (sound.obeys.rules Unique)) numbered name
 lacking_rises_in later.Notices db sound numbered name =
     rises (lacking later.Notices db) (all_keep NotNull later.Notices db (sound.obeys.rules NotNull)) (all_keep Unique later.Notices db (sound.obeys.rules Unique)) numbered name
+
+-- the same where the table of the cells was taken out
+celless_full : (place : LaterTable) (db : Trees) → Keeps NotNull (celless_schema place) db → Keeps NotNull desk_schema (with_cells_back place db)
+celless_full later.Cells db h = (h.0, (h.1.0, (h.1.1.0, (h.1.1.1.0, (h.1.1.1.1.0, (h.1.1.1.1.1.0, (h.1.1.1.1.1.1.0, (h.1.1.1.1.1.1.1.0, (h.1.1.1.1.1.1.1.1.0, (h.1.1.1.1.1.1.1.1.1.0, (tt, (h.1.1.1.1.1.1.1.1.1.1.0, tt))))))))))))
+celless_full later.Notices db h = (h.0, (h.1.0, (h.1.1.0, (h.1.1.1.0, (h.1.1.1.1.0, (h.1.1.1.1.1.0, (h.1.1.1.1.1.1.0, (h.1.1.1.1.1.1.1.0, (h.1.1.1.1.1.1.1.1.0, (h.1.1.1.1.1.1.1.1.1.0, (tt, (h.1.1.1.1.1.1.1.1.1.1.0, tt))))))))))))
+
+celless_once : (place : LaterTable) (db : Trees) → Keeps Unique (celless_schema place) db → Keeps Unique desk_schema (with_cells_back place db)
+celless_once later.Cells db h = (h.0, (h.1.0, (h.1.1.0, (h.1.1.1.0, (h.1.1.1.1.0, (h.1.1.1.1.1.0, (h.1.1.1.1.1.1.0, (h.1.1.1.1.1.1.1.0, (h.1.1.1.1.1.1.1.1.0, (h.1.1.1.1.1.1.1.1.1.0, (tt, (h.1.1.1.1.1.1.1.1.1.1.0, tt))))))))))))
+celless_once later.Notices db h = (h.0, (h.1.0, (h.1.1.0, (h.1.1.1.0, (h.1.1.1.1.0, (h.1.1.1.1.1.0, (h.1.1.1.1.1.1.0, (h.1.1.1.1.1.1.1.0, (h.1.1.1.1.1.1.1.1.0, (h.1.1.1.1.1.1.1.1.1.0, (tt, (h.1.1.1.1.1.1.1.1.1.1.0, tt))))))))))))
+
+pub celless_rises_in : (place : LaterTable) (db : Trees) → IsSound (celless_schema place) db → AreNumbered (with_cells_back place db) → (name : TableName) → Rises name (rows_in (with_cells_back place db) name)
+celless_rises_in place db sound numbered name =
+    rises (with_cells_back place db) (celless_full place db (sound.obeys.rules NotNull)) (celless_once place db (sound.obeys.rules Unique)) numbered name

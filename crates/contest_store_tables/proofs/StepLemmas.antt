@@ -2,6 +2,7 @@
 use Rattle.std.proofs.Common.{◌≡◌, ℕ, List, Result, Ok, Err, IsTrue, IfOk, OnOk, OnErr, refl, inl, subst, arith, sym}
 use Rattle.sqlite.specs.Tree.{Trees}
 use Rattle.sqlite.specs.Order.{Row}
+use Rattle.sqlite.specs.Schema.{Schema}
 use Rattle.sqlite.specs.Listing.{understood}
 use Rattle.sqlite.specs.State.{State, HasCleanDisk, Survives, Shown, CommitsShowing}
 use Rattle.sqlite.proofs.Callers.{IsPlain, never_commits}
@@ -9,8 +10,10 @@ use Rattle.sqlite.proofs.StateLemmas.{survives_then, survives_weaker}
 use Rattle.contest_store.specs.declared.store_error.StoreError.{StoreError}
 use Rattle.contest_store_tables.specs.Counts.{counted, CountsCall}
 use Rattle.contest_store_tables.specs.declared.counts.Counts.{Counts}
+use Rattle.contest_store_tables.specs.declared.later_table.LaterTable.{LaterTable}
 use Rattle.contest_store_tables.specs.Connected.{IsUndone}
-use Rattle.contest_store_tables.specs.Schema.{desk_schema}
+use Rattle.contest_store_tables.specs.Celless.{FullCelless}
+use Rattle.contest_store_tables.specs.Schema.{celless_schema, desk_schema}
 use Rattle.contest_store_tables.specs.Steps.{Content, HasContent, Holds, Holding, Within, Full, IsLive, Undoes, Step, Call, MakesNone}
 use Rattle.contest_store_tables.proofs.HoldLemmas.{on_ok, on_err, undone_holds, shown_within}
 
@@ -33,8 +36,8 @@ ran r old new b a From To P Made f err counts survives ok made = record {
 }
 
 -- one query over the tables of a desk
-plain_at : (sql : List ℕ) (s : State) → s.now.schema ≡ desk_schema → IsPlain (understood desk_schema sql) → IsPlain (understood s.now.schema sql)
-plain_at sql s has plain = subst (λ t. IsPlain (understood t sql)) (sym has) plain
+plain_at : (sql : List ℕ) (s : State) (schema : Schema) → s.now.schema ≡ schema → IsPlain (understood schema sql) → IsPlain (understood s.now.schema sql)
+plain_at sql s schema has plain = subst (λ t. IsPlain (understood t sql)) (sym has) plain
 
 pub full_schema : (s : State) (now kept : Content) → Full s now kept → s.now.schema ≡ desk_schema
 full_schema s now kept h = (subst (HasContent s.now) h.1.1 h.0.0.shows).0
@@ -43,8 +46,22 @@ pub queried : {T : Type 0} (r : Result T StoreError) (rows : T → List Row) (sq
     → (HasCleanDisk new → IfOk r (λ x. Shown sql params old new (rows x))) → (HasCleanDisk new → OnErr r (IsUndone old new)) → CountsCall r b a → Survives old new (CommitsShowing sql params old)
     → Step r old new b a Full Full (MakesNone old Full)
 queried r rows sql params old new b a plain shown err counts survives = ran r old new b a Full Full (CommitsShowing sql params old) (MakesNone old Full) (λ now kept h. h.0.0) err counts survives
-    (λ clean now kept h. ok_of r (shown clean) (λ x s. (shown_within sql params old new now kept (rows x) h.0 (plain_at sql old (full_schema old now kept h) plain) s, h.1)))
-    (λ db may now kept h. never_commits sql params old db (plain_at sql old (full_schema old now kept h) plain) may)
+    (λ clean now kept h. ok_of r (shown clean) (λ x s. (shown_within sql params old new now kept (rows x) h.0 (plain_at sql old desk_schema (full_schema old now kept h) plain) s, h.1)))
+    (λ db may now kept h. never_commits sql params old db (plain_at sql old desk_schema (full_schema old now kept h) plain) may)
+
+-- the same where the table of the cells was taken out
+pub celless_full : (s : State) (now kept : Content) → FullCelless s now kept → (place : LaterTable) × (s.now.schema ≡ celless_schema place)
+celless_full s now kept h = let was = subst (HasContent s.now) h.1.1 h.0.0.shows in (was.0, was.1)
+
+celless_plain : (sql : List ℕ) (s : State) (now kept : Content) → FullCelless s now kept → ((place : LaterTable) → IsPlain (understood (celless_schema place) sql)) → IsPlain (understood s.now.schema sql)
+celless_plain sql s now kept h plain = let is = celless_full s now kept h in plain_at sql s (celless_schema is.0) is.1 (plain is.0)
+
+pub queried_celless : {T : Type 0} (r : Result T StoreError) (rows : T → List Row) (sql : List ℕ) (params : Row) (old new : State) (b a : Counts) → ((place : LaterTable) → IsPlain (understood (celless_schema place) sql))
+    → (HasCleanDisk new → IfOk r (λ x. Shown sql params old new (rows x))) → (HasCleanDisk new → OnErr r (IsUndone old new)) → CountsCall r b a → Survives old new (CommitsShowing sql params old)
+    → Step r old new b a FullCelless FullCelless (MakesNone old FullCelless)
+queried_celless r rows sql params old new b a plain shown err counts survives = ran r old new b a FullCelless FullCelless (CommitsShowing sql params old) (MakesNone old FullCelless) (λ now kept h. h.0.0) err counts survives
+    (λ clean now kept h. ok_of r (shown clean) (λ x s. (shown_within sql params old new now kept (rows x) h.0 (celless_plain sql old now kept h plain) s, h.1)))
+    (λ db may now kept h. never_commits sql params old db (celless_plain sql old now kept h plain) may)
 
 -- what was given up after steps that were answered
 pub given_up : {T : Type 0} (e : StoreError) (old new : State) (b a : Counts) → (HasCleanDisk new → IsUndone old new) → a ≡ counted e b → Survives old new (λ _. ⊥) → Step {T = T} (Err e) old new b a Within Within (λ _. ⊥)

@@ -2,9 +2,12 @@
 use Rattle.std.proofs.Common.{[], ◌∷◌, codes, refl}
 use Rattle.sqlite_tied.specs.Compute.{everything}
 use Rattle.sqlite.specs.Listing.{understood}
+use Rattle.contest_store_tables.specs.Celless.{DropsMoved, LoadsMoved}
 use Rattle.contest_store_tables.specs.Changes.{Changes}
 use Rattle.contest_store_tables.specs.Clearing.{Clears}
 use Rattle.contest_store_tables.specs.Making.{Creates}
+use Rattle.contest_store_tables.specs.declared.later_table.LaterTable.{LaterTable}
+use Rattle.contest_store_tables.specs.declared.later_table.LaterTable.TheVariants as later
 use Rattle.contest_store_tables.specs.declared.row_change.RowChange.TheVariants.{Version, Marks, RejudgingState, MemberState, Cell}
 use Rattle.contest_store_tables.specs.Schema.{form_of}
 use Rattle.contest_store_tables.specs.Statements.{Inserts, Loads, FindsFile}
@@ -181,3 +184,13 @@ clarifications_cleared = record { is = refl; plain = (refl, refl) }
 pub version_changed : Changes Version (codes "UPDATE desk SET version = ?2 WHERE one = ?1")
 unfolding understood everything
 version_changed = record { is = refl; plain = (refl, refl) }
+
+pub moved_loaded : (place : LaterTable) → LoadsMoved place (codes "SELECT seq, kind, number, k, from_jury, account, problem, reply, text, time, key FROM notices ORDER BY seq")
+unfolding understood everything
+moved_loaded later.Cells = record { names = codes "seq" ∷ codes "kind" ∷ codes "number" ∷ codes "k" ∷ codes "from_jury" ∷ codes "account" ∷ codes "problem" ∷ codes "reply" ∷ codes "text" ∷ codes "time" ∷ codes "key" ∷ []; is = refl; plain = (refl, refl); unlisted = refl }
+moved_loaded later.Notices = record { names = codes "seq" ∷ codes "kind" ∷ codes "number" ∷ codes "k" ∷ codes "from_jury" ∷ codes "account" ∷ codes "problem" ∷ codes "reply" ∷ codes "text" ∷ codes "time" ∷ codes "key" ∷ []; is = refl; plain = (refl, refl); unlisted = refl }
+
+pub moved_dropped : (place : LaterTable) → DropsMoved place (codes "DROP TABLE notices")
+unfolding understood everything
+moved_dropped later.Cells = record { is = refl; plain = (refl, refl) }
+moved_dropped later.Notices = record { is = refl; plain = (refl, refl) }

@@ -38,6 +38,14 @@ is_changed MemberState given r = equal Binary (column r 0) (column given 0) && (
 is_changed Cell given r =
     equal Binary (column r 0) (column given 0) && (equal Binary (column r 1) (column given 1) && (equal Binary (column r 2) (column given 2) && true))
 
+-- how much is given: the key of the row, and the new values
+abbrev pub change_width : RowChange → ℕ
+change_width Version = 2
+change_width Marks = 4
+change_width RejudgingState = 2
+change_width MemberState = 5
+change_width Cell = 7
+
 -- the row with what else is given in its last columns
 abbrev pub changed_row : RowChange → Row → Row → Row
 changed_row Version given r = column r 0 ∷ column given 1 ∷ []

@@ -3,7 +3,7 @@ use Rattle.std.specs.Prelude.{◌≡◌, false, [], IsTrue}
 use Rattle.sqlite.specs.State.{State}
 use Rattle.sqlite.specs.Held.{Held, state}
 use Rattle.sqlite_trees.specs.declared.store.Store.{Ghosts}
-use Rattle.contest_store_tables.specs.Schema.{desk_schema, schema_before}
+use Rattle.contest_store_tables.specs.Schema.{celless_schema, desk_schema, schema_before}
 use Rattle.contest_store_tables.specs.declared.counts.Counts.{Counts}
 use Rattle.contest_store_tables.specs.declared.later_table.LaterTable.{LaterTable}
 use Rattle.contest_store_tables.specs.declared.tables.Tables.{Tables}
@@ -28,6 +28,10 @@ IsOfDesk s = s.now.schema ≡ desk_schema
 -- those that are made before this one stand, and no others
 abbrev pub IsLacking : LaterTable → State → Type 0
 IsLacking table s = s.now.schema ≡ schema_before table
+
+-- all but that of the cells stand, which was taken out, and no others; the notices in that place
+abbrev pub IsCelless : (place : LaterTable) → State → Type 0
+IsCelless place s = s.now.schema ≡ celless_schema place
 
 -- no table stands
 abbrev pub IsBare : State → Type 0

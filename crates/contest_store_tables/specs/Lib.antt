@@ -7,5 +7,6 @@ pub mod Steps
 pub mod Making
 pub mod Changes
 pub mod Clearing
+pub mod Celless
 pub mod Forms
 pub mod Numbered

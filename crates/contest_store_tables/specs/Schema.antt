@@ -1,5 +1,5 @@
 -- The tables of a contest, as the statements that make them leave them (SQLite, "CREATE TABLE").
-use Rattle.std.specs.Prelude.{ℕ, Bool, true, false, List, [], ◌∷◌, ◌++◌, map, None, Some, codes}
+use Rattle.std.specs.Prelude.{ℕ, Bool, true, false, List, [], ◌∷◌, ◌+◌, ◌++◌, map, None, Some, codes}
 use Rattle.sqlite.specs.Collation.TheVariants.{Binary}
 use Rattle.sqlite.specs.declared.types.Value.TheVariants.{Null}
 use Rattle.sqlite.specs.Table.{Table}
@@ -158,6 +158,22 @@ indexes_before later.Notices = first_indexes ++ cells_index ∷ []
 -- the tables of a desk that lacks this one
 abbrev pub schema_before : LaterTable → Schema
 schema_before table = record { tables = map form_of (tables_before table); indexes = indexes_before table; views = [] }
+
+-- the table of the notices in the place of that one: its own, or that of the cells, which were taken out
+abbrev pub moved_notices : (place : LaterTable) → Table
+moved_notices place = record (form_of Notices) { tree = (form_of (later_name place)).tree }
+
+abbrev pub moved_index : (place : LaterTable) → Index
+moved_index place = index_on (codes "sqlite_autoindex_notices_1") ((moved_notices place).tree + 1) (moved_notices place).tree (2 ∷ 3 ∷ 4 ∷ [])
+
+-- the tables of a desk whose table of the cells was taken out: the notices stay in their place, where a gap is left, or take
+-- that of the cells (SQLite, "DROP TABLE", "VACUUM")
+abbrev pub celless_schema : (place : LaterTable) → Schema
+celless_schema place = record {
+  tables = map form_of first_tables ++ moved_notices place ∷ [];
+  indexes = first_indexes ++ moved_index place ∷ [];
+  views = [];
+}
 
 abbrev pub desk_schema : Schema
 desk_schema = record { tables = map form_of all_tables; indexes = desk_indexes; views = [] }

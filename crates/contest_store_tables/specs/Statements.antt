@@ -29,6 +29,10 @@ use Rattle.contest_store_tables.specs.declared.table_name.TableName.TheVariants.
 abbrev pub given_terms : Table → List Term
 given_terms t = option_map_or (λ _. col 0 0 ∷ lit Null ∷ map (col 0) (range_with_len 1 (length t.columns - 1))) t.key (lit Null ∷ map (col 0) (range_with_len 0 (length t.columns)))
 
+-- how many parameters that takes
+abbrev pub insert_width : TableName → ℕ
+insert_width name = length (form_of name).columns
+
 -- the text inserts its parameters as a row
 pub record Inserts (name : TableName) (sql : List ℕ) : Type 0 where
   pub is : command_of (understood desk_schema sql) ≡ Insert (index_of name) (Values (given_terms (form_of name)) (length (given_terms (form_of name))))

@@ -17,8 +17,8 @@ use Rattle.sqlite_rules.specs.Cast.{cast_row}
 use Rattle.sqlite_trees.specs.Tree.{IsAscending, IsTable, rowid}
 use Rattle.sqlite_trees.specs.View.{is_int}
 use Rattle.contest_store.specs.declared.store_error.StoreError.{StoreError}
-use Rattle.contest_store_tables.specs.Schema.{form_of, all_tables, desk_schema, schema_before}
-use Rattle.contest_store_tables.specs.Tables.{TableRows, rows_in, show, by_key, lacking}
+use Rattle.contest_store_tables.specs.Schema.{form_of, all_tables, celless_schema, desk_schema, schema_before}
+use Rattle.contest_store_tables.specs.Tables.{TableRows, rows_in, show, by_key, lacking, with_cells_back}
 use Rattle.contest_store_tables.specs.Statements.{given_terms}
 use Rattle.contest_store_tables.specs.Counts.{CountsCall}
 use Rattle.contest_store_tables.specs.declared.counts.Counts.{Counts}
@@ -35,22 +35,26 @@ abbrev pub AreNumbered : Trees → Type 0
 AreNumbered db = (name : TableName) → IsTable (db (form_of name).tree) × AllByRecursion (λ r. IsTrue (is_int (rowid r))) (db (form_of name).tree)
 
 -- what a database has: these tables alone, all of them empty, or the tables of a desk with these rows, or those that are
--- made before one of them
+-- made before one of them, or all but that of the cells
 pub data Content : Type 0 where
   OnlyMade : List TableName → Content
   Showing : TableRows → Content
   Lacking : LaterTable → TableRows → Content
+  Celless : TableRows → Content
 
 abbrev pub HasContent : Database → Content → Type 0
 HasContent d (OnlyMade made) = (d.schema ≡ schema_with made) × AllByRecursion (λ (t : Table). d.trees t.tree ≡ []) d.schema.tables
 HasContent d (Showing rows) = (d.schema ≡ desk_schema) × (rows_in d.trees ≡ rows) × AreNumbered d.trees
 HasContent d (Lacking table rows) = (d.schema ≡ schema_before table) × (rows_in (lacking table d.trees) ≡ rows) × AreNumbered (lacking table d.trees)
+HasContent d (Celless rows) =
+    (place : LaterTable) × (d.schema ≡ celless_schema place) × (rows_in (with_cells_back place d.trees) ≡ rows) × AreNumbered (with_cells_back place d.trees)
 
 -- trees that show these rows; of tables without a row nothing is said
 abbrev pub Spells : Trees → Content → Type 0
 Spells db (OnlyMade made) = Unit {0}
 Spells db (Showing rows) = rows_in db ≡ rows
 Spells db (Lacking table rows) = rows_in (lacking table db) ≡ rows
+Spells db (Celless rows) = (place : LaterTable) × (rows_in (with_cells_back place db) ≡ rows)
 
 -- an open connection has this content now, and this one as it was last committed
 pub record Holds (s : State) (now kept : Content) : Type 0 where

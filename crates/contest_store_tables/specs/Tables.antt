@@ -10,7 +10,7 @@ use Rattle.sqlite_trees.specs.Tree.{with_tree}
 use Rattle.sqlite_value.specs.Keys.{rising}
 use Rattle.sqlite_sql.specs.Query.{key_cmp}
 use Rattle.sqlite_keyed.specs.Lists.{sort_by}
-use Rattle.contest_store_tables.specs.Schema.{form_of}
+use Rattle.contest_store_tables.specs.Schema.{form_of, moved_notices}
 use Rattle.contest_store_tables.specs.declared.later_table.LaterTable.{LaterTable}
 use Rattle.contest_store_tables.specs.declared.later_table.LaterTable.TheVariants as later
 use Rattle.contest_store_tables.specs.declared.table_name.TableName.{TableName}
@@ -39,3 +39,8 @@ rows_in db name = sort_by (by_key (form_of name)) (map (show (form_of name)) (db
 abbrev pub lacking : LaterTable → Trees → Trees
 lacking later.Cells db = with_tree (with_tree db (form_of Notices).tree []) (form_of Cells).tree []
 lacking later.Notices db = with_tree db (form_of Notices).tree []
+
+-- the trees of a desk whose table of the cells was taken out, with the notices in that place, as if it were there and had no
+-- row
+abbrev pub with_cells_back : (place : LaterTable) → Trees → Trees
+with_cells_back place db = with_tree (with_tree db (form_of Notices).tree (db (moved_notices place).tree)) (form_of Cells).tree []

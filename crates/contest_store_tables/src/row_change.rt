@@ -1,7 +1,7 @@
 //! Changes of a row where it stands.
 
-/// Which columns of which row change, and what the statement is given for it: the key of the row, and
-/// then the new values in the order of the columns.
+/// Which columns of which row change, and what the statement is given for it: the key of the row,
+/// and then the new values in the order of the columns.
 #[derive(Clone, Copy, Debug, PartialEq, Eq)]
 pub enum RowChange {
     /// The version, in the one row of `Desk`.

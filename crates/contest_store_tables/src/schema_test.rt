@@ -2,7 +2,8 @@
 ghost use Rattle.std.specs.Prelude.{◌≡◌, ◌↔◌, [], map, IsTrue};
 ghost use Rattle.sqlite_value.specs.Keys.{plain};
 ghost use Rattle.contest_store_tables.specs.Forms.{column_in, table_in, index_in};
-ghost use Rattle.contest_store_tables.specs.Schema.{no_stamps, desk_schema, schema_before};
+ghost use Rattle.contest_store_tables.specs.Schema.{no_stamps, celless_schema, desk_schema};
+ghost use Rattle.contest_store_tables.specs.Schema.{moved_index, moved_notices, schema_before};
 
 use crate::LaterTable;
 use crate::forms::{ColumnForm, INDEX_FORMS, IndexForm, TABLE_FORMS, TableForm};
@@ -103,8 +104,15 @@ fn has_no_stamp(stamps: &Stamps) -> bool
 fn is_table(table: &Table, form: &TableForm) -> bool
     ensures { IsTrue result ↔ (table.now ≡ table_in form.now) }
 {
+    is_table_at(table, form, form.tree)
+}
+
+// Whether it is that table, but in that tree.
+fn is_table_at(table: &Table, form: &TableForm, tree: u32) -> bool
+    ensures { IsTrue result ↔ (table.now ≡ record (table_in form.now) { tree = tree }) }
+{
     table.name.as_slice() == form.name
-        && table.tree == form.tree
+        && table.tree == tree
         && are_columns(table.columns.as_slice(), form.columns)
         && table.key == form.key
         && table.primary.as_slice() == form.primary
@@ -130,9 +138,16 @@ fn are_tables(tables: &[Table], forms: &[TableForm]) -> bool
 fn is_index(index: &Index, form: &IndexForm) -> bool
     ensures { IsTrue result ↔ (index.now ≡ index_in form.now) }
 {
+    is_index_at(index, form, form.tree, form.table)
+}
+
+// Whether it is that index, but in that tree, and its table in that one.
+fn is_index_at(index: &Index, form: &IndexForm, tree: u32, table: u32) -> bool
+    ensures { IsTrue result ↔ (index.now ≡ record (index_in form.now) { tree = tree; table = table }) }
+{
     index.name.as_slice() == form.name
-        && index.tree == form.tree
-        && index.table == form.table
+        && index.tree == tree
+        && index.table == table
         && index.columns.as_slice() == form.columns
         && index.order == Order::PLAIN
         && index.is_unique
@@ -170,6 +185,59 @@ pub(crate) fn is_lacking(schema: &Schema, table: LaterTable) -> bool
     match table {
         LaterTable::Cells => has_only(schema, &TABLE_FORMS[..10], &INDEX_FORMS[..9]),
         LaterTable::Notices => has_only(schema, &TABLE_FORMS[..11], &INDEX_FORMS[..10]),
+    }
+}
+
+/// Whether the tables of a desk stand but for that of the cells, which was taken out, and no
+/// others; that of the notices in this place.
+pub(crate) fn is_celless(schema: &Schema, place: LaterTable) -> bool
+    ensures { IsTrue result ↔ (schema.now ≡ celless_schema place) }
+{
+    are_celless_tables(schema.tables.as_slice(), place)
+        && are_celless_indexes(schema.indexes.as_slice(), place)
+        && schema.views.is_empty()
+}
+
+fn are_celless_tables(tables: &[Table], place: LaterTable) -> bool
+    ensures { IsTrue result ↔ (tables.now ≡ (celless_schema place).tables) }
+{
+    if tables.len() != 11 || !are_tables(&tables[..10], &TABLE_FORMS[..10]) {
+        return false;
+    }
+    is_table_at(&tables[10], &TABLE_FORMS[11], tree_of(place))
+}
+
+fn are_celless_indexes(indexes: &[Index], place: LaterTable) -> bool
+    ensures { IsTrue result ↔ (indexes.now ≡ (celless_schema place).indexes) }
+{
+    if indexes.len() != 10 || !are_indexes(&indexes[..9], &INDEX_FORMS[..9]) {
+        return false;
+    }
+    is_index_at(
+        &indexes[9],
+        &INDEX_FORMS[10],
+        index_tree_of(place),
+        tree_of(place),
+    )
+}
+
+// The tree of the rows in that place.
+fn tree_of(place: LaterTable) -> u32
+    ensures { result ≡ (moved_notices place).tree }
+{
+    match place {
+        LaterTable::Cells => TABLE_FORMS[10].tree,
+        LaterTable::Notices => TABLE_FORMS[11].tree,
+    }
+}
+
+// And that of the index.
+fn index_tree_of(place: LaterTable) -> u32
+    ensures { result ≡ (moved_index place).tree }
+{
+    match place {
+        LaterTable::Cells => INDEX_FORMS[9].tree,
+        LaterTable::Notices => INDEX_FORMS[10].tree,
     }
 }
 

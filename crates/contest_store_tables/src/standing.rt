@@ -11,6 +11,8 @@ pub enum Standing {
     Desk,
     /// Of the tables of a desk those that are made before this one, and no others.
     Lacking(LaterTable),
+    /// All of the tables of a desk but that of the cells, which was taken out, and no others.
+    Celless,
     /// Others.
     Foreign,
 }

@@ -3,14 +3,18 @@ ghost use Rattle.std.specs.Prelude.{◌≡◌, ℕ, false, [], Ok, Err, IsTrue, 
 ghost use Rattle.sqlite.specs.Values.{bound};
 ghost use Rattle.sqlite.specs.Effect.{IsDatabase};
 ghost use Rattle.sqlite.specs.Held.{state};
-ghost use Rattle.sqlite.specs.State.{HasCleanDisk, Survives, Executes, CommitsBy, CommitsShowing, Shown};
+ghost use Rattle.sqlite.specs.State.{HasCleanDisk, Survives, Executes, CommitsBy, CommitsShowing};
+ghost use Rattle.sqlite.specs.State.{Shown};
 ghost use Rattle.contest_store_tables.specs.Counts.{cause_of, counted, CountsCall};
-ghost use Rattle.contest_store_tables.specs.Steps.{OnlyMade, Showing, Lacking, AreNumbered, Holds};
-ghost use Rattle.contest_store_tables.specs.Tables.{rows_in, lacking};
-ghost use Rattle.contest_store_tables.specs.Connected.{connection_of, shown_by, counts_of, IsAtRest, IsOfDesk, IsLacking, IsBare, IsUndone};
+ghost use Rattle.contest_store_tables.specs.Steps.{Celless, OnlyMade, Showing, Lacking};
+ghost use Rattle.contest_store_tables.specs.Steps.{AreNumbered, Holds};
+ghost use Rattle.contest_store_tables.specs.Tables.{rows_in, lacking, with_cells_back};
+ghost use Rattle.contest_store_tables.specs.Connected.{connection_of, shown_by, counts_of};
+ghost use Rattle.contest_store_tables.specs.Connected.{IsAtRest, IsCelless, IsOfDesk, IsLacking};
+ghost use Rattle.contest_store_tables.specs.Connected.{IsBare, IsUndone};
 
 use crate::counts::cause_of;
-use crate::schema_test::{is_bare, is_lacking, is_of_desk};
+use crate::schema_test::{is_bare, is_celless, is_lacking, is_of_desk};
 use crate::{Counts, LaterTable, Standing};
 use contest_store::StoreError;
 use sqlite::types::ValueRef;
@@ -20,8 +24,8 @@ use sqlite::{Alter, Connection, Error, Row};
 ///
 /// # Errors
 ///
-/// Each call answers `Memory` where a growth was refused, and `Fault` where the connection failed for
-/// another cause. Both are counted, and no change stands then that wasn't committed.
+/// Each call answers `Memory` where a growth was refused, and `Fault` where the connection failed
+/// for another cause. Both are counted, and no change stands then that wasn't committed.
 #[derive(Drop)]
 pub struct Tables<S: Alter> {
     conn: Connection<S>,
@@ -38,6 +42,8 @@ impl<S: Alter> Tables<S> {
             → Holds (shown_by S.Store result) (Showing (rows_in (state S.Store conn).now.trees)) (Showing (rows_in (state S.Store conn).now.trees)) }
         ensures lacking { (table : LaterTable) → IsAtRest (state S.Store conn) → IsLacking table (state S.Store conn) → AreNumbered (lacking table (state S.Store conn).now.trees)
             → Holds (shown_by S.Store result) (Lacking table (rows_in (lacking table (state S.Store conn).now.trees))) (Lacking table (rows_in (lacking table (state S.Store conn).now.trees))) }
+        ensures celless { (place : LaterTable) → IsAtRest (state S.Store conn) → IsCelless place (state S.Store conn) → AreNumbered (with_cells_back place (state S.Store conn).now.trees)
+            → Holds (shown_by S.Store result) (Celless (rows_in (with_cells_back place (state S.Store conn).now.trees))) (Celless (rows_in (with_cells_back place (state S.Store conn).now.trees))) }
     {
         Tables {
             conn,
@@ -60,8 +66,9 @@ impl<S: Alter> Tables<S> {
     pub fn standing(&self) -> Standing
         ensures desk { result ≡ Standing.Desk → IsOfDesk (shown_by S.Store self.now) }
         ensures lacking { (table : LaterTable) → result ≡ Standing.Lacking table → IsLacking table (shown_by S.Store self.now) }
+        ensures celless { result ≡ Standing.Celless → (place : LaterTable) × IsCelless place (shown_by S.Store self.now) }
         ensures bare { result ≡ Standing.Bare → IsBare (shown_by S.Store self.now) }
-        ensures foreign { result ≡ Standing.Foreign → (¬ IsOfDesk (shown_by S.Store self.now)) × ((table : LaterTable) → ¬ IsLacking table (shown_by S.Store self.now)) × (¬ IsBare (shown_by S.Store self.now)) }
+        ensures foreign { result ≡ Standing.Foreign → (¬ IsOfDesk (shown_by S.Store self.now)) × ((table : LaterTable) → ¬ IsLacking table (shown_by S.Store self.now)) × ((place : LaterTable) → ¬ IsCelless place (shown_by S.Store self.now)) × (¬ IsBare (shown_by S.Store self.now)) }
         ensures sound { IsTrue (shown_by S.Store self.now).is_open → IsDatabase (shown_by S.Store self.now).now }
     {
         let schema = self.conn.schema();
@@ -71,6 +78,8 @@ impl<S: Alter> Tables<S> {
             Standing::Lacking(LaterTable::Notices)
         } else if is_lacking(schema, LaterTable::Cells) {
             Standing::Lacking(LaterTable::Cells)
+        } else if is_celless(schema, LaterTable::Notices) || is_celless(schema, LaterTable::Cells) {
+            Standing::Celless
         } else if is_bare(schema) {
             Standing::Bare
         } else {
@@ -115,8 +124,8 @@ impl<S: Alter> Tables<S> {
         StoreError::Memory
     }
 
-    /// What the tables showed can't have been written, so the disk isn't what was written: a fault is
-    /// counted, and no change stands that wasn't committed.
+    /// What the tables showed can't have been written, so the disk isn't what was written: a fault
+    /// is counted, and no change stands that wasn't committed.
     pub fn disbelieve(&mut self) -> StoreError
         requires { ¬ HasCleanDisk (shown_by S.Store self.old) }
         ensures error { result ≡ StoreError.Fault }

@@ -1,8 +1,10 @@
 //! The texts of the statements on the tables.
+ghost use Rattle.contest_store_tables.specs.Celless.{DropsMoved, LoadsMoved};
 ghost use Rattle.contest_store_tables.specs.Changes.{Changes};
 ghost use Rattle.contest_store_tables.specs.Making.{Creates};
 ghost use Rattle.contest_store_tables.specs.Clearing.{Clears};
 ghost use Rattle.contest_store_tables.specs.Statements.{Inserts, Loads, FindsFile};
+ghost use Rattle.contest_store_tables.specs.declared.later_table.LaterTable.{LaterTable};
 ghost use Rattle.contest_store_tables.specs.declared.table_name.TableName.TheVariants.{Clarifications};
 
 use crate::{RowChange, TableName};
@@ -118,6 +120,21 @@ pub(crate) fn clear_text() -> &'static str
     ensures { Clears Clarifications result.now }
 {
     "DELETE FROM clarifications"
+}
+
+/// The statement that loads the notices in the order of their key, where the table of the cells was
+/// taken out.
+pub(crate) fn moved_text() -> &'static str
+    ensures { (place : LaterTable) → LoadsMoved place result.now }
+{
+    "SELECT seq, kind, number, k, from_jury, account, problem, reply, text, time, key FROM notices ORDER BY seq"
+}
+
+/// The statement that takes the table of the notices out there.
+pub(crate) fn drop_text() -> &'static str
+    ensures { (place : LaterTable) → DropsMoved place result.now }
+{
+    "DROP TABLE notices"
 }
 
 /// The statement that finds the file of a submission by its team and its number.

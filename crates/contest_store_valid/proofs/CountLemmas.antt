@@ -12,6 +12,7 @@ use Rattle.contest_store_valid.specs.Numbering.{numbered}
 use Rattle.contest_store_valid.proofs.StepLemmas.{Grows, alike, and_true, in_each_grows}
 use Rattle.contest_store_valid.proofs.NumberLemmas.{Tells, own_counted}
 use Rattle.contest_store_valid.proofs.KeyLemmas.{numbers_grow}
+use Rattle.contest_types.proofs.Filters.{filters_swap}
 
 counted_grow : {X : Type 0} (p : X → Bool) (most : ℕ) → Grows (λ xs. nat_le (count_by p xs) most) (λ ys y. not (p y) || nat_le (count_by p ys + 1) most)
 counted_grow {X} p most =
@@ -34,17 +35,6 @@ kept_grow {X} same key p most =
       | false ↦ ap test (append-nil ys) ∙ and_true (test ys)
     ] in
     record { none = refl; more = λ xs x. ap test (filter-append p xs (x ∷ [])) ∙ go (filter p xs) x (p x) }
-
-filters_swap : {X : Type 0} (p q : X → Bool) (xs : List X) → filter p (filter q xs) ≡ filter q (filter p xs)
-filters_swap p q [] = refl
-filters_swap p q (x ∷ xs) =
-    let rest = filters_swap p q xs in
-    let go : (a b : Bool) → p x ≡ a → q x ≡ b → filter p (if b then x ∷ filter q xs else filter q xs) ≡ filter q (if a then x ∷ filter p xs else filter p xs) =
-    elim [
-      | true ↦ elim [ true ↦ λ e f. rw (e, f) (ap (λ ys. x ∷ ys) rest) | false ↦ λ e f. rw f rest ]
-      | false ↦ elim [ true ↦ λ e f. rw e rest | false ↦ λ e f. rest ]
-    ] in
-    go (p x) (q x) refl refl
 
 -- no more than so many of a kind belong together where each of them has a number up to that among its own
 pub each_counts_few : {X K : Type 0} {together : X → X → Bool} {same : K → K → Bool} {key : X → K} (p : X → Bool) (most : ℕ) → Tells together same key

@@ -6,13 +6,13 @@ use Rattle.std.specs.Option.{option_map}
 use Rattle.std.specs.Str.{bytes_eq}
 use Rattle.std.proofs.lemmas.Bool.Decides.{nat_tests}
 use Rattle.std.proofs.lemmas.Cmp.{nat_list_eq_equiv}
-use Rattle.std.proofs.lemmas.List.Elements.{filter_map-append}
+use Rattle.std.proofs.lemmas.List.Elements.{filter_map-append, filter_agree}
 use Rattle.std.proofs.lemmas.List.Folds.{list_all-append, list_any-append}
 use Rattle.std.proofs.lemmas.List.{map-append, take_more}
 use Rattle.std.proofs.lemmas.List.Sums.{length-filter}
+use Rattle.std.proofs.Math.Bool.{or-false}
 use Rattle.contest_types.specs.Places.{is_among, are_different}
 use Rattle.contest_types.specs.Series.{in_each, have_own_keys, is_new_key}
-use Rattle.contest_types.proofs.SeriesLemmas.{filter_same}
 use Rattle.contest_store_valid.specs.Numbering.{numbered}
 use Rattle.contest_store_valid.specs.Keys.{keyed, same_keyed}
 use Rattle.contest_store_valid.proofs.StepLemmas.{Grows, alike, and_true, in_each_grows}
@@ -29,15 +29,11 @@ apart false true true d = refl
 apart false true false d = refl
 apart false false c d = refl
 
-one_or : (b : Bool) → (b || false) ≡ b
-one_or true = refl
-one_or false = refl
-
 snoc : {K : Type 0} (same : K → K → Bool) (ks : List K) (k : K) → different same (ks ++ k ∷ []) ≡ (different same ks && not (list_any (λ j. same j k) ks))
 snoc same [] k = refl
 snoc same (j ∷ ks) k =
     let before = list_any (same j) ks in
-    let any : list_any (same j) (ks ++ k ∷ []) ≡ (before || same j k) = list_any-append (same j) ks (k ∷ []) ∙ ap (λ b. before || b) (one_or (same j k)) in
+    let any : list_any (same j) (ks ++ k ∷ []) ≡ (before || same j k) = list_any-append (same j) ks (k ∷ []) ∙ ap (λ b. before || b) (or-false (same j k)) in
     ap (λ b. not b && different same (ks ++ k ∷ [])) any
     ∙ (ap (λ b. not (before || same j k) && b) (snoc same ks k)
     ∙ apart before (same j k) (different same ks) (list_any (λ i. same i k) ks))
@@ -129,7 +125,7 @@ any_keyed same whose key w k (x ∷ xs) =
 pub own_keys_numbered : {X S : Type 0} {together : X → X → Bool} {same : S → S → Bool} {whose : X → S} (key : X → Option (List ℕ)) → Tells together same whose
     → (xs : List X) → in_each together (λ ys. have_own_keys (map key ys)) xs ≡ list_all (λ n. nat_le n 1) (numbered (same_keyed same) (keyed whose key xs))
 own_keys_numbered {X} {S} {together = together} {same = same} {whose = whose} key t xs =
-    let own : (before : List X) (x : X) → filter (together x) before ≡ filter (λ y. same (whose y) (whose x)) before = λ before x. filter_same (together x) (λ y. same (whose y) (whose x)) (t.by_key x) before in
+    let own : (before : List X) (x : X) → filter (together x) before ≡ filter (λ y. same (whose y) (whose x)) before = λ before x. filter_agree (together x) (λ y. same (whose y) (whose x)) (t.by_key x) before in
     let go : (before : List X) (x : X) (o : Option (List ℕ)) → is_new_key (map key (filter (together x) before)) o ≡ first_keyed same (keyed whose key before) (whose x) o =
     λ before x. elim [
       | None ↦ refl

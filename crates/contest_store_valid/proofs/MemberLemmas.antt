@@ -3,9 +3,10 @@ use Rattle.std.proofs.Common.{◌≡◌, ℕ, ◌+◌, ◌<◌, get_or, take, Bo
 use Rattle.std.specs.Prelude.{◌&&◌, not, nat_eq, nat_le}
 use Rattle.std.specs.List.{list_all, list_any, flat_map}
 use Rattle.std.proofs.Math.Bool.{and_assoc}
-use Rattle.std.proofs.lemmas.List.{append_assoc, map-append, take_more}
+use Rattle.std.proofs.lemmas.List.{map-append, take_more}
 use Rattle.std.proofs.lemmas.List.Folds.{list_all-append, list_all-map}
 use Rattle.std.proofs.lemmas.List.Elements.{filter-append}
+use Rattle.std.proofs.lemmas.Grind.{flat_map-append}
 use Rattle.contest_types.specs.State.{ContestState, of_release}
 use Rattle.contest_types.specs.ValidRejudgings.{has_release, is_valid_member, is_valid_state, is_valid_rejudging, are_different_members, is_open, open_members, has_valid_rejudgings}
 use Rattle.contest_types.specs.declared.limits.TheConstants.{REJUDGINGS, REJUDGING_MEMBERS}
@@ -64,17 +65,13 @@ valid_rejudgings x =
     (all_same (is_valid_rejudging x) (λ r. named r && is_whole r) (λ r. and_assoc (named r) (are_different_members r.members) (nat_le (length r.members) REJUDGING_MEMBERS)) x.rejudgings
     ∙ all_both named is_whole x.rejudgings)
 
-flat_append : {X Y : Type 0} (f : X → List Y) (xs ys : List X) → flat_map f (xs ++ ys) ≡ flat_map f xs ++ flat_map f ys
-flat_append f [] ys = refl
-flat_append f (x ∷ xs) ys = ap (λ zs. f x ++ zs) (flat_append f xs ys) ∙ sym (append_assoc (f x) (flat_map f xs) (flat_map f ys))
-
 -- the members of one rejudging more
 pub members_more : (rs : List Rejudging) (i : ℕ) (r : Rejudging) (pairs more : List (ℕ × ℕ)) → i < length rs → r ≡ get_or rs i r
     → pairs ≡ map pair_of_member (all_members (take i rs)) → more ≡ pairs ++ map pair_of_member r.members → more ≡ map pair_of_member (all_members (take (i + 1) rs))
 members_more rs i r pairs more l e is grown =
     let longer : take (i + 1) rs ≡ take i rs ++ r ∷ [] = rw (← e) at (take_more rs i r l) in
     let split : all_members (take i rs ++ r ∷ []) ≡ all_members (take i rs) ++ r.members =
-    flat_append (λ (s : Rejudging). s.members) (take i rs) (r ∷ []) ∙ ap (λ ms. all_members (take i rs) ++ ms) (append-nil r.members) in
+    flat_map-append (λ (s : Rejudging). s.members) (take i rs) (r ∷ []) ∙ ap (λ ms. all_members (take i rs) ++ ms) (append-nil r.members) in
     grown
     ∙ (ap (λ ps. ps ++ map pair_of_member r.members) is
     ∙ (sym (map-append pair_of_member (all_members (take i rs)) r.members)
@@ -86,7 +83,7 @@ pub open_more : (rs : List Rejudging) (i : ℕ) (r : Rejudging) (pairs more : Li
 open_more rs i r pairs more l e is grown =
     let longer : take (i + 1) rs ≡ take i rs ++ r ∷ [] = rw (← e) at (take_more rs i r l) in
     let split : open_members (take i rs ++ r ∷ []) ≡ open_members (take i rs) ++ open_members (r ∷ []) =
-    ap (flat_map (λ (s : Rejudging). s.members)) (filter-append is_open (take i rs) (r ∷ [])) ∙ flat_append (λ (s : Rejudging). s.members) (filter is_open (take i rs)) (filter is_open (r ∷ [])) in
+    ap (flat_map (λ (s : Rejudging). s.members)) (filter-append is_open (take i rs) (r ∷ [])) ∙ flat_map-append (λ (s : Rejudging). s.members) (filter is_open (take i rs)) (filter is_open (r ∷ [])) in
     grown
     ∙ (ap (λ ps. ps ++ map pair_of_member (open_members (r ∷ []))) is
     ∙ (sym (map-append pair_of_member (open_members (take i rs)) (open_members (r ∷ [])))

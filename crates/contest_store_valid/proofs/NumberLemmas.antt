@@ -6,10 +6,11 @@ use Rattle.std.specs.Cmp.{IsEquivalence}
 use Rattle.std.specs.Cmp.Lexicographic.{pointwise}
 use Rattle.std.proofs.Math.Bool.{and_assoc}
 use Rattle.std.proofs.lemmas.Bool.Decides.{nat_tests}
-use Rattle.std.proofs.lemmas.List.{append_assoc, map-append, length-map}
+use Rattle.std.proofs.lemmas.List.{append_assoc, map-append, length-map, length_push}
 use Rattle.std.proofs.lemmas.List.Sums.{length-filter}
+use Rattle.std.proofs.lemmas.List.Elements.{filter_agree}
 use Rattle.contest_types.specs.Series.{in_each, count_up}
-use Rattle.contest_types.proofs.SeriesLemmas.{IsTogether, filter_same, length_push}
+use Rattle.contest_types.proofs.SeriesLemmas.{IsTogether}
 use Rattle.contest_store_valid.specs.Numbering.{numbered_after, numbered}
 use Rattle.contest_store_valid.proofs.StepLemmas.{Grows, steps, by_steps, alike_steps, in_each_grows, and_true}
 
@@ -44,7 +45,7 @@ counted_by_key q key xs = sym (length-filter q (map key xs)) ∙ mapped_count q 
 pub own_counted : {X K : Type 0} {together : X → X → Bool} {same : K → K → Bool} {key : X → K} → Tells together same key
     → (x : X) (xs : List X) → length (filter (together x) xs) ≡ count_by (λ j. same j (key x)) (map key xs)
 own_counted {together = together} {same = same} {key = key} t x xs =
-    ap length (filter_same (together x) (λ y. same (key y) (key x)) (t.by_key x) xs) ∙ sym (counted_by_key (λ j. same j (key x)) key xs)
+    ap length (filter_agree (together x) (λ y. same (key y) (key x)) (t.by_key x) xs) ∙ sym (counted_by_key (λ j. same j (key x)) key xs)
 
 numbered_snoc : {K : Type 0} (same : K → K → Bool) (before keys : List K) (k : K)
     → numbered_after same before (keys ++ k ∷ []) ≡ numbered_after same before keys ++ (count_by (λ j. same j k) (before ++ keys) + 1) ∷ []
@@ -132,7 +133,7 @@ read_after : {J K : Type 0} (read : J → K) (same : K → K → Bool) (here : J
 read_after read same here h before [] = refl
 read_after {J} {K} read same here h before (j ∷ js) =
     let count : count_by (λ i. here i j) before ≡ count_by (λ k. same k (read j)) (map read before) =
-    sym (length-filter (λ i. here i j) before) ∙ (ap length (filter_same (λ i. here i j) (λ i. same (read i) (read j)) (λ i. h i j) before) ∙ sym (counted_by_key (λ k. same k (read j)) read before)) in
+    sym (length-filter (λ i. here i j) before) ∙ (ap length (filter_agree (λ i. here i j) (λ i. same (read i) (read j)) (λ i. h i j) before) ∙ sym (counted_by_key (λ k. same k (read j)) read before)) in
     let rest : List K → List ℕ = λ b. numbered_after same b (map read js) in
     ap (λ n. (n + 1) ∷ numbered_after here (before ++ j ∷ []) js) count
     ∙ ap (λ ns. (count_by (λ k. same k (read j)) (map read before) + 1) ∷ ns) (read_after read same here h (before ++ j ∷ []) js ∙ ap rest (map-append read before (j ∷ [])))

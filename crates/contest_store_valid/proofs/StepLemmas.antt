@@ -1,15 +1,14 @@
 -- Tests of lists that go row by row: what a row adds to the test, from those before it.
 use Rattle.std.proofs.Common.{◌≡◌, ℕ, ◌+◌, ◌<◌, get_or, take, drop, length, Bool, true, false, List, [], ◌∷◌, ◌++◌, filter, refl, sym, ◌∙◌, ap, inl, inr, append-nil}
-use Rattle.std.specs.Prelude.{◌&&◌, cond}
+use Rattle.std.specs.Prelude.{◌&&◌}
 use Rattle.std.specs.List.{list_all}
 use Rattle.std.proofs.Math.Bool.{and_assoc}
 use Rattle.std.proofs.lemmas.Bool.{cases_Bool, and_parts}
 use Rattle.std.proofs.lemmas.List.{append_assoc, drop_more, take_more}
-use Rattle.std.proofs.lemmas.List.Elements.{filter-append}
 use Rattle.std.proofs.lemmas.List.Folds.{list_all-append}
 use Rattle.contest_types.specs.Series.{in_each}
 use Rattle.contest_types.proofs.PlaceLemmas.{and_left, and_right, both_true}
-use Rattle.contest_types.proofs.SeriesLemmas.{IsTogether, in_each_push, in_any}
+use Rattle.contest_types.proofs.SeriesLemmas.{IsTogether, in_each_push, in_any, filter_one_more}
 use Rattle.contest_types.proofs.SetupLemmas.{all_wider}
 
 -- the test holds of no rows, and of one row more where it held and the row may follow
@@ -62,9 +61,6 @@ one_test true b to from = sym (to refl)
 one_test false true to from = from refl
 one_test false false to from = refl
 
-filter_more : {X : Type 0} (p : X → Bool) (xs : List X) (y : X) (b : Bool) → p y ≡ b → filter p (xs ++ y ∷ []) ≡ filter p xs ++ cond b (y ∷ []) []
-filter_more p xs y b e = filter-append p xs (y ∷ []) ∙ (rw e refl)
-
 -- what a row adds to a test of all rows that belong together
 pub in_each_grows : {X : Type 0} (together : X → X → Bool) {test : List X → Bool} {step : List X → X → Bool} → IsTogether together → Grows test step
     → Grows (in_each together test) (λ before x. step (filter (together x) before) x)
@@ -72,11 +68,11 @@ in_each_grows {X} together {test} {step} t g =
     let own : (x : X) → List X → List X = λ x xs. filter (together x) xs in
     let fewer : (xs : List X) (x z : X) → test (own z (xs ++ x ∷ [])) ≡ true → test (own z xs) ≡ true =
     λ xs x z h. elim (cases_Bool (together z x)) [
-      | inl e ↦ and_left _ _ (sym (g.more (own z xs) x) ∙ (ap test (sym (filter_more (together z) xs x true e)) ∙ h))
-      | inr e ↦ ap test (sym (append-nil (own z xs))) ∙ (ap test (sym (filter_more (together z) xs x false e)) ∙ h)
+      | inl e ↦ and_left _ _ (sym (g.more (own z xs) x) ∙ (ap test (sym (filter_one_more (together z) xs x true e)) ∙ h))
+      | inr e ↦ ap test (sym (append-nil (own z xs))) ∙ (ap test (sym (filter_one_more (together z) xs x false e)) ∙ h)
     ] in
     let last : (xs : List X) (x : X) → test (own x (xs ++ x ∷ [])) ≡ (test (own x xs) && step (own x xs) x) =
-    λ xs x. ap test (filter_more (together x) xs x true (t.itself x)) ∙ g.more (own x xs) x in
+    λ xs x. ap test (filter_one_more (together x) xs x true (t.itself x)) ∙ g.more (own x xs) x in
     let to : (xs : List X) (x : X) → in_each together test (xs ++ x ∷ []) ≡ true → (in_each together test xs && step (own x xs) x) ≡ true =
     λ xs x h. (
     let parts = and_parts _ _ (sym (list_all-append (λ z. test (own z (xs ++ x ∷ []))) xs (x ∷ [])) ∙ h) in

@@ -6,12 +6,7 @@ use Rattle.std.proofs.lemmas.List.{append_assoc, take_more, drop_more}
 use Rattle.std.proofs.lemmas.List.Folds.{list_any-append}
 use Rattle.contest_types.proofs.SeriesLemmas.{count_push}
 use Rattle.contest_store_valid.specs.Numbering.{numbered_after, numbered}
-
-found_last : (b had : Bool) → cond b true had ≡ (had || (b || false))
-found_last true true = refl
-found_last true false = refl
-found_last false true = refl
-found_last false false = refl
+use Rattle.contest_types.proofs.Tests.{found_last}
 
 -- what a set has once it has one key more
 pub set_more : {K : Type 0} (same : K → K → Bool) (keys : List K) (i : ℕ) (key k : K) (had has : Bool) → i < length keys → key ≡ get_or keys i key

@@ -5,6 +5,7 @@ use Rattle.std.specs.List.{list_all}
 use Rattle.std.specs.Option.{option_map_or}
 use Rattle.std.proofs.lemmas.List.{length-map}
 use Rattle.std.proofs.lemmas.List.Folds.{list_all-map}
+use Rattle.std.proofs.Math.Bool.{and-false}
 use Rattle.contest_lists.specs.Lists.{loaded, with_submissions}
 use Rattle.contest_types.specs.Clock.{reached, end_of}
 use Rattle.contest_types.specs.Loads.{without_file}
@@ -22,16 +23,12 @@ use Rattle.contest_store_valid.specs.Files.{has_small_files}
 use Rattle.contest_store_valid.proofs.StepLemmas.{and_true, all_both}
 use Rattle.contest_store_valid.proofs.PairLemmas.{all_same, any_mapped}
 
-none_both : (b : Bool) → (b && false) ≡ false
-none_both true = refl
-none_both false = refl
-
 -- without rows a start isn't needed
 start_needed : (settings end accounts start none : Bool) → ((settings && (end && (start || true)) && accounts && true && true && true && true && true) && (start || none)) ≡ (settings && (end && (start || none)) && accounts)
 start_needed true true true true none = refl
 start_needed true true true false none = and_true none
 start_needed true true false true none = refl
-start_needed true true false false none = sym (none_both none)
+start_needed true true false false none = sym (and-false none)
 start_needed true false accounts start none = refl
 start_needed false end accounts start none = refl
 
@@ -117,7 +114,7 @@ clock_unfiled x =
 
 test_last : (t u small p r c j : Bool) → (t && (u && small) && p && r && c && j) ≡ ((t && u && p && r && c && j) && small)
 test_last true true true p r c j = and_true (p && r && c && j)
-test_last true true false p r c j = sym (none_both (p && r && c && j))
+test_last true true false p r c j = sym (and-false (p && r && c && j))
 test_last true false small p r c j = refl
 test_last false u small p r c j = refl
 

@@ -1,7 +1,8 @@
 //! Whether the clarifications of each addressee count up and aren't too many.
 ghost use Rattle.std.specs.Prelude.{◌≡◌, nat_le, count_by, filter, IfOk, map};
 ghost use Rattle.contest_types.specs.Series.{in_each, count_up};
-ghost use Rattle.contest_types.specs.ValidClarifications.{to_one_addressee, are_valid_clarifications};
+ghost use Rattle.contest_types.specs.ValidClarifications.{to_one_addressee};
+ghost use Rattle.contest_types.specs.ValidClarifications.{are_valid_clarifications};
 ghost use Rattle.contest_types.specs.declared.clarification.Clarification.{Clarification as TheClarification};
 ghost use Rattle.contest_store_valid.specs.Talk.{addressee_of, is_of};
 

@@ -3,7 +3,10 @@ ghost use Rattle.std.specs.Prelude.{◌≡◌, IfOk};
 ghost use Rattle.std.specs.List.{list_all};
 ghost use Rattle.std.specs.Option.{option_map_or};
 ghost use Rattle.contest_types.specs.Series.{in_each};
-ghost use Rattle.contest_types.specs.ValidClarifications.{has_valid_clarifications, is_valid_clarification, has_clarification, to_one_addressee, are_valid_clarifications};
+ghost use Rattle.contest_types.specs.ValidClarifications.{has_valid_clarifications};
+ghost use Rattle.contest_types.specs.ValidClarifications.{is_valid_clarification};
+ghost use Rattle.contest_types.specs.ValidClarifications.{has_clarification, to_one_addressee};
+ghost use Rattle.contest_types.specs.ValidClarifications.{are_valid_clarifications};
 ghost use Rattle.contest_types.specs.declared.clarification.Clarification.{Clarification as TheClarification};
 ghost use Rattle.contest_store_valid.specs.Talk.{is_sent};
 

@@ -1,7 +1,8 @@
 //! Whether the members of rejudgings name what is there, and are told apart.
 ghost use Rattle.std.specs.Prelude.{◌≡◌, ◌++◌, ◌∷◌, [], IfOk, OnOk, map};
 ghost use Rattle.std.specs.List.{list_all};
-ghost use Rattle.contest_types.specs.ValidRejudgings.{has_release, is_valid_member, is_valid_state, are_different_members, open_members};
+ghost use Rattle.contest_types.specs.ValidRejudgings.{has_release, is_valid_member, is_valid_state};
+ghost use Rattle.contest_types.specs.ValidRejudgings.{are_different_members, open_members};
 ghost use Rattle.contest_types.specs.declared.rejudging.Member.{Member as TheMember};
 ghost use Rattle.contest_types.specs.declared.rejudging.Rejudging.{Rejudging as TheRejudging};
 ghost use Rattle.contest_store_valid.specs.Members.{all_members, pair_of_member};

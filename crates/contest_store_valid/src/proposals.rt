@@ -3,7 +3,9 @@ ghost use Rattle.std.specs.Prelude.{◌≡◌, nat_le, nat_lt, count_by, filter,
 ghost use Rattle.std.specs.List.{list_all};
 ghost use Rattle.contest_types.specs.Series.{in_each};
 ghost use Rattle.contest_types.specs.State.{of_proposal};
-ghost use Rattle.contest_types.specs.ValidSubmissions.{has_submission, has_valid_proposals, is_valid_proposal, for_one_submission, is_imported, is_there};
+ghost use Rattle.contest_types.specs.ValidSubmissions.{has_submission, has_valid_proposals};
+ghost use Rattle.contest_types.specs.ValidSubmissions.{is_valid_proposal, for_one_submission};
+ghost use Rattle.contest_types.specs.ValidSubmissions.{is_imported, is_there};
 ghost use Rattle.contest_types.specs.declared.proposal.Proposal.{Proposal as TheProposal};
 ghost use Rattle.contest_store_valid.specs.Accounts.{has_proposer};
 ghost use Rattle.contest_store_valid.specs.Keys.{pair_of};

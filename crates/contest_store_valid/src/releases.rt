@@ -3,7 +3,8 @@ ghost use Rattle.std.specs.Prelude.{◌≡◌, nat_lt, IfOk, length, map};
 ghost use Rattle.std.specs.List.{list_all};
 ghost use Rattle.contest_types.specs.Series.{in_each};
 ghost use Rattle.contest_types.specs.State.{of_release};
-ghost use Rattle.contest_types.specs.ValidSubmissions.{has_submission, has_valid_releases, on_one_submission, are_valid_releases};
+ghost use Rattle.contest_types.specs.ValidSubmissions.{has_submission, has_valid_releases};
+ghost use Rattle.contest_types.specs.ValidSubmissions.{on_one_submission, are_valid_releases};
 ghost use Rattle.contest_types.specs.declared.submission.Release.{Release as TheRelease};
 ghost use Rattle.contest_store_valid.specs.Keys.{pair_of};
 

@@ -5,7 +5,8 @@ ghost use Rattle.contest_types.specs.Masks.{audience_at};
 ghost use Rattle.contest_types.specs.Series.{in_each};
 ghost use Rattle.contest_types.specs.Sight.{hears};
 ghost use Rattle.contest_types.specs.State.{same_addressee};
-ghost use Rattle.contest_types.specs.ValidClarifications.{is_an_addressee, may_send, is_well_sent, in_one_scope, keys_are_own};
+ghost use Rattle.contest_types.specs.ValidClarifications.{is_an_addressee, may_send, is_well_sent};
+ghost use Rattle.contest_types.specs.ValidClarifications.{in_one_scope, keys_are_own};
 ghost use Rattle.contest_types.specs.declared.clarification.Reference.{Reference as TheReference};
 ghost use Rattle.contest_types.specs.declared.clarification.Clarification.{Clarification as TheClarification};
 ghost use Rattle.contest_types.specs.declared.clarification.Addressee.TheVariants as addressee;
@@ -17,12 +18,12 @@ use crate::numbering::are_at_most;
 use contest_types::{Addressee, Clarification, Fixed, Reference, Role, Settings, is_of_group};
 use std::alloc::{AllocError, Global};
 
-/// Who wrote a clarification, in as far as keys are told apart by it: the addressee, if a team did, or
-/// the account of the jury.
+/// Who wrote a clarification, in as far as keys are told apart by it: the addressee, if a team did,
+/// or the account of the jury.
 type Sender<'a> = (Option<Addressee>, &'a str);
 
-/// Whether a clarification names an addressee, an account and a problem that are there, and a team's
-/// account wrote it to the jury and answers what the team hears, or the jury wrote it.
+/// Whether a clarification names an addressee, an account and a problem that are there, and a
+/// team's account wrote it to the jury and answers what the team hears, or the jury wrote it.
 pub(crate) fn is_sent(fixed: &Fixed, accounts: &Accounts<'_>, clarification: &Clarification) -> bool
     requires { accounts.now ≡ fixed.now.accounts }
     ensures { result ≡ is_sent fixed.now clarification.now }

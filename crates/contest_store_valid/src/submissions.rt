@@ -2,8 +2,8 @@
 ghost use Rattle.std.specs.Prelude.{◌≡◌, nat_le, IfOk, length, map};
 ghost use Rattle.std.specs.List.{list_all};
 ghost use Rattle.contest_types.specs.Series.{in_each, count_up, have_own_keys};
-ghost use Rattle.contest_types.specs.ValidSubmissions.{has_valid_submissions, is_valid_submission, of_one_team, are_valid_submissions};
-ghost use Rattle.contest_types.specs.Clock.{reached, end_of};
+ghost use Rattle.contest_types.specs.ValidSubmissions.{has_valid_submissions, is_valid_submission};
+ghost use Rattle.contest_types.specs.ValidSubmissions.{of_one_team, are_valid_submissions};
 ghost use Rattle.contest_types.specs.declared.submission.Submission.{Submission as TheSubmission};
 ghost use Rattle.contest_store_valid.specs.Keys.{keyed, read};
 
@@ -12,7 +12,7 @@ use crate::numbering::{are_at_most, are_numbered};
 use crate::times::times_never_fall;
 use contest_lists::Lists;
 use contest_types::limits::{POSTED_FILE, TEAM_SUBMISSIONS};
-use contest_types::{Fixed, Moment, Submission, end_of};
+use contest_types::{Fixed, Submission, end_of, has_come, is_reached};
 use std::alloc::{AllocError, Global};
 
 /// Whether each submission names what is there, is made while the contest runs and has no file that
@@ -60,27 +60,9 @@ fn is_valid_submission(fixed: &Fixed, submission: &Submission) -> bool
     submission.team < fixed.settings.teams().len()
         && submission.problem < fixed.settings.problems().len()
         && submission.language < fixed.settings.languages().len()
-        && has_started(fixed, submission.time)
-        && !has_ended(fixed, submission.time)
+        && has_come(fixed.marks.start, submission.time)
+        && !is_reached(end_of(&fixed.settings, &fixed.marks), submission.time)
         && submission.file.as_slice().len() <= POSTED_FILE
-}
-
-fn has_started(fixed: &Fixed, time: Moment) -> bool
-    ensures { result ≡ reached fixed.now.marks.start time }
-{
-    match fixed.marks.start {
-        Some(start) => start.milliseconds() <= time.milliseconds(),
-        None => false,
-    }
-}
-
-fn has_ended(fixed: &Fixed, time: Moment) -> bool
-    ensures { result ≡ reached (end_of fixed.now.settings fixed.now.marks) time }
-{
-    match end_of(&fixed.settings, &fixed.marks) {
-        Some(end) => end <= time.milliseconds(),
-        None => false,
-    }
 }
 
 // Whether each submission has the number that it has among its team's.

@@ -3,7 +3,8 @@ ghost use Rattle.std.specs.Prelude.{◌≡◌, ◌&&◌, ◌||◌, ◌==◌, is_
 ghost use Rattle.contest_lists.specs.Lists.{loaded};
 ghost use Rattle.contest_types.specs.State.{ContestState};
 ghost use Rattle.contest_types.specs.Valid.{is_valid};
-ghost use Rattle.contest_types.specs.ValidFixed.{has_valid_settings, has_valid_clock, has_valid_accounts};
+ghost use Rattle.contest_types.specs.ValidFixed.{has_valid_settings, has_valid_clock};
+ghost use Rattle.contest_types.specs.ValidFixed.{has_valid_accounts};
 ghost use Rattle.contest_store_valid.specs.Files.{has_small_files};
 
 use crate::clarifications::has_valid_clarifications;

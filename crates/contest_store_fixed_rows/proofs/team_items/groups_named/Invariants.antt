@@ -2,7 +2,8 @@ use Rattle.std.proofs.Common.{◌≡◌, ◌+◌, ◌++◌, ℕ, List, [], lengt
 use Rattle.std.specs.Option.{option_map, option_map_or}
 use Rattle.contest_types.specs.Places.{place_of}
 use Rattle.contest_types.specs.declared.objects.Group.{Group}
-use Rattle.contest_store_fixed_rows.specs.Items.{groups_named, words}
+use Rattle.contest_store_fixed_rows.specs.Items.{groups_named}
+use Rattle.contest_types.specs.Words.{words}
 use Rattle.contest_store_rows.specs.Lists.{each_some}
 use Rattle.contest_store_fixed_rows.proofs.team_items.groups_named.Given as goal
 
