@@ -32,11 +32,12 @@ pub record HasListed (lists : ContestState) (e : Entry) (s : State) (now kept : 
   pub held : loaded contest ≡ lists
   pub within : Within s (Showing (rows_with (cell_rows contest) (add contest e))) kept
 
--- they show it with the change, in its cells too
+-- they show it with the change, in its cells too, and it is sound then
 pub record HasAdded (lists : ContestState) (e : Entry) (s : State) (now kept : Content) : Type 0 where
   pub contest : ContestState
   pub shown : now ≡ Showing (table_rows contest)
   pub sound : IsSound contest
+  pub after : IsSound (add contest e)
   pub held : loaded contest ≡ lists
   pub within : Within s (Showing (table_rows (add contest e))) kept
 

@@ -1,4 +1,4 @@
--- What the types of a change keep true of its texts and times.
+-- What the types of rows keep true of their texts and times.
 use Rattle.std.specs.Prelude.{◌≡◌, ◌≤◌, ℕ, ⊤, List, length, IfSome, Some}
 use Rattle.std.specs.List.{AllByRecursion}
 use Rattle.contest_types.specs.ClarificationText.{text_from}
@@ -16,8 +16,10 @@ use Rattle.contest_types.specs.declared.rejudging.Member.{Member}
 use Rattle.contest_types.specs.declared.rejudging.MemberState.{MemberState}
 use Rattle.contest_types.specs.declared.rejudging.MemberState.TheVariants as member
 use Rattle.contest_types.specs.declared.rejudging.Rejudging.{Rejudging}
+use Rattle.contest_types.specs.State.{ContestState}
+use Rattle.contest_types.specs.declared.submission.Release.{Release}
 use Rattle.contest_types.specs.declared.submission.Submission.{Submission}
-use Rattle.contest_store_fixed_rows.specs.Laws.{IsWritableItem, IsWritableProblem}
+use Rattle.contest_store_fixed_rows.specs.Laws.{IsWritableItem, IsWritableMarks, IsWritableProblem, IsWritableSetup}
 
 abbrev pub IsName : List ℕ → Type 0
 IsName text = name_from text ≡ Some text
@@ -74,3 +76,14 @@ IsOfKinds (NewProblem p) = IsWritableProblem p
 IsOfKinds (NewGroup g) = IsWritableItem g.id g.name
 IsOfKinds (NewTeam t) = IsWritableItem t.id t.name
 IsOfKinds (NewAccount a) = IsOfKindsAccount a
+
+-- and of all rows of a contest
+pub record AreOfKinds (x : ContestState) : Type 0 where
+  pub settings : IsWritableSetup x.fixed.settings
+  pub accounts : AllByRecursion IsOfKindsAccount x.fixed.accounts
+  pub marks : IsWritableMarks x.fixed.marks
+  pub submissions : AllByRecursion IsOfKindsSubmission x.submissions
+  pub proposals : AllByRecursion IsOfKindsProposal x.proposals
+  pub releases : AllByRecursion (λ (v : Release). IsMoment v.time) x.releases
+  pub clarifications : AllByRecursion IsOfKindsClarification x.clarifications
+  pub rejudgings : AllByRecursion IsOfKindsRejudging x.rejudgings

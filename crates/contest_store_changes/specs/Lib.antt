@@ -1,9 +1,10 @@
 pub mod ContestTables
-pub mod Sound
 pub mod Kinds
+pub mod Sound
 pub mod OneRow
 pub mod Additions
 pub mod CellSteps
 pub mod Laws
+pub mod EntryRows
 pub mod Upgraded
 pub mod UpgradeSteps

@@ -30,12 +30,25 @@ pub record FirstRows (lists : ContestState) (now : Content) : Type 0 where
 abbrev pub ShowsFirst : (lists : ContestState) → Holding
 ShowsFirst lists s now kept = FirstRows lists now × Within s now kept
 
--- with so many of the clarifications in the table of today
-abbrev pub with_notices : ℕ → List Row → ContestState → TableRows
-with_notices n cells x = with_rows Notices (numbered (clarification_row x.fixed.settings) (take n x.clarifications)) (first_rows_with cells x)
+-- these are rows of which the table of the notices has none, beside a sound contest with these lists
+pub record Noticeless (lists : ContestState) (now : Content) : Type 0 where
+  pub rows : TableRows
+  pub contest : ContestState
+  pub shown : now ≡ Showing rows
+  pub none : rows Notices ≡ []
+  pub sound : IsSound contest
+  pub held : loaded contest ≡ lists
+
+-- within a transaction the tables show them
+abbrev pub ShowsNoticeless : (lists : ContestState) → Holding
+ShowsNoticeless lists s now kept = Noticeless lists now × Within s now kept
+
+-- with so many of the clarifications of the lists in that table
+abbrev pub with_notices : (lists : ContestState) → ℕ → TableRows → TableRows
+with_notices lists n rows = with_rows Notices (numbered (clarification_row lists.fixed.settings) (take n lists.clarifications)) rows
 
 abbrev pub HasMoved : (lists : ContestState) → ℕ → Holding
-HasMoved lists n s now kept = (f : FirstRows lists now) × Within s (Showing (with_notices n f.cells f.contest)) kept
+HasMoved lists n s now kept = (rows : TableRows) → now ≡ Showing rows → Within s (Showing (with_notices lists n rows)) kept
 
 -- they show the contest, with the same cells, as the schema of today has it
 abbrev pub HasUpgraded : (lists : ContestState) → Holding

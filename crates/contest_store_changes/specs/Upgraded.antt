@@ -12,6 +12,7 @@ use Rattle.contest_store_tables.specs.Steps.{Rises, with_rows}
 use Rattle.contest_store_tables.specs.Tables.{TableRows}
 use Rattle.contest_store_tables.specs.declared.table_name.TableName.TheVariants.{Desk, Accounts, Submissions, Clarifications, Cells, Notices}
 use Rattle.contest_store_changes.specs.ContestTables.{by_name, rows_with, valid_listed_in_version}
+use Rattle.contest_store_changes.specs.Kinds.{AreOfKinds}
 use Rattle.contest_store_changes.specs.Laws.{IsWide}
 use Rattle.contest_store_changes.specs.Sound.{IsSound}
 
@@ -31,11 +32,11 @@ GoesToNoGroup c = (group : ℕ) → c.addressee ≢ ToGroup group
 abbrev pub FirstRowsReadBack : Type 0
 FirstRowsReadBack = (cells : List Row) (x : ContestState) → IsSound x → AllByRecursion GoesToNoGroup x.clarifications → first_listed_in (first_rows_with cells x) ≡ Some x
 
--- and a valid one whose lists rows are is sound, and these are its rows
+-- and a valid one of their kinds whose lists rows are is sound, and these are its rows
 abbrev pub FirstContestsAreSound : Type 0
 FirstContestsAreSound =
     (rows : TableRows) (x : ContestState) → Rises Accounts (rows Accounts) → AllByRecursion (IsWide Submissions) (rows Submissions) → AllByRecursion (IsWide Clarifications) (rows Clarifications)
-    → first_listed_in rows ≡ Some x → IsSound x × (first_rows_with (rows Cells) x ≡ rows)
+    → AreOfKinds x → first_listed_in rows ≡ Some x → IsSound x × (first_rows_with (rows Cells) x ≡ rows)
 
 -- where its clarifications are put into the table of today, are taken out of the other, and the version is set, its rows are
 -- those of today's schema

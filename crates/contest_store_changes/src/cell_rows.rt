@@ -1,11 +1,15 @@
 //! The rows of the cells that a change bears on, one under either mask.
-ghost use Rattle.std.specs.Prelude.{◌≡◌, ◌==◌, ◌<◌, ◌+◌, ◌^◌, ℕ, filter, length, option_map, slice_get};
+ghost use Rattle.std.specs.Prelude.{◌≡◌, ◌==◌, ◌<◌, ◌+◌, ◌^◌, ℕ, filter, length, option_map};
+ghost use Rattle.std.specs.Prelude.{slice_get};
 ghost use Rattle.sqlite.specs.Values.{bound};
 ghost use Rattle.contest_types.specs.State.{submissions_of};
 ghost use Rattle.contest_types.specs.declared.entry.Entry.TheVariants.{NewSubmission, NewRelease};
 ghost use Rattle.contest_store_tables.specs.Connected.{counts_of, shown_by};
+ghost use Rattle.contest_store_tables.specs.Statements.{insert_width};
+ghost use Rattle.contest_store_tables.specs.declared.table_name.TableName.TheVariants.{Cells};
 ghost use Rattle.contest_store_tables.specs.Steps.{Full, MakesNone, Step};
-ghost use Rattle.contest_store_changes.specs.CellSteps.{HasScored, HasWritten, HasWrittenBoth, MayWrite, Scores, WritesCells};
+ghost use Rattle.contest_store_changes.specs.CellSteps.{HasScored, HasWritten, HasWrittenBoth};
+ghost use Rattle.contest_store_changes.specs.CellSteps.{MayWrite, Scores, WritesCells};
 
 use crate::list_rows::fits;
 use contest_lists::Lists;
@@ -16,13 +20,13 @@ use contest_types::{Entry, Mask, Release, Submission};
 use sqlite::Alter;
 use sqlite::types::ValueRef;
 
-/// Writes the cells that a change bears on, which stands in the rows of its lists already. These are the lists
-/// with the change. It is within a transaction.
+/// Writes the cells that a change bears on, which stands in the rows of its lists already. These
+/// are the lists with the change. It is within a transaction.
 ///
 /// # Errors
 ///
-/// `Memory` where a growth was refused, and `Fault` where the connection failed for another cause. Each is
-/// counted, and no change stands then that wasn't committed.
+/// `Memory` where a growth was refused, and `Fault` where the connection failed for another cause.
+/// Each is counted, and no change stands then that wasn't committed.
 pub fn keep_cells<S: Alter>(
     tables: &mut Tables<S>,
     lists: &ScoredLists,
@@ -124,6 +128,8 @@ fn write_both<S: Alter>(
     held: &[ValueRef<'_>],
     full: &[ValueRef<'_>],
 ) -> Result<(), StoreError>
+    requires held { length held.now ≡ insert_width Cells }
+    requires full { length full.now ≡ insert_width Cells }
     ensures { Step result (shown_by S.Store tables.old) (shown_by S.Store tables.new) (counts_of tables.old) (counts_of tables.new) (MayWrite is_new (bound held.now) (bound full.now))
         (HasWrittenBoth is_new (bound held.now) (bound full.now)) (MakesNone (shown_by S.Store tables.old) (MayWrite is_new (bound held.now) (bound full.now))) }
 {
@@ -139,6 +145,7 @@ fn write_row<S: Alter>(
     is_new: bool,
     row: &[ValueRef<'_>],
 ) -> Result<(), StoreError>
+    requires { length row.now ≡ insert_width Cells }
     ensures { Step result (shown_by S.Store tables.old) (shown_by S.Store tables.new) (counts_of tables.old) (counts_of tables.new) Full (HasWritten is_new (bound row.now))
         (MakesNone (shown_by S.Store tables.old) Full) }
 {

@@ -2,10 +2,12 @@
 ghost use Rattle.contest_store_tables.specs.Connected.{shown_by, counts_of};
 ghost use Rattle.contest_store_changes.specs.Additions.{Appends};
 
-use crate::list_rows::{add_clarification, add_proposal, add_release, add_submission};
+use crate::list_rows::{insert_clarification, insert_proposal, insert_release, insert_submission};
 use crate::mark_rows::{set_finalized, set_start, set_thaw};
-use crate::rejudging_rows::{add_rejudging, set_member, set_rejudging};
-use crate::setting_rows::{add_account, add_group, add_language, add_problem, add_team, add_type};
+use crate::rejudging_rows::{insert_rejudging, set_member, set_rejudging};
+use crate::setting_rows::{
+    insert_account, insert_group, insert_language, insert_problem, insert_team, insert_type,
+};
 use contest_lists::Lists;
 use contest_store::StoreError;
 use contest_store_tables::Tables;
@@ -17,10 +19,10 @@ use std::alloc::Global;
 ///
 /// # Errors
 ///
-/// `Memory` where a growth was refused, and `Fault` where the connection failed for another cause, as it
-/// does of a number that is larger than a cell's, which no number of a valid contest is. Each is counted,
-/// and no change stands then that wasn't committed.
-pub fn append<S: Alter>(
+/// `Memory` where a growth was refused, and `Fault` where the connection failed for another cause,
+/// as it does of a number that is larger than a cell's, which no number of a valid contest is. Each
+/// is counted, and no change stands then that wasn't committed.
+pub fn write_entry<S: Alter>(
     tables: &mut Tables<S>,
     alloc: Global,
     lists: &Lists,
@@ -29,21 +31,21 @@ pub fn append<S: Alter>(
     ensures { Appends result (shown_by S.Store tables.old) (shown_by S.Store tables.new) (counts_of tables.old) (counts_of tables.new) lists.now entry.now }
 {
     match entry {
-        Entry::NewSubmission(row) => add_submission(tables, lists, row),
-        Entry::NewProposal(row) => add_proposal(tables, lists, row),
-        Entry::NewRelease(row) => add_release(tables, lists, row),
-        Entry::NewClarification(row) => add_clarification(tables, lists, row),
-        Entry::NewRejudging(row) => add_rejudging(tables, lists, row),
+        Entry::NewSubmission(row) => insert_submission(tables, lists, row),
+        Entry::NewProposal(row) => insert_proposal(tables, lists, row),
+        Entry::NewRelease(row) => insert_release(tables, lists, row),
+        Entry::NewClarification(row) => insert_clarification(tables, lists, row),
+        Entry::NewRejudging(row) => insert_rejudging(tables, lists, row),
         Entry::SetMember(n, place, state) => set_member(tables, lists, *n, *place, state),
         Entry::SetRejudging(n, state) => set_rejudging(tables, lists, *n, *state),
         Entry::SetStart(start) => set_start(tables, lists, *start),
         Entry::SetThaw(thaw) => set_thaw(tables, lists, *thaw),
         Entry::SetFinalized(finalized) => set_finalized(tables, lists, *finalized),
-        Entry::NewType(row) => add_type(tables, lists, row),
-        Entry::NewLanguage(row) => add_language(tables, lists, row),
-        Entry::NewProblem(row) => add_problem(tables, lists, row),
-        Entry::NewGroup(row) => add_group(tables, lists, row),
-        Entry::NewTeam(row) => add_team(tables, alloc, lists, row),
-        Entry::NewAccount(row) => add_account(tables, lists, row),
+        Entry::NewType(row) => insert_type(tables, lists, row),
+        Entry::NewLanguage(row) => insert_language(tables, lists, row),
+        Entry::NewProblem(row) => insert_problem(tables, lists, row),
+        Entry::NewGroup(row) => insert_group(tables, lists, row),
+        Entry::NewTeam(row) => insert_team(tables, alloc, lists, row),
+        Entry::NewAccount(row) => insert_account(tables, lists, row),
     }
 }

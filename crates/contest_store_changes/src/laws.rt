@@ -1,6 +1,14 @@
 //! Laws of what a change of a contest does to its tables: functions that do nothing.
-ghost use Rattle.contest_store_changes.specs.Upgraded.{FirstContestsAreSound, FirstRowsAreUpgraded, FirstRowsReadBack};
-ghost use Rattle.contest_store_changes.specs.Laws.{AdditionsStaySound, SoundContestsReadBack, ListedContestsAreSound, ValidContestsAreSound, SubmissionIsAdded, ProposalIsAdded, ReleaseIsAdded, ClarificationIsAdded, RejudgingIsAdded, MemberIsAdded, AccountIsAdded, TypeIsAdded, LanguageIsAdded, GroupIsAdded, ProblemIsAdded, TeamIsAdded, MarksAreChanged, RejudgingIsChanged, MemberIsChanged};
+ghost use Rattle.contest_store_changes.specs.Upgraded.{FirstContestsAreSound, FirstRowsAreUpgraded};
+ghost use Rattle.contest_store_changes.specs.Upgraded.{FirstRowsReadBack};
+ghost use Rattle.contest_store_changes.specs.Laws.{AdditionsStaySound, SoundContestsReadBack};
+ghost use Rattle.contest_store_changes.specs.Laws.{ListedContestsAreSound, ValidContestsAreSound};
+ghost use Rattle.contest_store_changes.specs.Laws.{SubmissionIsAdded, ProposalIsAdded};
+ghost use Rattle.contest_store_changes.specs.Laws.{ReleaseIsAdded, ClarificationIsAdded};
+ghost use Rattle.contest_store_changes.specs.Laws.{RejudgingIsAdded, MemberIsAdded, AccountIsAdded};
+ghost use Rattle.contest_store_changes.specs.Laws.{TypeIsAdded, LanguageIsAdded, GroupIsAdded};
+ghost use Rattle.contest_store_changes.specs.Laws.{ProblemIsAdded, TeamIsAdded, MarksAreChanged};
+ghost use Rattle.contest_store_changes.specs.Laws.{RejudgingIsChanged, MemberIsChanged};
 
 /// What may be added to a sound contest leaves a sound one.
 pub fn additions_stay_sound()
@@ -12,8 +20,8 @@ pub fn sound_contests_are_read()
     ensures { SoundContestsReadBack }
 {}
 
-/// A valid contest that rows are is sound, and these are its rows; where only its lists are, the cells may be
-/// any.
+/// A valid contest that rows are is sound, and these are its rows; where only its lists are, the
+/// cells may be any.
 pub fn valid_contests_are_sound()
     ensures whole { ValidContestsAreSound }
     ensures listed { ListedContestsAreSound }

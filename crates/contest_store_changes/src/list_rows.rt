@@ -1,11 +1,15 @@
-//! New rows of the lists. Where cells don't hold a thing's numbers, which those of a valid contest are far
-//! below, a row without cells is inserted in its place: the connection refuses that.
+//! New rows of the lists. Where cells don't hold a thing's numbers, which those of a valid contest
+//! are far below, a row of nothing but `NULL` is inserted in its place: the connection refuses
+//! that.
 ghost use Rattle.std.specs.Prelude.{◌≡◌, ◌↔◌, ◌<◌, ◌+◌, ◌^◌, IsTrue};
-ghost use Rattle.contest_types.specs.declared.entry.Entry.TheVariants.{NewSubmission, NewProposal, NewRelease, NewClarification};
+ghost use Rattle.contest_types.specs.declared.entry.Entry.TheVariants.{NewSubmission, NewProposal};
+ghost use Rattle.contest_types.specs.declared.entry.Entry.TheVariants.{NewRelease};
+ghost use Rattle.contest_types.specs.declared.entry.Entry.TheVariants.{NewClarification};
 ghost use Rattle.contest_store_rows.specs.ListRows.{audience_number};
 ghost use Rattle.contest_store_tables.specs.Connected.{shown_by, counts_of};
 ghost use Rattle.contest_store_changes.specs.Additions.{Appends};
 
+use crate::one_row::insert_row;
 use contest_lists::Lists;
 use contest_store::StoreError;
 use contest_store_rows::{
@@ -14,6 +18,7 @@ use contest_store_rows::{
 use contest_store_tables::{TableName, Tables};
 use contest_types::{Addressee, Clarification, Proposal, Release, Submission};
 use sqlite::Alter;
+use sqlite::types::ValueRef;
 
 /// Whether a cell holds the number after this one.
 pub(crate) fn fits(n: usize) -> bool
@@ -29,7 +34,7 @@ pub(crate) fn both_fit(n: usize, m: usize) -> bool
     fits(n) && fits(m)
 }
 
-pub(crate) fn add_submission<S: Alter>(
+pub(crate) fn insert_submission<S: Alter>(
     tables: &mut Tables<S>,
     lists: &Lists,
     submission: &Submission,
@@ -38,15 +43,16 @@ pub(crate) fn add_submission<S: Alter>(
 {
     let row = lists.submissions().len();
     if !both_fit(submission.team, submission.number) {
-        return tables.insert(TableName::Submissions, &[]);
+        return insert_row(tables, TableName::Submissions, &[ValueRef::Null; 9]);
     }
-    tables.insert(
+    insert_row(
+        tables,
         TableName::Submissions,
         &submission_cells(&lists.fixed().settings, row as u64 + 1, submission),
     )
 }
 
-pub(crate) fn add_proposal<S: Alter>(
+pub(crate) fn insert_proposal<S: Alter>(
     tables: &mut Tables<S>,
     lists: &Lists,
     proposal: &Proposal,
@@ -55,15 +61,16 @@ pub(crate) fn add_proposal<S: Alter>(
 {
     let row = lists.proposals().len();
     if !both_fit(proposal.team, proposal.number) {
-        return tables.insert(TableName::Proposals, &[]);
+        return insert_row(tables, TableName::Proposals, &[ValueRef::Null; 6]);
     }
-    tables.insert(
+    insert_row(
+        tables,
         TableName::Proposals,
         &proposal_cells(&lists.fixed().settings, row as u64 + 1, proposal),
     )
 }
 
-pub(crate) fn add_release<S: Alter>(
+pub(crate) fn insert_release<S: Alter>(
     tables: &mut Tables<S>,
     lists: &Lists,
     release: &Release,
@@ -72,9 +79,10 @@ pub(crate) fn add_release<S: Alter>(
 {
     let row = lists.releases().len();
     if !release_fits(release) {
-        return tables.insert(TableName::Releases, &[]);
+        return insert_row(tables, TableName::Releases, &[ValueRef::Null; 6]);
     }
-    tables.insert(
+    insert_row(
+        tables,
         TableName::Releases,
         &release_cells(&lists.fixed().settings, row as u64 + 1, release),
     )
@@ -86,7 +94,7 @@ fn release_fits(release: &Release) -> bool
     both_fit(release.team, release.number) && fits(release.round)
 }
 
-pub(crate) fn add_clarification<S: Alter>(
+pub(crate) fn insert_clarification<S: Alter>(
     tables: &mut Tables<S>,
     lists: &Lists,
     clarification: &Clarification,
@@ -95,10 +103,11 @@ pub(crate) fn add_clarification<S: Alter>(
 {
     let row = lists.clarifications().len();
     if !clarification_fits(clarification) {
-        return tables.insert(TableName::Notices, &[]);
+        return insert_row(tables, TableName::Notices, &[ValueRef::Null; 11]);
     }
     let reply = ReplyId::of(clarification.reply);
-    tables.insert(
+    insert_row(
+        tables,
         TableName::Notices,
         &clarification_cells(
             &lists.fixed().settings,

@@ -1,9 +1,11 @@
 //! The marks of the clock, which stand in the contest's own row.
 ghost use Rattle.std.specs.Prelude.{◌≡◌};
-ghost use Rattle.contest_types.specs.declared.entry.Entry.TheVariants.{SetStart, SetThaw, SetFinalized};
+ghost use Rattle.contest_types.specs.declared.entry.Entry.TheVariants.{SetStart, SetThaw};
+ghost use Rattle.contest_types.specs.declared.entry.Entry.TheVariants.{SetFinalized};
 ghost use Rattle.contest_store_tables.specs.Connected.{shown_by, counts_of};
 ghost use Rattle.contest_store_changes.specs.Additions.{Appends};
 
+use crate::one_row::change_row;
 use contest_lists::Lists;
 use contest_store::StoreError;
 use contest_store_fixed_rows::marks_cells;
@@ -22,7 +24,7 @@ pub(crate) fn set_start<S: Alter>(
         start,
         ..lists.fixed().marks
     };
-    tables.change(RowChange::Marks, &marks_cells(marks))
+    change_row(tables, RowChange::Marks, &marks_cells(marks))
 }
 
 pub(crate) fn set_thaw<S: Alter>(
@@ -36,7 +38,7 @@ pub(crate) fn set_thaw<S: Alter>(
         thaw: Some(thaw),
         ..lists.fixed().marks
     };
-    tables.change(RowChange::Marks, &marks_cells(marks))
+    change_row(tables, RowChange::Marks, &marks_cells(marks))
 }
 
 pub(crate) fn set_finalized<S: Alter>(
@@ -50,5 +52,5 @@ pub(crate) fn set_finalized<S: Alter>(
         finalized: Some(finalized),
         ..lists.fixed().marks
     };
-    tables.change(RowChange::Marks, &marks_cells(marks))
+    change_row(tables, RowChange::Marks, &marks_cells(marks))
 }

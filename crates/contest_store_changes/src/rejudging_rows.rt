@@ -1,7 +1,8 @@
 //! Rejudgings with their members, and the states of both.
 ghost use Rattle.std.specs.Prelude.{◌≡◌, ◌<◌, ◌+◌, ◌^◌, length, []};
 ghost use Rattle.contest_store_rows.specs.Cells.{lent};
-ghost use Rattle.contest_types.specs.declared.entry.Entry.TheVariants.{NewRejudging, SetMember, SetRejudging};
+ghost use Rattle.contest_types.specs.declared.entry.Entry.TheVariants.{NewRejudging, SetMember};
+ghost use Rattle.contest_types.specs.declared.entry.Entry.TheVariants.{SetRejudging};
 ghost use Rattle.contest_store_rows.specs.ListRows.{member_row};
 ghost use Rattle.contest_store_tables.specs.Connected.{shown_by, counts_of};
 ghost use Rattle.contest_store_tables.specs.Steps.{Full, HasInserted, MakesNone, Step};
@@ -10,6 +11,7 @@ ghost use Rattle.contest_store_changes.specs.Additions.{Admits, Appends, HasList
 ghost use Rattle.contest_store_changes.specs.Laws.{with_members, member_state_given, state_given};
 
 use crate::list_rows::{both_fit, fits};
+use crate::one_row::{change_row, insert_row};
 use contest_lists::Lists;
 use contest_store::StoreError;
 use contest_store_rows::{
@@ -21,20 +23,20 @@ use sqlite::Alter;
 use sqlite::types::ValueRef;
 
 /// The rejudging, and then its members in their order.
-pub(crate) fn add_rejudging<S: Alter>(
+pub(crate) fn insert_rejudging<S: Alter>(
     tables: &mut Tables<S>,
     lists: &Lists,
     rejudging: &Rejudging,
 ) -> Result<(), StoreError>
     ensures { Appends result (shown_by S.Store tables.old) (shown_by S.Store tables.new) (counts_of tables.old) (counts_of tables.new) lists.now (NewRejudging rejudging.now) }
 {
-    match add_head(tables, lists, rejudging) {
+    match insert_head(tables, lists, rejudging) {
         Ok(()) => {}
         Err(error) => return Err(error),
     }
     let members = rejudging.members.as_slice();
     for place in 0..members.len() {
-        match add_member(tables, lists, place, &members[place]) {
+        match insert_member(tables, lists, place, &members[place]) {
             Ok(()) => {}
             Err(error) => return Err(error),
         }
@@ -43,7 +45,7 @@ pub(crate) fn add_rejudging<S: Alter>(
 }
 
 // The rejudging without its members.
-fn add_head<S: Alter>(
+fn insert_head<S: Alter>(
     tables: &mut Tables<S>,
     lists: &Lists,
     rejudging: &Rejudging,
@@ -52,14 +54,15 @@ fn add_head<S: Alter>(
         (HasListed lists.now (NewRejudging (with_members rejudging.now []))) (MakesNone (shown_by S.Store tables.old) (Admits lists.now (NewRejudging rejudging.now))) }
 {
     let row = lists.rejudgings().len();
-    tables.insert(
+    insert_row(
+        tables,
         TableName::Rejudgings,
         &rejudging_cells(row as u64 + 1, rejudging),
     )
 }
 
 // The member at a place, from 0, of the rejudging that comes after those of the lists.
-fn add_member<S: Alter>(
+fn insert_member<S: Alter>(
     tables: &mut Tables<S>,
     lists: &Lists,
     place: usize,
@@ -71,7 +74,7 @@ fn add_member<S: Alter>(
 {
     let rejudging = lists.rejudgings().len();
     if !both_fit(member.team, member.number) {
-        return tables.insert(TableName::Members, &[]);
+        return tables.insert(TableName::Members, &[ValueRef::Null; 7]);
     }
     let settings = &lists.fixed().settings;
     tables.insert(
@@ -92,7 +95,11 @@ pub(crate) fn set_rejudging<S: Alter>(
     if !fits(n) {
         return Ok(());
     }
-    tables.change(RowChange::RejudgingState, &state_cells(n as u64, state))
+    change_row(
+        tables,
+        RowChange::RejudgingState,
+        &state_cells(n as u64, state),
+    )
 }
 
 // The number of a rejudging and its state.
@@ -117,7 +124,8 @@ pub(crate) fn set_member<S: Alter>(
         return Ok(());
     }
     let settings = &lists.fixed().settings;
-    tables.change(
+    change_row(
+        tables,
         RowChange::MemberState,
         &member_state_cells(settings, n as u64, place as u64 + 1, state),
     )

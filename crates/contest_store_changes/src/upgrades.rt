@@ -2,7 +2,9 @@
 ghost use Rattle.std.specs.Prelude.{◌<◌, ◌+◌, ◌^◌, length};
 ghost use Rattle.contest_store_tables.specs.Connected.{shown_by, counts_of};
 ghost use Rattle.contest_store_tables.specs.Steps.{Full, MakesNone, Step};
-ghost use Rattle.contest_store_changes.specs.UpgradeSteps.{HasLeft, HasMoved, HasNotice, HasUpgraded, HasVersion, ShowsFirst};
+ghost use Rattle.contest_store_changes.specs.UpgradeSteps.{HasLeft, HasMoved, HasNotice};
+ghost use Rattle.contest_store_changes.specs.UpgradeSteps.{HasUpgraded, HasVersion, ShowsFirst};
+ghost use Rattle.contest_store_changes.specs.UpgradeSteps.{ShowsNoticeless};
 
 use crate::list_rows::clarification_fits;
 use contest_lists::Lists;
@@ -12,9 +14,10 @@ use contest_store_rows::{ReplyId, VERSION, clarification_cells};
 use contest_store_tables::{RowChange, TableName, Tables};
 use contest_types::{Clarification, Settings};
 use sqlite::Alter;
+use sqlite::types::ValueRef;
 
-/// Makes the tables of the first schema, which show a contest with these lists, those of today, within a
-/// transaction. The cells stay.
+/// Makes the tables of the first schema, which show a contest with these lists, those of today,
+/// within a transaction. The cells stay.
 ///
 /// # Errors
 ///
@@ -29,10 +32,15 @@ pub fn upgrade<S: Alter>(tables: &mut Tables<S>, lists: &Lists) -> Result<(), St
     }
 }
 
-// The clarifications in their order.
-fn insert_notices<S: Alter>(tables: &mut Tables<S>, lists: &Lists) -> Result<(), StoreError>
-    ensures { Step result (shown_by S.Store tables.old) (shown_by S.Store tables.new) (counts_of tables.old) (counts_of tables.new) (ShowsFirst lists.now)
-        (HasMoved lists.now (length lists.now.clarifications)) (MakesNone (shown_by S.Store tables.old) (ShowsFirst lists.now)) }
+/// Inserts the clarifications of these lists in their order into the table of today, which has no
+/// row, within a transaction.
+///
+/// # Errors
+///
+/// `Memory` where a growth was refused; `Fault` where the connection failed for another cause.
+pub fn insert_notices<S: Alter>(tables: &mut Tables<S>, lists: &Lists) -> Result<(), StoreError>
+    ensures { Step result (shown_by S.Store tables.old) (shown_by S.Store tables.new) (counts_of tables.old) (counts_of tables.new) (ShowsNoticeless lists.now)
+        (HasMoved lists.now (length lists.now.clarifications)) (MakesNone (shown_by S.Store tables.old) (ShowsNoticeless lists.now)) }
 {
     let clarifications = lists.clarifications();
     for place in 0..clarifications.len() {
@@ -57,7 +65,7 @@ fn insert_notice<S: Alter>(
         (HasNotice settings.now place clarification.now) (MakesNone (shown_by S.Store tables.old) Full) }
 {
     if !clarification_fits(clarification) {
-        return tables.insert(TableName::Notices, &[]);
+        return tables.insert(TableName::Notices, &[ValueRef::Null; 11]);
     }
     let reply = ReplyId::of(clarification.reply);
     tables.insert(
