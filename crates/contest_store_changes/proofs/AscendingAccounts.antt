@@ -1,20 +1,15 @@
 -- One more account stands among those that rise by their ids.
-use Rattle.std.proofs.Common.{◌≡◌, Bool, true, false, List, [], ◌∷◌, filter, refl, ap, IsTrue, Ordering, Less, Equal, Greater, is_lt}
+use Rattle.std.proofs.Common.{◌≡◌, Bool, true, false, List, [], ◌∷◌, filter, refl, ap, IsTrue, is_lt}
 use Rattle.std.specs.Prelude.{if◌then◌else◌}
 use Rattle.std.specs.List.{AllByRecursion}
-use Rattle.std.proofs.lemmas.Bool.{false≢true}
 use Rattle.std.proofs.lemmas.Cmp.{nat_list_cmp_total}
 use Rattle.sqlite_keyed.proofs.ListLemmas.{all_weaker, ascending-append, ascending-filter}
 use Rattle.sqlite_trees.specs.Tree.{IsAscending}
 use Rattle.contest_types.specs.Accounts.{comes_before, with_account}
 use Rattle.contest_types.specs.declared.account.Account.{Account}
+use Rattle.contest_types.proofs.InOrderLemmas.{is_less}
 
 -- what comes before another comes before what that comes before
-is_less : (o : Ordering) → is_lt o ≡ true → o ≡ Less
-is_less Less h = refl
-is_less Equal h = absurd (false≢true h)
-is_less Greater h = absurd (false≢true h)
-
 before_next : (a b c : Account) → IsTrue (comes_before a b) → IsTrue (comes_before b c) → IsTrue (comes_before a c)
 before_next a b c h k = ap is_lt (nat_list_cmp_total.trans a.id b.id c.id (is_less _ h) (is_less _ k))
 

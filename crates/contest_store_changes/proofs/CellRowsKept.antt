@@ -1,24 +1,20 @@
 -- Rows of cells: held as they are given, rising by their keys, and one row changed among them.
-use Rattle.std.proofs.Common.{◌≡◌, ◌∙◌, ◌<◌, ◌+◌, ℕ, Bool, true, false, List, [], ◌∷◌, ◌++◌, map, length, Option, None, Some, All, refl, sym, ap, subst, Ordering, Less, arith}
+use Rattle.std.proofs.Common.{◌≡◌, ◌∙◌, ◌+◌, ℕ, Bool, true, false, List, [], ◌∷◌, map, All, refl, sym, ap, subst, Less}
 use Rattle.std.specs.Prelude.{◌&&◌, ◌==◌, if◌then◌else◌}
-use Rattle.std.specs.Cmp.Lexicographic.{slice_cmp}
 use Rattle.std.specs.List.{AllByRecursion}
 use Rattle.std.specs.Option.{option_map}
 use Rattle.std.specs.Ordering.{is_eq}
 use Rattle.std.specs.Str.{bytes_eq}
-use Rattle.std.proofs.lemmas.Bool.{false≢true, eqb-true}
-use Rattle.std.proofs.lemmas.Bool.Decides.{nat_tests}
 use Rattle.std.proofs.lemmas.List.Elements.{All-nil, All-cons}
 use Rattle.std.proofs.lemmas.Map.Text.{is_eq-slice_cmp}
-use Rattle.std.proofs.lemmas.Slice.Eq.{bytes_eq-Decides}
 use Rattle.sqlite.specs.Collation.TheVariants.{Binary}
 use Rattle.sqlite_keyed.specs.Lists.{sort_by}
 use Rattle.sqlite_keyed.proofs.ListLemmas.{all-append, all-map, all_map, all_weaker, ascending-map, ascending_weaker}
 use Rattle.sqlite_schema.specs.Rules.{equal}
 use Rattle.sqlite_sql.proofs.QueryLemmas.{key_cmp_total}
-use Rattle.sqlite_sql.specs.Ops.{binary, from_truth, is_true}
+use Rattle.sqlite_sql.specs.Ops.{binary}
 use Rattle.sqlite_value.specs.Keys.{rising}
-use Rattle.sqlite_value.specs.Order.{Row, column, value_cmp}
+use Rattle.sqlite_value.specs.Order.{Row, value_cmp}
 use Rattle.sqlite_value.specs.declared.value.Value.TheVariants.{Text}
 use Rattle.sqlite_value.proofs.OrderLemmas.{value_cmp-Text}
 use Rattle.contest_types.specs.ProblemPlaces.{problem_id_at}
@@ -27,10 +23,7 @@ use Rattle.contest_types.specs.State.{ContestState}
 use Rattle.contest_types.specs.declared.minute.Minute.{Minute}
 use Rattle.contest_types.specs.declared.sight.Mask.{Mask}
 use Rattle.contest_types.specs.declared.sight.Mask.TheVariants.{Full, Held}
-use Rattle.contest_types.specs.declared.submission.Submission.{Submission}
 use Rattle.contest_score.specs.declared.cell.Cell.{Cell}
-use Rattle.contest_score.specs.Contest.{contest_cell}
-use Rattle.contest_store_rows.specs.Cells.{number}
 use Rattle.contest_store_tables.specs.Changes.{IsHeld, change_row, changed_row, is_changed}
 use Rattle.contest_store_tables.specs.Schema.{form_of}
 use Rattle.contest_store_tables.specs.Steps.{IsHeldAsGiven, Rises}

@@ -1,10 +1,8 @@
 -- Rows of cells that are compared one by one are one list.
-use Rattle.std.proofs.Common.{◌≡◌, ◌∙◌, ℕ, true, false, List, [], ◌∷◌, ◌++◌, map, Option, Some, None, refl, ap, ap₂}
-use Rattle.std.specs.Prelude.{◌&&◌}
+use Rattle.std.proofs.Common.{◌≡◌, ℕ, true, List, [], ◌∷◌, ◌++◌, refl, ap₂}
 use Rattle.std.specs.List.{AllByRecursion, list_all}
 use Rattle.std.specs.Option.{option_map}
 use Rattle.std.proofs.lemmas.Bool.{false≢true}
-use Rattle.sqlite.specs.Values.{or_null}
 use Rattle.sqlite_keyed.proofs.ListLemmas.{all-append, all-map}
 use Rattle.sqlite_value.specs.Order.{Row}
 use Rattle.contest_types.specs.Setup.{Setup}
@@ -15,8 +13,8 @@ use Rattle.contest_types.specs.declared.sight.Mask.TheVariants.{Full, Held}
 use Rattle.contest_types.proofs.PlaceLemmas.{and_left, and_right, both_true}
 use Rattle.contest_score.specs.Contest.{contest_cell}
 use Rattle.contest_score.specs.declared.cell.Cell.{Cell}
-use Rattle.contest_store_rows.specs.Cells.{number, same_row}
-use Rattle.contest_store_rows.proofs.RowLemmas.{is_no_real, row_itself, same_rows as one_row}
+use Rattle.contest_store_rows.specs.Cells.{same_row}
+use Rattle.contest_store_rows.proofs.RowLemmas.{is_no_real, row_itself, same_rows as one_row, no_real_number}
 use Rattle.contest_store_cells.specs.CellRows.{by_place, cell_row, cell_rows, cells_under, first_attempts}
 use Rattle.contest_store_cells.proofs.CellOrder.{row_at}
 use Rattle.contest_store_changes.specs.ContestTables.{same_rows}
@@ -30,10 +28,6 @@ one_list _ _ h = absurd (false≢true h)
 -- a row of a cell has no real number
 abbrev HasNoReal : Row → Type 0
 HasNoReal r = list_all is_no_real r ≡ true
-
-no_real_number : (o : Option ℕ) → is_no_real (or_null number o) ≡ true
-no_real_number None = refl
-no_real_number (Some n) = refl
 
 cell_has_none : (s : Setup) (mask : Mask) (team problem : ℕ) (c : Cell) → HasNoReal (cell_row s mask team problem c)
 cell_has_none s mask team problem c = rw (no_real_number (option_map (λ (m : Minute). m.0) c.solved)) refl

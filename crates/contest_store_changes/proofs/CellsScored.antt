@@ -1,11 +1,11 @@
 -- What is written of the cells after a submission or a release makes them those of the contest.
-use Rattle.std.proofs.Common.{◌≡◌, ◌∙◌, ◌<◌, ◌≤◌, ◌+◌, ℕ, zero, suc, Bool, true, false, List, [], ◌∷◌, ◌++◌, map, filter, length, refl, sym, ap, ap₂, subst, arith, IsPermutation, Less, cond}
-use Rattle.std.specs.Prelude.{◌&&◌, ◌==◌, not, if◌then◌else◌}
-use Rattle.std.specs.List.{AllByRecursion, list_any}
+use Rattle.std.proofs.Common.{◌≡◌, ◌∙◌, ◌<◌, ◌+◌, ℕ, Bool, true, false, List, [], ◌∷◌, map, length, refl, sym, ap, ap₂, subst, IsPermutation}
+use Rattle.std.specs.Prelude.{◌&&◌, ◌==◌, if◌then◌else◌}
 use Rattle.std.specs.Str.{bytes_eq}
-use Rattle.std.proofs.lemmas.Bool.{eq-eqb, eqb-true, false≢true}
+use Rattle.std.proofs.lemmas.Bool.{eq-eqb, eqb-true, false≢true, and_parts}
 use Rattle.std.proofs.lemmas.List.Sorted.{IsPermutation-sym}
 use Rattle.std.proofs.lemmas.Slice.Eq.{bytes_eq-Decides}
+use Rattle.std.proofs.Math.Bool.{and-false}
 use Rattle.sqlite_keyed.specs.Lists.{sort_by}
 use Rattle.sqlite_keyed.proofs.ListLemmas.{all_weaker, map-map}
 use Rattle.sqlite_keyed.proofs.SortLemmas.{IsPermutation-sort_by}
@@ -14,14 +14,13 @@ use Rattle.sqlite_value.specs.Keys.{rising}
 use Rattle.sqlite_value.specs.Order.{Row}
 use Rattle.contest_types.specs.ProblemPlaces.{problem_id_at}
 use Rattle.contest_types.specs.Setup.{Setup}
-use Rattle.contest_types.specs.State.{ContestState, add}
-use Rattle.contest_types.specs.Valid.{is_valid}
+use Rattle.contest_types.specs.State.{ContestState}
 use Rattle.contest_types.specs.declared.sight.Mask.{Mask}
 use Rattle.contest_types.specs.declared.sight.Mask.TheVariants.{Full, Held}
 use Rattle.contest_types.specs.declared.submission.Submission.{Submission}
 use Rattle.contest_score.specs.declared.cell.Cell.{Cell}
 use Rattle.contest_score.specs.Contest.{contest_cell}
-use Rattle.contest_store_tables.specs.Changes.{AreChanged, change_row, changed_row, is_changed}
+use Rattle.contest_store_tables.specs.Changes.{change_row, changed_row, is_changed}
 use Rattle.contest_store_tables.specs.Steps.{IsWith, Rises}
 use Rattle.contest_store_tables.specs.declared.row_change.RowChange.TheVariants as change
 use Rattle.contest_store_tables.specs.declared.table_name.TableName.TheVariants.{Cells}
@@ -29,10 +28,11 @@ use Rattle.contest_store_tables.proofs.SortedLemmas.{one_order}
 use Rattle.contest_store_cells.specs.CellRows.{by_place, cell_row, cell_rows, first_attempts, mask_number}
 use Rattle.contest_store_cells.proofs.CellChanges.{AreTwoMore, HasSameRow, cells_changed}
 use Rattle.contest_store_cells.proofs.CellOrder.{IsPlaced, apart_ids, row_at}
-use Rattle.contest_store_cells.proofs.FirstAttempts.{all_first, at_place, eq_turned}
+use Rattle.contest_store_cells.proofs.FirstAttempts.{all_first, at_place}
 use Rattle.contest_store_changes.specs.CellSteps.{IsWritable, written}
 use Rattle.contest_store_changes.proofs.CellRowsKept.{all_of_cells, by_parts, cell_given, cells_held, cells_rise, changed_of_cells, keys_kept, sorted_rise, still_rise}
 use Rattle.contest_store_changes.proofs.SameNumbers.{same_after}
+use Rattle.contest_score.proofs.CachedLemmas.{eq_turned}
 
 -- both rows may be written, and make the cells those of the contest
 pub record Makes (is_new : Bool) (held full : Row) (cells next : List Row) : Type 0 where
@@ -100,10 +100,6 @@ module _ (x y : ContestState) (s : Submission) (same : y.fixed.settings ≡ x.fi
       ap (change_row change.Cell (own Full)) (is_left Held (cell_row x.fixed.settings Full s.team s.problem c) (other_key Held Full refl c))
       ∙ is_put Full (cell_row x.fixed.settings Full s.team s.problem c) (own_key Full c)
 
-  nothing_more : (b : Bool) → (b && false) ≡ false
-  nothing_more true = refl
-  nothing_more false = refl
-
   -- the key of a cell elsewhere
   place_key : (m n : Mask) (u : Submission) (c : Cell) → u.problem < length x.fixed.settings.problems → at_place s u ≡ false → is_changed change.Cell (own m) (cell_row x.fixed.settings n u.team u.problem c) ≡ false
   place_key m n u c here other =
@@ -111,24 +107,19 @@ module _ (x y : ContestState) (s : Submission) (same : y.fixed.settings ≡ x.fi
       → ((u.team + 1 == s.team + 1) && (bytes_eq (problem_id_at x.fixed.settings.problems u.problem) (problem_id_at x.fixed.settings.problems s.problem) && true)) ≡ false = elim [
         | true ↦ elim [
           | true ↦ λ t p h. absurd (false≢true (sym h))
-          | false ↦ λ t p h. (rw (apart_ids x.fixed.settings.problems u.problem s.problem placed.different here there (eq_turned s.problem u.problem ∙ p)) (nothing_more (u.team + 1 == s.team + 1)))
+          | false ↦ λ t p h. (rw (apart_ids x.fixed.settings.problems u.problem s.problem placed.different here there (eq_turned s.problem u.problem ∙ p)) (and-false (u.team + 1 == s.team + 1)))
         ]
         | false ↦ λ p t q h. (rw (same_after u.team s.team ∙ t) refl)
       ] in
       by_parts x.fixed.settings m n s.team s.problem u.team u.problem (contest_cell m y s.team s.problem) c
-      ∙ ap (λ rest. (mask_number n == mask_number m) && rest) (go (u.team == s.team) (u.problem == s.problem) refl refl other) ∙ nothing_more (mask_number n == mask_number m)
-
-  both_parts : (b c : Bool) → (b && c) ≡ true → (b ≡ true) × (c ≡ true)
-  both_parts true true h = (refl, refl)
-  both_parts true false h = absurd (false≢true h)
-  both_parts false c h = absurd (false≢true h)
+      ∙ ap (λ rest. (mask_number n == mask_number m) && rest) (go (u.team == s.team) (u.problem == s.problem) refl refl other) ∙ and-false (mask_number n == mask_number m)
 
   -- every cell's row
   each_row : (u : Submission) → u.problem < length x.fixed.settings.problems → (mask : Mask) → row_at y mask u ≡ changes (row_at x mask u)
   each_row u here mask =
       let go : (b : Bool) → at_place s u ≡ b → row_at y mask u ≡ changes (row_at x mask u) = elim [
         | true ↦ λ e.
-            (let parts = both_parts (u.team == s.team) (u.problem == s.problem) e in
+            (let parts = and_parts (u.team == s.team) (u.problem == s.problem) e in
             let team : u.team ≡ s.team = eqb-true u.team s.team parts.0 in
             let problem : u.problem ≡ s.problem = eqb-true u.problem s.problem parts.1 in
             let now : row_at y mask u ≡ own mask = ap (λ (f : Setup). cell_row f mask u.team u.problem (contest_cell mask y u.team u.problem)) same ∙ ap₂ (λ (t p : ℕ). cell_row x.fixed.settings mask t p (contest_cell mask y t p)) team problem in

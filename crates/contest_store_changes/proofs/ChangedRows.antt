@@ -1,31 +1,20 @@
--- The rows that an append changes, told of the lists in memory.
-use Rattle.std.proofs.Common.{◌≡◌, ℕ, ◌+◌, Option, Some}
-use Rattle.contest_types.specs.Setup.{Setup}
-use Rattle.contest_types.specs.State.{ContestState}
+-- What is given to a row that stands changes it as it changes the contest.
+use Rattle.std.proofs.Common.{◌≡◌, ◌+◌, Some}
+use Rattle.sqlite_value.specs.Order.{Row}
+use Rattle.contest_lists.specs.Lists.{loaded}
+use Rattle.contest_types.specs.State.{ContestState, add}
+use Rattle.contest_types.specs.declared.entry.Entry.{Entry}
 use Rattle.contest_types.specs.declared.entry.Entry.TheVariants.{SetMember, SetRejudging, SetStart, SetThaw, SetFinalized}
-use Rattle.contest_types.specs.declared.marks.Marks.{Marks}
-use Rattle.contest_types.specs.declared.rejudging.MemberState.{MemberState}
-use Rattle.contest_types.specs.declared.rejudging.RejudgingState.{RejudgingState}
-use Rattle.contest_store_tables.specs.declared.row_change.RowChange.TheVariants as change
-use Rattle.contest_store_fixed_rows.specs.Heads.{marks_row}
-use Rattle.contest_store_changes.specs.Laws.{member_state_given, state_given}
-use Rattle.contest_store_changes.proofs.AppendLemmas.{ChangesRow}
+use Rattle.contest_store_tables.specs.declared.row_change.RowChange.{RowChange}
+use Rattle.contest_store_changes.specs.EntryRows.{IsGiven}
+use Rattle.contest_store_changes.specs.OneRow.{IsOneChange}
+use Rattle.contest_store_changes.proofs.BoundRows.{Unreal, marks_unreal, member_state_given_unreal, state_given_unreal}
 use Rattle.contest_store_changes.proofs.ChangeLaws.{marks_are_changed, member_is_changed, rejudging_is_changed}
 
--- the marks
-module _ (lists : ContestState) (marks : Marks) (is : marks ≡ lists.fixed.marks) where
-  pub changes_start : (start : Option ℕ) → ChangesRow lists (SetStart start) change.Marks (marks_row (record marks { start = start }))
-  changes_start start x held = rw (is, ← held) (marks_are_changed x (record x.fixed.marks { start = start }))
-
-  pub changes_thaw : (thaw : ℕ) → ChangesRow lists (SetThaw thaw) change.Marks (marks_row (record marks { thaw = Some thaw }))
-  changes_thaw thaw x held = rw (is, ← held) (marks_are_changed x (record x.fixed.marks { thaw = Some thaw }))
-
-  pub changes_finalized : (finalized : ℕ) → ChangesRow lists (SetFinalized finalized) change.Marks (marks_row (record marks { finalized = Some finalized }))
-  changes_finalized finalized x held = rw (is, ← held) (marks_are_changed x (record x.fixed.marks { finalized = Some finalized }))
-
--- the states of a rejudging and of its members
-pub changes_rejudging : (lists : ContestState) (n : ℕ) (state : RejudgingState) → ChangesRow lists (SetRejudging n state) change.RejudgingState (state_given n state)
-changes_rejudging lists n state x held = rejudging_is_changed x n state
-
-pub changes_member : (lists : ContestState) (s : Setup) → s ≡ lists.fixed.settings → (n place : ℕ) (state : MemberState) → ChangesRow lists (SetMember n place state) change.MemberState (member_state_given s n (place + 1) state)
-changes_member lists s is n place state x held = rw (is, ← held) (member_is_changed x n place state)
+pub is_one_change : (lists x : ContestState) (e : Entry) (change : RowChange) (row : Row) → IsGiven lists e change row → loaded x ≡ lists → Unreal row × IsOneChange change row x (add x e)
+is_one_change lists x (SetStart start) change row is held = rw (is.0, is.1, ← held) (marks_unreal (record x.fixed.marks { start = start }), marks_are_changed x (record x.fixed.marks { start = start }))
+is_one_change lists x (SetThaw thaw) change row is held = rw (is.0, is.1, ← held) (marks_unreal (record x.fixed.marks { thaw = Some thaw }), marks_are_changed x (record x.fixed.marks { thaw = Some thaw }))
+is_one_change lists x (SetFinalized finalized) change row is held = rw (is.0, is.1, ← held) (marks_unreal (record x.fixed.marks { finalized = Some finalized }), marks_are_changed x (record x.fixed.marks { finalized = Some finalized }))
+is_one_change lists x (SetRejudging n state) change row is held = rw (is.0, is.1) (state_given_unreal n state, rejudging_is_changed x n state)
+is_one_change lists x (SetMember n place state) change row is held = rw (is.0, is.1, ← held) (member_state_given_unreal x.fixed.settings n (place + 1) state, member_is_changed x n place state)
+is_one_change lists x _ change row is held = absurd is

@@ -2,7 +2,7 @@
 use Rattle.std.proofs.Common.{◌≡◌, ◌∙◌, ◌+◌, ◌<◌, ◌≤◌, ◌^◌, ℕ, Bool, true, false, List, [], ◌∷◌, ◌++◌, length, map, filter, refl, inl, inr, sym, ap, ap₂, subst, arith, slice_index_or}
 use Rattle.std.specs.Prelude.{◌||◌, ◌==◌, not, nat_le, nat_lt, is_some, if◌then◌else◌}
 use Rattle.std.specs.List.{list_all}
-use Rattle.std.proofs.lemmas.Bool.{cases_Bool, eqb-true, false≢true}
+use Rattle.std.proofs.lemmas.Bool.{cases_Bool, eqb-true, false≢true, leb-true, ltb-true}
 use Rattle.std.proofs.lemmas.Bool.Decides.{nat_tests}
 use Rattle.std.proofs.lemmas.List.Folds.{list_all_at}
 use Rattle.contest_types.specs.Addable.{is_addable, is_next_release, is_next_submission}
@@ -23,25 +23,25 @@ use Rattle.contest_types.specs.declared.submission.Release.{Release}
 use Rattle.contest_types.specs.declared.submission.Submission.{Submission}
 use Rattle.contest_types.proofs.AddEntry.{adding}
 use Rattle.contest_types.proofs.PlaceLemmas.{and_left, and_right}
-use Rattle.contest_types.proofs.SeenWhole.{below}
-use Rattle.contest_types.proofs.SettingsTest.{at_most}
 use Rattle.contest_types.proofs.ValidParts.{four, parts}
 use Rattle.contest_store_rows.specs.ListRows.{audience_number}
 use Rattle.contest_store_changes.specs.Sound.{IsSound}
 use Rattle.contest_store_changes.proofs.NamedReplies.{all_left, reach, small_number, small_numbers, small_addressee, IsSmall}
+use Rattle.contest_lists.proofs.ChangeLemmas.{after_all}
+use Rattle.contest_store_changes.proofs.Writable.{writable}
 
 -- cells hold the numbers after both
 abbrev pub Fit : (n m : ℕ) → Type 0
 Fit n m = (n + 1 < 2 ^ 63) × (m + 1 < 2 ^ 63)
 
 few_teams : (x : ContestState) → IsSound x → length x.fixed.settings.teams ≤ TEAMS
-few_teams x sound = sound.writable.valid.few_teams
+few_teams x sound = (writable x sound).valid.few_teams
 
 pub few_addressees : (x : ContestState) → IsSound x → IsSmall x.fixed.settings
-few_addressees x sound = record { teams = sound.writable.valid.few_teams; groups = sound.writable.valid.few_groups }
+few_addressees x sound = record { teams = (writable x sound).valid.few_teams; groups = (writable x sound).valid.few_groups }
 
 team_fits : (n team : ℕ) → n ≤ TEAMS → nat_lt team n ≡ true → team + 1 < 2 ^ 63
-team_fits n team few low = let there : team < n = below team n low in omega (arith, few, there)
+team_fits n team few low = let there : team < n = ltb-true team n low in omega (arith, few, there)
 
 -- a submission that comes next
 pub submission_fits : (x : ContestState) (s : Submission) → IsSound x → is_addable x (NewSubmission s) ≡ true → Fit s.team s.number
@@ -51,7 +51,7 @@ submission_fits x s sound may =
     let own = submissions_of s.team x.submissions in
     let next : is_next_submission own s ≡ true = and_right (is_valid_submission x.fixed s) _ may in
     let number = eqb-true s.number (length own + 1) (and_left _ _ (and_left _ _ (and_left _ _ next))) in
-    let room : length own < TEAM_SUBMISSIONS = below _ _ (and_right _ (nat_lt (length own) TEAM_SUBMISSIONS) next) in
+    let room : length own < TEAM_SUBMISSIONS = ltb-true _ _ (and_right _ (nat_lt (length own) TEAM_SUBMISSIONS) next) in
     (team_fits (length x.fixed.settings.teams) s.team (few_teams x sound) there, omega (arith, number, room))
 
 of_its_own_team : (s : Submission) → of_one_team s s ≡ true
@@ -74,8 +74,8 @@ named_fits x team number sound named =
     let tests = four (count_up numbers) (never_fall times) (have_own_keys keys) (nat_le (length own) TEAM_SUBMISSIONS) series in
     let each = all_left (of_one_team d.x) (λ s. nat_le s.number (length own)) x.submissions (small_numbers (λ (s : Submission). s.number) own tests.first) in
     let here : (not (of_one_team d.x d.x) || nat_le d.x.number (length own)) ≡ true = d.with_all (λ s. not (of_one_team d.x s) || nat_le s.number (length own)) each in
-    let low = at_most d.x.number (length own) (rw (of_its_own_team d.x) at here) in
-    let few = at_most (length own) TEAM_SUBMISSIONS tests.fourth in (
+    let low = leb-true d.x.number (length own) (rw (of_its_own_team d.x) at here) in
+    let few = leb-true (length own) TEAM_SUBMISSIONS tests.fourth in (
       subst (λ n. n + 1 < 2 ^ 63) its_team (team_fits (length x.fixed.settings.teams) d.x.team (few_teams x sound) there),
       subst (λ n. n + 1 < 2 ^ 63) its_number (omega (arith, low, few)),
     )
@@ -137,20 +137,13 @@ member_at_fits x r slice at m same within is sound may =
 
 -- a number that doesn't fit is none of a contest's
 past : (n : ℕ) → ¬ (n + 1 < 2 ^ 63) → 2 ^ 63 ≤ n + 1
-past n too_large = elim (cases_Bool (nat_lt (n + 1) (2 ^ 63))) [ inl low ↦ absurd (too_large (below (n + 1) (2 ^ 63) low)) | inr large ↦ grind (arith, nat_tests, large) ]
-
-none_at : {X : Type 0} (first at : ℕ) (f : X → X) (xs : List X) → first + length xs ≤ at → changed_at first at f xs ≡ xs
-none_at first at f [] beyond = refl
-none_at first at f (x ∷ xs) beyond =
-    let other : (first == at) ≡ false = grind (arith, nat_tests, beyond) in
-    let rest = none_at (first + 1) at f xs (omega (arith, beyond)) in
-    rw other (ap (λ ys. x ∷ ys) rest)
+past n too_large = elim (cases_Bool (nat_lt (n + 1) (2 ^ 63))) [ inl low ↦ absurd (too_large (ltb-true (n + 1) (2 ^ 63) low)) | inr large ↦ grind (arith, nat_tests, large) ]
 
 few_rejudgings : (x : ContestState) → IsSound x → length x.rejudgings ≤ REJUDGINGS
-few_rejudgings x sound = at_most (length x.rejudgings) REJUDGINGS (and_right _ (nat_le (length x.rejudgings) REJUDGINGS) (parts x sound.valid).rejudgings)
+few_rejudgings x sound = leb-true (length x.rejudgings) REJUDGINGS (and_right _ (nat_le (length x.rejudgings) REJUDGINGS) (parts x sound.valid).rejudgings)
 
 no_rejudging_at : (x : ContestState) (n : ℕ) (f : Rejudging → Rejudging) → IsSound x → 2 ^ 63 ≤ n + 1 → changed_at 1 n f x.rejudgings ≡ x.rejudgings
-no_rejudging_at x n f sound beyond = let few = few_rejudgings x sound in none_at 1 n f x.rejudgings (omega (arith, few, beyond))
+no_rejudging_at x n f sound beyond = let few = few_rejudgings x sound in after_all 1 n f x.rejudgings (omega (arith, few, beyond))
 
 pub no_such_rejudging : (x : ContestState) (n : ℕ) (state : RejudgingState) → IsSound x → ¬ (n + 1 < 2 ^ 63) → add x (SetRejudging n state) ≡ x
 no_such_rejudging x n state sound too_large = ap (λ (rs : List Rejudging). record x { rejudgings = rs }) (no_rejudging_at x n _ sound (past n too_large))
@@ -164,15 +157,15 @@ all_same first at f q same (x ∷ xs) all =
 
 no_member_at : (x : ContestState) (place : ℕ) (state : MemberState) → 2 ^ 63 ≤ place + 1 → (r : Rejudging) → is_valid_rejudging x r ≡ true → with_member_state place state r ≡ r
 no_member_at x place state beyond r valid =
-    let few = at_most (length r.members) REJUDGING_MEMBERS (and_right _ (nat_le (length r.members) REJUDGING_MEMBERS) valid) in
-    ap (λ (ms : List Member). record r { members = ms }) (none_at 0 place (λ (m : Member). record m { state = state }) r.members (omega (arith, few, beyond)))
+    let few = leb-true (length r.members) REJUDGING_MEMBERS (and_right _ (nat_le (length r.members) REJUDGING_MEMBERS) valid) in
+    ap (λ (ms : List Member). record r { members = ms }) (after_all 0 place (λ (m : Member). record m { state = state }) r.members (omega (arith, few, beyond)))
 
 pub no_such_member : (x : ContestState) (n place : ℕ) (state : MemberState) → IsSound x → ¬ Fit n place → add x (SetMember n place state) ≡ x
 no_such_member x n place state sound too_large =
     let all : list_all (is_valid_rejudging x) x.rejudgings ≡ true = and_left _ _ (and_left _ _ (parts x sound.valid).rejudgings) in
     let stay : changed_at 1 n (with_member_state place state) x.rejudgings ≡ x.rejudgings =
     elim (cases_Bool (nat_lt (n + 1) (2 ^ 63))) [
-      | inl small ↦ (let beyond = past place (λ low. too_large (below (n + 1) (2 ^ 63) small, low)) in all_same 1 n (with_member_state place state) (is_valid_rejudging x) (no_member_at x place state beyond) x.rejudgings all)
+      | inl small ↦ (let beyond = past place (λ low. too_large (ltb-true (n + 1) (2 ^ 63) small, low)) in all_same 1 n (with_member_state place state) (is_valid_rejudging x) (no_member_at x place state beyond) x.rejudgings all)
       | inr large ↦ no_rejudging_at x n (with_member_state place state) sound (grind (arith, nat_tests, large))
     ] in
     ap (λ (rs : List Rejudging). record x { rejudgings = rs }) stay

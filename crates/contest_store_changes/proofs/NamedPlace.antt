@@ -1,25 +1,16 @@
 -- A submission that is named by its team and its number stands at its number among those of its team.
-use Rattle.std.proofs.Common.{◌≡◌, ◌∙◌, ◌≤◌, ◌+◌, ◌-◌, ℕ, zero, suc, Bool, true, false, List, [], ◌∷◌, length, map, filter, slice_get, Some, refl, sym, ap, inl, inr, arith}
-use Rattle.std.specs.Prelude.{◌&&◌, ◌||◌, ◌==◌, if◌then◌else◌}
+use Rattle.std.proofs.Common.{◌≡◌, ◌∙◌, ◌+◌, ℕ, zero, suc, Bool, true, false, List, [], ◌∷◌, length, map, filter, slice_get, Some, refl, sym, ap, inl, inr, arith}
+use Rattle.std.specs.Prelude.{◌||◌, ◌==◌, if◌then◌else◌}
 use Rattle.std.specs.List.{list_any, range_with_len}
-use Rattle.std.proofs.lemmas.Bool.{eqb-true, eq-eqb, false≢true}
-use Rattle.contest_types.specs.Loads.{without_file}
+use Rattle.std.proofs.lemmas.Bool.{eqb-true, false≢true}
 use Rattle.contest_types.specs.Order.{Has}
-use Rattle.contest_types.specs.State.{ContestState, names, of_submission, submissions_of}
+use Rattle.contest_types.specs.State.{ContestState, submissions_of}
 use Rattle.contest_types.specs.Valid.{is_valid}
 use Rattle.contest_types.specs.ValidSubmissions.{has_submission}
 use Rattle.contest_types.specs.declared.submission.Submission.{Submission}
-use Rattle.contest_store_changes.proofs.OwnNumbers.{first_is, number_of, own_counts, rest_is}
-
--- some element passes both tests where one of those that pass the first passes the second
-pub any_of_both : {X : Type 0} (p q : X → Bool) (xs : List X) → list_any (λ x. p x && q x) xs ≡ list_any q (filter p xs)
-any_of_both p q [] = refl
-any_of_both {X} p q (x ∷ xs) =
-    let go : (b : Bool) → ((b && q x) || list_any (λ y. p y && q y) xs) ≡ list_any q (if b then x ∷ filter p xs else filter p xs) = elim [
-      | true ↦ ap (λ more. q x || more) (any_of_both p q xs)
-      | false ↦ any_of_both p q xs
-    ] in
-    go (p x)
+use Rattle.contest_store_changes.proofs.OwnNumbers.{number_of, own_counts}
+use Rattle.contest_types.proofs.Ranges.{first_is, rest_is}
+use Rattle.contest_types.proofs.Filters.{any_both}
 
 -- where it stands
 pub record StandsAt (own : List Submission) (first number : ℕ) : Type 0 where
@@ -69,7 +60,7 @@ pub record Named (x : ContestState) (team number : ℕ) : Type 0 where
 pub named_place : (x : ContestState) (team number : ℕ) → is_valid x ≡ true → has_submission x team number ≡ true → Named x team number
 named_place x team number valid h =
     let own = submissions_of team x.submissions in
-    let any = sym (any_of_both (λ (s : Submission). s.team == team) (λ (s : Submission). s.number == number) x.submissions) ∙ h in
+    let any = sym (any_both (λ (s : Submission). s.team == team) (λ (s : Submission). s.number == number) x.submissions) ∙ h in
     let s = stands_at own 1 number (own_counts x team valid).up any in
     let kept = kept_has (λ (t : Submission). t.team == team) x.submissions s.place s.submission s.at in
     record {
@@ -81,13 +72,3 @@ named_place x team number valid h =
       of_team = eqb-true s.submission.team team kept.1;
       of_number = s.is_its;
     }
-
--- a team's submissions without their files
-pub own_loaded : (team : ℕ) (ss : List Submission) → submissions_of team (map without_file ss) ≡ map without_file (submissions_of team ss)
-own_loaded team [] = refl
-own_loaded team (s ∷ ss) =
-    let go : (b : Bool) → (if b then without_file s ∷ submissions_of team (map without_file ss) else submissions_of team (map without_file ss)) ≡ map without_file (if b then s ∷ submissions_of team ss else submissions_of team ss) = elim [
-      | true ↦ ap (λ rows. without_file s ∷ rows) (own_loaded team ss)
-      | false ↦ own_loaded team ss
-    ] in
-    go (s.team == team)

@@ -3,7 +3,7 @@ use Rattle.std.proofs.Common.{◌≡◌, ◌∙◌, ◌+◌, ◌<◌, ◌≤◌,
 use Rattle.std.specs.Prelude.{◌&&◌, ◌||◌, ◌==◌, not, nat_le, count_by, cond, if◌then◌else◌, IfSome}
 use Rattle.std.specs.List.{list_all, list_any, range_with_len}
 use Rattle.std.specs.Option.{option_map_or}
-use Rattle.std.proofs.lemmas.Bool.{false≢true, eqb-true}
+use Rattle.std.proofs.lemmas.Bool.{false≢true, eqb-true, leb-true}
 use Rattle.std.proofs.lemmas.Bool.Decides.{nat_tests}
 use Rattle.std.proofs.lemmas.List.{length-map}
 use Rattle.std.proofs.lemmas.List.Sums.{sum_by-cons}
@@ -19,11 +19,11 @@ use Rattle.contest_types.specs.declared.clarification.Reference.{Reference}
 use Rattle.contest_types.specs.declared.limits.TheConstants.{GROUPS, TEAMS, TEAM_REQUESTS}
 use Rattle.contest_types.proofs.AddClarification.{addressed_itself}
 use Rattle.contest_types.proofs.PlaceLemmas.{and_left, and_right, both_true}
-use Rattle.contest_types.proofs.SettingsTest.{at_most}
 use Rattle.contest_types.proofs.SightLemmas.{same_is_one}
 use Rattle.contest_store_rows.specs.Laws.{IsWritableReference}
 use Rattle.contest_store_rows.specs.ListRows.{audience_number}
 use Rattle.contest_store_rows.specs.References.{largest}
+use Rattle.contest_types.proofs.HeardWhole.{first_of_five}
 
 -- one that passes, and what all pass it passes too
 pub record Reached {X : Type 0} (p : X → Bool) (xs : List X) : Type 0 where
@@ -83,12 +83,9 @@ few_clarifications cs h =
     let numbers = count_up (map (λ (c : Clarification). c.number) cs) in
     let requests = nat_le (count_by is_request cs) TEAM_REQUESTS in
     let two : (numbers && requests) ≡ true = and_left (numbers && requests) _ h in
-    let few = at_most _ _ (and_right numbers requests two) in
-    let of_jury = at_most _ _ (and_right (numbers && requests) _ h) in
+    let few = leb-true _ _ (and_right numbers requests two) in
+    let of_jury = leb-true _ _ (and_right (numbers && requests) _ h) in
     omega (arith, few, of_jury, both_directions cs)
-
-first_of_five : (a b c d e : Bool) → (a && b && c && d && e) ≡ true → a ≡ true
-first_of_five a b c d e h = and_left a b (and_left (a && b) c (and_left (a && b && c) d (and_left (a && b && c && d) e h)))
 
 -- there are few teams and groups
 pub record IsSmall (s : Setup) : Type 0 where
@@ -126,7 +123,7 @@ module _ (x : ContestState) (few : IsSmall x.fixed.settings) (valid : has_valid_
       let each = all_left (to_one_addressee c) (λ d. nat_le d.number (length own)) x.clarifications (small_numbers (λ (d : Clarification). d.number) own counts) in
       let itself : to_one_addressee c c ≡ true = addressed_itself c.addressee in
       let here : (not (to_one_addressee c c) || nat_le c.number (length own)) ≡ true = with_all (λ d. not (to_one_addressee c d) || nat_le d.number (length own)) each in
-      let low = at_most c.number (length own) (rw itself at here) in
+      let low = leb-true c.number (length own) (rw itself at here) in
       omega (arith, low, few_clarifications own own_valid)
 
   named_is_small : (r : Reference) → has_clarification x r ≡ true → IsWritableReference r

@@ -1,10 +1,12 @@
 -- The submissions of a team with one number: in a valid contest there is at most one.
-use Rattle.std.proofs.Common.{◌≡◌, ◌∙◌, ◌⊎◌, ◌≤◌, ◌<◌, ◌+◌, ℕ, suc, Bool, true, false, List, [], ◌∷◌, length, map, filter, None, refl, ap, inl, inr, arith}
-use Rattle.std.specs.Prelude.{◌==◌, ◌&&◌, nat_lt, nat_le, if◌then◌else◌}
+use Rattle.std.proofs.Common.{◌≡◌, ◌∙◌, ◌⊎◌, ◌≤◌, ◌<◌, ◌+◌, ℕ, suc, Bool, true, false, List, [], ◌∷◌, length, map, filter, refl, ap, inl, inr, arith}
+use Rattle.std.specs.Prelude.{◌==◌, nat_lt, nat_le, if◌then◌else◌}
 use Rattle.std.specs.List.{list_all, range_with_len}
 use Rattle.std.proofs.lemmas.Bool.Decides.{nat_tests}
 use Rattle.std.proofs.lemmas.List.{length-map}
 use Rattle.std.proofs.lemmas.Slice.Eq.{bytes_eq-Decides}
+use Rattle.std.proofs.lemmas.Bool.{leb-true}
+use Rattle.contest_types.specs.PlainRows.{plain_submission}
 use Rattle.contest_types.specs.Series.{count_up, have_own_keys, never_fall}
 use Rattle.contest_types.specs.State.{ContestState, names, of_submission, submissions_of}
 use Rattle.contest_types.specs.Valid.{is_valid}
@@ -14,9 +16,11 @@ use Rattle.contest_types.specs.declared.submission.Submission.{Submission}
 use Rattle.contest_types.proofs.AddLemmas.{one_team}
 use Rattle.contest_types.proofs.PlaceLemmas.{and_left, and_right}
 use Rattle.contest_types.proofs.SeriesLemmas.{in_any}
-use Rattle.contest_types.proofs.SettingsTest.{at_most}
 use Rattle.contest_types.proofs.SetupLemmas.{all_wider}
 use Rattle.contest_types.proofs.ValidParts.{four, parts}
+use Rattle.contest_types.proofs.Ranges.{first_is, rest_is}
+use Rattle.contest_types.proofs.Filters.{filter_both}
+use Rattle.contest_types.proofs.GroupLemmas.{not_below}
 
 abbrev pub number_of : Submission → ℕ
 number_of s = s.number
@@ -27,21 +31,6 @@ with_number n = filter (λ s. s.number == n)
 -- those of the team with the number
 abbrev pub named_by : (team number : ℕ) → List Submission → List Submission
 named_by team number = filter (λ s. names team number (of_submission s))
-
-both_tests : {X : Type 0} (p q : X → Bool) (xs : List X) → filter (λ x. p x && q x) xs ≡ filter q (filter p xs)
-both_tests p q [] = refl
-both_tests p q (x ∷ xs) =
-    let rest = both_tests p q xs in
-    let go : (b : Bool) → (if b && q x then x ∷ filter (λ y. p y && q y) xs else filter (λ y. p y && q y) xs) ≡ filter q (if b then x ∷ filter p xs else filter p xs) =
-    elim [ true ↦ ap (λ found. if q x then x ∷ found else found) rest | false ↦ rest ] in
-    go (p x)
-
--- rows that count up from a number
-pub first_is : (n k m : ℕ) (ns : List ℕ) → n ∷ ns ≡ range_with_len k (suc m) → n ≡ k
-first_is n k m ns e = cc e
-
-pub rest_is : (n k m : ℕ) (ns : List ℕ) → n ∷ ns ≡ range_with_len k (suc m) → ns ≡ range_with_len (k + 1) m
-rest_is n k m ns e = cc e
 
 -- a number that is none of so many from k on
 abbrev IsOut : (k count n : ℕ) → Type 0
@@ -88,16 +77,16 @@ counts_up own series =
     let keys = map (λ (s : Submission). s.key) own in
     let tests = four (count_up numbers) (never_fall times) (have_own_keys keys) (nat_le (length own) TEAM_SUBMISSIONS) series in
     let all : numbers ≡ range_with_len 1 (length numbers) = (bytes_eq-Decides numbers (range_with_len 1 (length numbers))).0 tests.first in
-    record { up = all ∙ ap (range_with_len 1) (length-map own number_of); few = at_most (length own) TEAM_SUBMISSIONS tests.fourth }
+    record { up = all ∙ ap (range_with_len 1) (length-map own number_of); few = leb-true (length own) TEAM_SUBMISSIONS tests.fourth }
 
 pub own_counts : (x : ContestState) (team : ℕ) → is_valid x ≡ true → CountsUp (submissions_of team x.submissions)
 own_counts x team valid =
-    let any : Submission = record { team = team; number = 0; time = 0; problem = 0; language = 0; entry_point = None; file = []; key = None } in
+    let any : Submission = plain_submission team 0 0 0 0 in
     counts_up (submissions_of team x.submissions)
     (in_any of_one_team are_valid_submissions one_team refl x.submissions any (and_right (list_all (is_valid_submission x.fixed) x.submissions) _ (parts x valid).submissions))
 
 of_team : (team number : ℕ) (ss : List Submission) → named_by team number ss ≡ with_number number (submissions_of team ss)
-of_team team number ss = both_tests (λ (s : Submission). s.team == team) (λ (s : Submission). s.number == number) ss
+of_team team number ss = filter_both (λ (s : Submission). s.team == team) (λ (s : Submission). s.number == number) ss
 
 pub one_named : (x : ContestState) (team number : ℕ) → is_valid x ≡ true → length (named_by team number x.submissions) ≤ 1
 one_named x team number valid = rw (of_team team number x.submissions) (at_most_one 1 number (submissions_of team x.submissions) (own_counts x team valid).up)
@@ -108,13 +97,10 @@ none_numbered x team number valid beyond =
     let own = own_counts x team valid in
     of_team team number x.submissions ∙ none_out 1 number (submissions_of team x.submissions) own.up (inr (omega (arith, own.few, beyond)))
 
-other_team : (a n team : ℕ) → nat_lt a n ≡ true → n ≤ team → (a == team) ≡ false
-other_team a n team low high = grind (arith, nat_tests, low, high)
-
 none_of_team : (n team : ℕ) (ss : List Submission) → n ≤ team → list_all (λ (s : Submission). nat_lt s.team n) ss ≡ true → submissions_of team ss ≡ []
 none_of_team n team [] high all = refl
 none_of_team n team (s ∷ ss) high all =
-    let other : (s.team == team) ≡ false = other_team s.team n team (and_left (nat_lt s.team n) _ all) high in
+    let other : (s.team == team) ≡ false = not_below s.team n team (and_left (nat_lt s.team n) _ all) high in
     rw other (none_of_team n team ss high (and_right (nat_lt s.team n) _ all))
 
 -- nor a team

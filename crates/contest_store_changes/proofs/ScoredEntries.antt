@@ -1,9 +1,9 @@
 -- The cells after a submission and after a release.
-use Rattle.std.proofs.Common.{◌≡◌, ◌∙◌, ◌<◌, ◌+◌, ℕ, Bool, true, false, List, [], ◌∷◌, ◌++◌, map, filter, length, slice_get, Option, Some, None, Result, Ok, refl, sym, ap, ap₂, subst, subst₂, arith, length-append, add-zero, take, inl, inr}
-use Rattle.std.specs.Prelude.{◌&&◌, ◌==◌, not, if◌then◌else◌, nat_lt}
+use Rattle.std.proofs.Common.{◌≡◌, ◌∙◌, ◌<◌, ◌+◌, ℕ, Bool, true, false, List, [], ◌∷◌, ◌++◌, map, filter, length, slice_get, Option, Some, None, Result, Ok, refl, sym, ap, ap₂, subst, subst₂, length-append, add-zero, take, inl, inr}
+use Rattle.std.specs.Prelude.{◌&&◌, ◌==◌, not, if◌then◌else◌}
 use Rattle.std.specs.List.{AllByRecursion, list_any}
 use Rattle.std.specs.Option.{option_map}
-use Rattle.std.proofs.lemmas.Bool.{eq-eqb, false≢true, ltb-true}
+use Rattle.std.proofs.lemmas.Bool.{eq-eqb, ltb-true}
 use Rattle.std.proofs.lemmas.Option.{slice_get-map}
 use Rattle.std.proofs.lemmas.List.Elements.{filter-append}
 use Rattle.sqlite.specs.State.{State}
@@ -15,7 +15,6 @@ use Rattle.contest_types.specs.Loads.{without_file}
 use Rattle.contest_types.specs.Order.{Has}
 use Rattle.contest_types.specs.Setup.{Setup}
 use Rattle.contest_types.specs.State.{ContestState, add, names, of_release, submissions_of}
-use Rattle.contest_types.specs.Valid.{is_valid}
 use Rattle.contest_types.specs.declared.entry.Entry.{Entry}
 use Rattle.contest_types.specs.declared.entry.Entry.TheVariants.{NewSubmission, NewRelease}
 use Rattle.contest_types.specs.declared.sight.Mask.{Mask}
@@ -40,13 +39,14 @@ use Rattle.contest_store_cells.proofs.CellOrder.{IsPlaced, is_placed, row_at}
 use Rattle.contest_store_cells.proofs.CellsKept.{others_keep_cells}
 use Rattle.contest_store_cells.proofs.FirstAttempts.{at_place, same_first}
 use Rattle.contest_store_changes.specs.CellSteps.{HasScored, HasWrittenBoth, MayWrite, Scores, WritesCells, written}
-use Rattle.contest_store_changes.specs.ContestTables.{list_rows, rows_with, table_rows}
+use Rattle.contest_store_changes.specs.ContestTables.{list_rows, rows_with}
 use Rattle.contest_store_changes.specs.Sound.{IsSound}
 use Rattle.contest_store_changes.proofs.CellWriting.{narrowed}
 use Rattle.contest_store_changes.proofs.CellsPassed.{put_twice}
 use Rattle.contest_store_changes.proofs.CellsScored.{Makes, makes_changed, makes_new}
-use Rattle.contest_store_changes.proofs.NamedPlace.{named_place, own_loaded}
+use Rattle.contest_store_changes.proofs.NamedPlace.{named_place}
 use Rattle.contest_store_changes.proofs.SameNumbers.{same_after}
+use Rattle.contest_types.proofs.OwnLemmas.{own_loaded}
 
 -- what is written makes the cells those of the contest, whichever it shows
 pub scored : (r : Result (Unit {0}) StoreError) (old new : State) (b a : Counts) (lists : ContestState) (e : Entry) (is_new : Bool) (held full : Row)

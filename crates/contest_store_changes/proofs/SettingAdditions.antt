@@ -1,11 +1,11 @@
 -- A new setting is one more row of its table, and the other tables stay as they are.
-use Rattle.std.proofs.Common.{◌≡◌, ◌∙◌, ℕ, ◌+◌, false, List, [], ◌∷◌, ◌++◌, length, refl, sym, ap, subst, append_assoc, append-nil, IsPermutation}
+use Rattle.std.proofs.Common.{◌≡◌, ◌∙◌, ℕ, ◌+◌, false, List, [], ◌∷◌, ◌++◌, length, refl, sym, ap, subst, IsPermutation}
 use Rattle.std.proofs.Math.Path.{fun_ext}
 use Rattle.std.proofs.lemmas.List.Sorted.{IsPermutation-append_right, IsPermutation-middle, IsPermutation-sym, IsPermutation-trans}
 use Rattle.sqlite_value.specs.Order.{Row}
 use Rattle.contest_types.specs.State.{ContestState, add}
 use Rattle.contest_types.specs.declared.entry.Entry.TheVariants.{NewType, NewLanguage, NewProblem, NewGroup, NewTeam}
-use Rattle.contest_store_rows.specs.FixedRows.{group_row, items_rows, joined_ids, language_row, problem_row, team_row, type_row}
+use Rattle.contest_store_rows.specs.FixedRows.{group_row, items_rows, language_row, problem_row, team_row, type_row}
 use Rattle.contest_store_rows.specs.Tables.{Tables, rows_of}
 use Rattle.contest_store_rows.proofs.ListLaws.{one_more, rows_from}
 use Rattle.contest_store_tables.specs.Schema.{form_of}
@@ -16,16 +16,13 @@ use Rattle.contest_store_changes.specs.ContestTables.{by_name}
 use Rattle.contest_store_changes.specs.Laws.{TypeIsAdded, LanguageIsAdded, GroupIsAdded, ProblemIsAdded, TeamIsAdded}
 use Rattle.contest_store_changes.specs.OneRow.{IsOneRow}
 use Rattle.contest_store_changes.proofs.HeldRows.{item_given}
-use Rattle.contest_store_changes.proofs.NamesKept.{accounts_of_team, clarifications_of_problem, members_of_type, proposals_of_type, releases_of_type, submissions_of_language, submissions_of_problem, teams_of_group}
+use Rattle.contest_types.proofs.GrownSettings.{one_type, one_language, one_group, one_problem, one_team}
+use Rattle.contest_store_changes.proofs.NamesKept.{others_kept, teams_kept}
 use Rattle.contest_store_changes.proofs.RisingRows.{rises_but_accounts}
+use Rattle.contest_store_cells.proofs.CellChanges.{in_front, at_end}
+use Rattle.contest_store_changes.proofs.Writable.{writable}
 
 -- where the row stands among those of its table
-in_front : (one others : List Row) (r : Row) → IsPermutation (r ∷ (one ++ others)) ((one ++ r ∷ []) ++ others)
-in_front one others r = subst (λ rows. IsPermutation (r ∷ (one ++ others)) rows) (sym (append_assoc one (r ∷ []) others)) (IsPermutation-sym _ _ (IsPermutation-middle one r others))
-
-at_end : (one : List Row) (r : Row) → IsPermutation (r ∷ one) (one ++ r ∷ [])
-at_end one r = subst (λ rows. IsPermutation (r ∷ rows) (one ++ r ∷ [])) (append-nil one) (IsPermutation-sym _ _ (IsPermutation-middle one r []))
-
 behind : (front rows next : List Row) (r : Row) → IsPermutation (r ∷ rows) next → IsPermutation (r ∷ (front ++ rows)) (front ++ next)
 behind front rows next r h = IsPermutation-trans _ _ _ (IsPermutation-sym _ _ (IsPermutation-middle front r rows)) (IsPermutation-append_right front _ _ h)
 
@@ -61,36 +58,36 @@ one_row row x y given among same = record {
 pub type_added : TypeIsAdded
 type_added x t sound =
     let s = x.fixed.settings in
-    one_row (type_row (length s.types + 1) t) x (add x (NewType t)) (item_given 0 _ t.id t.name [] 0 t.solved t.penalty [])
+    one_row (type_row (length s.types + 1) t) x (add x (NewType t)) (item_given 0 _ _ _ [] 0 _ _ [])
     (grown type_row s.types t _)
-    (rw (proposals_of_type s t 1 x.proposals sound.writable.proposals, releases_of_type s t 1 x.releases sound.writable.releases, members_of_type s t 1 x.rejudgings sound.writable.rejudgings) refl)
+    (others_kept x _ (one_type s t) refl (writable x sound))
 
 pub language_added : LanguageIsAdded
 language_added x l sound =
     let s = x.fixed.settings in
-    one_row (language_row (length s.languages + 1) l) x (add x (NewLanguage l)) (item_given 1 _ l.id l.name [] 0 l.entry_point_required false [])
+    one_row (language_row (length s.languages + 1) l) x (add x (NewLanguage l)) (item_given 1 _ _ _ [] 0 _ false [])
     (behind (rows_from type_row 1 s.types) _ _ _ (grown language_row s.languages l _))
-    (rw (submissions_of_language s l 1 x.submissions sound.writable.submissions) refl)
+    (others_kept x _ (one_language s l) refl (writable x sound))
 
 pub group_added : GroupIsAdded
 group_added x g sound =
     let s = x.fixed.settings in
-    one_row (group_row (length s.groups + 1) g) x (add x (NewGroup g)) (item_given 2 _ g.id g.name [] 0 false false [])
+    one_row (group_row (length s.groups + 1) g) x (add x (NewGroup g)) (item_given 2 _ _ _ [] 0 false false [])
     (subst (λ (teams : List Row). IsPermutation (group_row (length s.groups + 1) g ∷ items_rows s) (rows_from type_row 1 s.types ++ (rows_from language_row 1 s.languages ++ (rows_from group_row 1 (s.groups ++ g ∷ []) ++ (rows_from problem_row 1 s.problems ++ teams)))))
-    (sym (teams_of_group s g 1 s.teams sound.writable.valid.references))
+    (sym (teams_kept s _ (one_group s g) 1 s.teams (writable x sound).valid.references))
     (behind (rows_from type_row 1 s.types) _ _ _ (behind (rows_from language_row 1 s.languages) _ _ _ (grown group_row s.groups g _))))
     refl
 
 pub problem_added : ProblemIsAdded
 problem_added x p sound =
     let s = x.fixed.settings in
-    one_row (problem_row (length s.problems + 1) p) x (add x (NewProblem p)) (item_given 3 _ p.id p.name p.label p.ordinal false false [])
+    one_row (problem_row (length s.problems + 1) p) x (add x (NewProblem p)) (item_given 3 _ _ _ _ _ false false [])
     (behind (rows_from type_row 1 s.types) _ _ _ (behind (rows_from language_row 1 s.languages) _ _ _ (behind (rows_from group_row 1 s.groups) _ _ _ (grown problem_row s.problems p _))))
-    (rw (submissions_of_problem s p 1 x.submissions sound.writable.submissions, clarifications_of_problem s p 1 x.clarifications sound.writable.clarifications) refl)
+    (others_kept x _ (one_problem s p) refl (writable x sound))
 
 pub team_added : TeamIsAdded
 team_added x t sound =
     let s = x.fixed.settings in
-    one_row (team_row s (length s.teams + 1) t) x (add x (NewTeam t)) (item_given 4 _ t.id t.name [] 0 t.hidden false (joined_ids s t.groups))
+    one_row (team_row s (length s.teams + 1) t) x (add x (NewTeam t)) (item_given 4 _ _ _ [] 0 _ false _)
     (behind (rows_from type_row 1 s.types) _ _ _ (behind (rows_from language_row 1 s.languages) _ _ _ (behind (rows_from group_row 1 s.groups) _ _ _ (behind (rows_from problem_row 1 s.problems) _ _ _ (last_grown (team_row s) s.teams t)))))
-    (rw (accounts_of_team s t x.fixed.accounts sound.writable.fixed.accounts) refl)
+    (others_kept x _ (one_team s t) refl (writable x sound))

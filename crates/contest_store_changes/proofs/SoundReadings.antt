@@ -20,6 +20,7 @@ use Rattle.contest_store_changes.specs.ContestTables.{if_scored, if_valid, liste
 use Rattle.contest_store_changes.specs.Laws.{SoundContestsReadBack}
 use Rattle.contest_store_changes.specs.Sound.{IsSound}
 use Rattle.contest_store_changes.proofs.CellsRead.{cells_themselves}
+use Rattle.contest_store_changes.proofs.Writable.{writable}
 
 -- a load shows the type and the size of a file in place of it
 pub rows_loaded : (s : Setup) (n : ℕ) (xs : List Submission) → map (loaded_row Submissions) (rows_from (submission_row s) n xs) ≡ rows_from (λ m x. loaded_submission_row s m (length x.file) x) n xs
@@ -37,7 +38,7 @@ files_back s n (x ∷ xs) = ap (λ others. x ∷ others) (files_back s (n + 1) x
 contest_is_read : (cells : List Row) (x : ContestState) → IsSound x → listed_in (rows_with cells x) ≡ Some x
 contest_is_read cells x h =
     ap (λ t. option_map (with_files (rows_of x).submissions) (lists_in t)) (tables_loaded cells x)
-    ∙ ap (option_map (with_files (rows_of x).submissions)) (contests_read_back x h.writable)
+    ∙ ap (option_map (with_files (rows_of x).submissions)) (contests_read_back x (writable x h))
     ∙ ap (λ submissions. Some (record x { submissions = submissions })) (files_back x.fixed.settings 1 x.submissions)
 
 pub sound_listed_reads_back : (cells : List Row) (x : ContestState) → IsSound x → valid_listed_in (rows_with cells x) ≡ Some x

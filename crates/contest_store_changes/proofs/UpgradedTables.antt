@@ -3,7 +3,6 @@ use Rattle.std.proofs.Common.{◌≡◌, ◌≢◌, ◌∙◌, ℕ, ◌+◌, Boo
 use Rattle.std.specs.Prelude.{◌==◌, not, if◌then◌else◌}
 use Rattle.std.specs.List.{AllByRecursion}
 use Rattle.std.specs.Option.{option_map, option_and_then}
-use Rattle.std.proofs.Math.Path.{fun_ext}
 use Rattle.sqlite.specs.Collation.TheVariants.{Binary}
 use Rattle.sqlite_sql.specs.Ops.{binary, from_truth}
 use Rattle.sqlite_value.proofs.OrderLemmas.{value_cmp-Int}
@@ -21,31 +20,29 @@ use Rattle.contest_types.specs.declared.clarification.Addressee.{Addressee}
 use Rattle.contest_types.specs.declared.clarification.Addressee.TheVariants.{All as ToAll, Group as ToGroup, Team as ToTeam}
 use Rattle.contest_types.specs.declared.clarification.Clarification.{Clarification}
 use Rattle.contest_store_rows.specs.Cells.{number}
-use Rattle.contest_store_rows.specs.FixedRows.{desk_row}
 use Rattle.contest_store_rows.specs.ListRows.{audience_kind, audience_number, clarification_row, first_clarification_row}
-use Rattle.contest_store_rows.specs.Tables.{notices_rows, rows_in_version, rows_of}
-use Rattle.contest_store_rows.specs.declared.versions.Version.TheVariants.{First, Second}
+use Rattle.contest_store_rows.specs.Tables.{rows_of}
+use Rattle.contest_store_rows.specs.declared.versions.Version.TheVariants.{First}
 use Rattle.contest_store_rows.proofs.ListLaws.{rows_from}
 use Rattle.contest_store_rows.proofs.RowLaws.{after_all}
 use Rattle.contest_store_fixed_rows.specs.Spelling.{lists_in_version}
-use Rattle.contest_store_fixed_rows.specs.SpellingLaws.{AreRows, first_loaded_rows_of, loaded_rows_of}
+use Rattle.contest_store_fixed_rows.specs.SpellingLaws.{AreRows, first_loaded_rows_of}
 use Rattle.contest_store_fixed_rows.proofs.OptionSteps.{bound, where_true}
 use Rattle.contest_store_fixed_rows.proofs.SpellingLaws.{contests_write_back, first_contests_read_back}
 use Rattle.contest_store_tables.specs.Statements.{loaded_row}
-use Rattle.contest_store_tables.specs.Steps.{Rises, with_rows}
+use Rattle.contest_store_tables.specs.Steps.{Rises}
 use Rattle.contest_store_tables.specs.Tables.{TableRows}
-use Rattle.contest_store_tables.specs.declared.table_name.TableName.{TableName}
-use Rattle.contest_store_tables.specs.declared.table_name.TableName.TheVariants.{Desk, Contest, Items, Accounts, Submissions, Proposals, Releases, Rejudgings, Members, Clarifications, Cells, Notices}
-use Rattle.contest_store_changes.specs.ContestTables.{by_name, if_valid, listed_in_version, loaded_tables, rows_with, with_files}
+use Rattle.contest_store_tables.specs.declared.table_name.TableName.TheVariants.{Accounts, Submissions, Clarifications, Cells}
+use Rattle.contest_store_changes.specs.ContestTables.{if_valid, listed_in_version, loaded_tables, with_files}
+use Rattle.contest_store_changes.specs.Kinds.{AreOfKinds}
 use Rattle.contest_store_changes.specs.Laws.{IsWide}
 use Rattle.contest_store_changes.specs.Sound.{IsSound}
-use Rattle.contest_store_changes.specs.Upgraded.{GoesToNoGroup, FirstContestsAreSound, FirstRowsAreUpgraded, FirstRowsReadBack, first_listed_in, first_rows_with}
+use Rattle.contest_store_changes.specs.Upgraded.{GoesToNoGroup, FirstContestsAreSound, FirstRowsAreUpgraded, FirstRowsReadBack, first_rows_with}
 use Rattle.contest_store_changes.proofs.AccountsRise.{stand_by_id}
 use Rattle.contest_store_changes.proofs.FiledRows.{filed_rows}
 use Rattle.contest_store_changes.proofs.OneMoreRow.{same_tables}
-use Rattle.contest_store_changes.proofs.ReadCells.{made, of_found}
-use Rattle.contest_store_changes.proofs.ReadContest.{IsRead, lists_read, read_with_files}
-use Rattle.contest_store_changes.proofs.ReadWritable.{writable}
+use Rattle.contest_store_changes.proofs.FoundSteps.{made, of_found}
+use Rattle.contest_store_changes.proofs.Writable.{writable}
 use Rattle.contest_store_changes.proofs.SoundReadings.{files_back, rows_loaded}
 
 -- what a load says of the audience
@@ -78,7 +75,7 @@ first_tables_loaded cells x none =
 pub first_rows_read_back : FirstRowsReadBack
 first_rows_read_back cells x h none =
     ap (λ t. option_and_then if_valid (option_map (with_files (rows_of x).submissions) (lists_in_version First t))) (first_tables_loaded cells x none)
-    ∙ ap (λ found. option_and_then if_valid (option_map (with_files (rows_of x).submissions) found)) (first_contests_read_back x h.writable)
+    ∙ ap (λ found. option_and_then if_valid (option_map (with_files (rows_of x).submissions) found)) (first_contests_read_back x (writable x h))
     ∙ ap (λ submissions. if_valid (record x { submissions = submissions })) (files_back x.fixed.settings 1 x.submissions) ∙ (rw h.valid refl)
 
 -- a row of ten cells
@@ -125,24 +122,17 @@ first_rows_are rows y wide width are =
     (sym are.proposals) (sym are.releases) (sym are.rejudgings) (sym are.members) (rows_were y.fixed.settings 1 y.clarifications (rows Clarifications) width are.clarifications.0) refl (sym are.clarifications.1)
 
 first_found_sound : (rows : TableRows) (x : ContestState) → Rises Accounts (rows Accounts) → AllByRecursion (IsWide Submissions) (rows Submissions) → AllByRecursion (IsWide Clarifications) (rows Clarifications)
-    → listed_in_version First rows ≡ Some x → is_valid x ≡ true → IsSound x × (first_rows_with (rows Cells) x ≡ rows)
-first_found_sound rows x up wide width is valid =
+    → listed_in_version First rows ≡ Some x → is_valid x ≡ true → AreOfKinds x → IsSound x × (first_rows_with (rows Cells) x ≡ rows)
+first_found_sound rows x up wide width is valid kinds =
     let m = made (with_files (rows Submissions)) (lists_in_version First (loaded_tables rows)) x is in
-    let read = subst IsRead m.whole (read_with_files (rows Submissions) m.x (lists_read First (loaded_tables rows) m.x m.first_is)) in
-    let own = subst (λ y. first_rows_with (rows Cells) y ≡ rows) m.whole (first_rows_are rows m.x wide width (contests_write_back First (loaded_tables rows) m.x m.first_is)) in (
-      record {
-        valid = valid;
-        writable = writable x read valid;
-        by_id = stand_by_id x.fixed.settings x.fixed.accounts (subst (λ (all : TableRows). Rises Accounts (all Accounts)) (sym own) up);
-      },
-      own,
-    )
+    let own = subst (λ y. first_rows_with (rows Cells) y ≡ rows) m.whole (first_rows_are rows m.x wide width (contests_write_back First (loaded_tables rows) m.x m.first_is)) in
+    (record { valid = valid; kinds = kinds; by_id = stand_by_id x.fixed.settings x.fixed.accounts (subst (λ (all : TableRows). Rises Accounts (all Accounts)) (sym own) up) }, own)
 
 pub first_contests_sound : FirstContestsAreSound
-first_contests_sound rows x up wide width is =
+first_contests_sound rows x up wide width kinds is =
     let b = bound if_valid (listed_in_version First rows) x is in
     let own = where_true (is_valid b.x) (Some b.x) x b.next_is in
-    of_found (λ y. IsSound y × (first_rows_with (rows Cells) y ≡ rows)) b.x x own.1 (first_found_sound rows b.x up wide width b.first_is own.0)
+    of_found (λ y. AreOfKinds y → IsSound y × (first_rows_with (rows Cells) y ≡ rows)) b.x x own.1 (first_found_sound rows b.x up wide width b.first_is own.0) kinds
 
 pub first_rows_upgraded : FirstRowsAreUpgraded
 first_rows_upgraded cells x = same_tables _ _ refl refl refl refl refl refl refl refl refl refl refl refl

@@ -1,4 +1,4 @@
-use Rattle.std.proofs.Common.{◌∙◌, ap, sym}
+use Rattle.std.proofs.Common.{◌∙◌, sym}
 use Rattle.contest_types.specs.declared.entry.Entry.TheVariants.{NewRelease}
 use Rattle.contest_types.proofs.PlaceLemmas.{and_left}
 use Rattle.contest_store_tables.specs.Connected.{counts_of, shown_by}

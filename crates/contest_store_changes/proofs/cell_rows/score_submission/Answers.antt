@@ -1,5 +1,3 @@
-use Rattle.std.proofs.Common.{ap, sym}
-use Rattle.contest_types.specs.State.{ContestState}
 use Rattle.contest_types.specs.declared.entry.Entry.TheVariants.{NewSubmission}
 use Rattle.contest_store_tables.specs.Connected.{counts_of, shown_by}
 use Rattle.contest_store_changes.proofs.AppendLemmas.{unfit}

@@ -1,6 +1,6 @@
-use Rattle.std.proofs.Common.{Err, Ok}
+use Rattle.std.proofs.Common.{Err}
 use Rattle.sqlite.specs.Values.{bound}
-use Rattle.contest_store_tables.specs.Connected.{counts_of, shown_by}
+use Rattle.contest_store_tables.specs.Connected.{shown_by}
 use Rattle.contest_store_tables.specs.Steps.{Full}
 use Rattle.contest_store_tables.proofs.StepLemmas.{refuses}
 use Rattle.contest_store_changes.specs.CellSteps.{HasWritten, HasWrittenBoth, MayWrite}

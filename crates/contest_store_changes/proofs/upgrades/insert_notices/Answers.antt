@@ -5,7 +5,7 @@ use Rattle.contest_types.specs.declared.fixed.Fixed.{Fixed}
 use Rattle.contest_store_tables.specs.Connected.{shown_by, counts_of}
 use Rattle.contest_store_tables.specs.Steps.{Full, MakesNone, Step}
 use Rattle.contest_store_tables.proofs.StepLemmas.{refuses}
-use Rattle.contest_store_changes.specs.UpgradeSteps.{HasMoved, HasNotice, ShowsFirst}
+use Rattle.contest_store_changes.specs.UpgradeSteps.{HasMoved, HasNotice, ShowsNoticeless}
 use Rattle.contest_store_changes.proofs.UpgradeLemmas.{all_moved, next_notice, none_moved}
 use Rattle.contest_store_changes.proofs.upgrades.insert_notices.Goals as goal
 
@@ -23,7 +23,7 @@ returns-in-Err g c =
     let same = c.clarifications-clarifications.ensures in
     let two = subst (λ (s : Setup). Step {T = Unit {0}} (Err c.in-Err.error) mid new (counts_of c.loop-place.tables) (counts_of c.insert_notice.new.tables) Full (HasNotice s place m) (MakesNone mid Full))
     (ap (λ (f : Fixed). f.settings) c.fixed.ensures) c.in-Err.ensures in
-    refuses _ old new _ _ (ShowsFirst lists) _ (HasMoved lists (length lists.clarifications)) _
+    refuses _ old new _ _ (ShowsNoticeless lists) _ (HasMoved lists (length lists.clarifications)) _
     (next_notice lists place m (subst (λ (cs : List Clarification). place < length cs) same c.loop-place-test.true) (subst (λ (cs : List Clarification). m ≡ slice_index_or cs place m) same c.index-clarifications-place.is)
     (Err c.in-Err.error) old mid new _ _ _ c.loop-place.invariant two)
 
