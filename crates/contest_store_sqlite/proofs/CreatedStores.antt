@@ -63,7 +63,6 @@ module _ (x : ContestState) (head : ContestHead) (old new : State) (lists : Cont
         record {
           opened = record {
             contest = read.contest;
-            desk = read.desk;
             found = read.found;
             shows = shows new read.contest read.contest read.holds counts commits is_loaded;
             crash = λ c left. elim (equal.survives.crash clean left.0 left.1) [ inl before ↦ inl (left.0, before, left.2) | inr filled ↦ inr (filled.0, filled.1, sym left.2 ∙ filled.2) ];

@@ -2,7 +2,7 @@
 use Rattle.std.proofs.Common.{◌≡◌, ◌∙◌, ◌≤◌, ◌<◌, ◌+◌, ℕ, zero, suc, Bool, true, false, List, [], ◌∷◌, length, map, filter, Option, Some, None, refl, sym, ap, subst, arith}
 use Rattle.std.specs.Prelude.{◌==◌, ◌&&◌, All, IsPermutation, find, slice_get, if◌then◌else◌}
 use Rattle.std.specs.Option.{option_map}
-use Rattle.std.proofs.lemmas.List.{length-map}
+use Rattle.std.proofs.lemmas.List.{length-map, nil_from_length}
 use Rattle.std.proofs.lemmas.List.Sorted.{All-permutation, length_permutation}
 use Rattle.sqlite_value.specs.Order.{Row, column}
 use Rattle.sqlite_value.specs.declared.value.Value.TheVariants.{Blob}
@@ -20,6 +20,7 @@ use Rattle.contest_store_changes.specs.ContestTables.{bytes_of, table_rows}
 use Rattle.contest_store_changes.specs.Sound.{IsSound}
 use Rattle.contest_store_changes.proofs.SameNumbers.{same_after, same_number}
 use Rattle.contest_store_changes.proofs.OwnNumbers.{named_by, none_numbered, none_teamed, one_named}
+use Rattle.contest_store_changes.proofs.Writable.{writable}
 
 -- the row of one column
 abbrev file_row : Submission → Row
@@ -45,11 +46,6 @@ files_from s team n place (x ∷ xs) =
     elim [ true ↦ ap (λ rows. file_row x ∷ rows) rest | false ↦ rest ] in
     rw (is_named s team n place x) (go (names team n (of_submission x)))
 
--- one row at most is the same list in any order
-no_row : {X : Type 0} (ys : List X) → length ys ≡ 0 → ys ≡ []
-no_row [] e = refl
-no_row (y ∷ ys) e = absurd (omega (arith, e))
-
 one_row : {X : Type 0} (x : X) (ys : List X) → length ys ≡ 1 → All (λ y. y ≡ x) ys → ys ≡ x ∷ []
 one_row x [] e all = absurd (omega (arith, e))
 one_row x (y ∷ []) e all = ap (λ z. z ∷ []) (all 0 y (omega arith))
@@ -59,8 +55,9 @@ itself : {X : Type 0} (x : X) → All (λ y. y ≡ x) (x ∷ [])
 itself x zero d l = refl
 itself x (suc i) d l = absurd (omega (arith, l))
 
+-- one row at most is the same list in any order
 same_list : {X : Type 0} (xs ys : List X) → length xs ≤ 1 → IsPermutation xs ys → ys ≡ xs
-same_list [] ys few p = no_row ys (length_permutation [] ys p)
+same_list [] ys few p = nil_from_length ys (length_permutation [] ys p)
 same_list (x ∷ []) ys few p = one_row x ys (length_permutation (x ∷ []) ys p) (All-permutation (λ y. y ≡ x) (x ∷ []) ys p (itself x))
 same_list (x ∷ y ∷ xs) ys few p = absurd (omega (arith, few))
 
@@ -94,7 +91,7 @@ no_file : (x : ContestState) (team n : ℕ) → named_by team n x.submissions �
 no_file x team n none = sym (first_bytes team n x.submissions) ∙ ap (λ l. option_map (λ r. bytes_of (column r 0)) (slice_get (map file_row l) 0)) none
 
 pub no_such_team : (x : ContestState) (team n : ℕ) → IsSound x → TEAMS ≤ team → file_of x team n ≡ None
-no_such_team x team n sound beyond = no_file x team n (none_teamed x team n sound.valid sound.writable.valid.few_teams beyond)
+no_such_team x team n sound beyond = no_file x team n (none_teamed x team n sound.valid (writable x sound).valid.few_teams beyond)
 
 pub no_such_number : (x : ContestState) (team n : ℕ) → IsSound x → TEAM_SUBMISSIONS < n → file_of x team n ≡ None
 no_such_number x team n sound beyond = no_file x team n (none_numbered x team n sound.valid beyond)

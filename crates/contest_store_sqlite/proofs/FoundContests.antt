@@ -1,9 +1,9 @@
 -- Valid lists that were read of rows are, with the files in the rows, the valid contest whose lists the rows are.
-use Rattle.std.proofs.Common.{◌≡◌, ◌∙◌, ◌+◌, ◌≤◌, ℕ, true, List, [], ◌∷◌, length, map, zip, Some, refl, sym, ap, ap₂, subst, arith}
+use Rattle.std.proofs.Common.{◌≡◌, ◌∙◌, ◌+◌, ◌≤◌, ℕ, true, List, [], ◌∷◌, length, map, zip, Some, refl, sym, ap, ap₂, subst}
 use Rattle.std.specs.Prelude.{◌&&◌, nat_le}
 use Rattle.std.specs.List.{AllByRecursion, list_all}
 use Rattle.std.specs.Option.{option_and_then, option_map}
-use Rattle.std.proofs.lemmas.Bool.Decides.{nat_tests}
+use Rattle.std.proofs.lemmas.Bool.{le-leb}
 use Rattle.sqlite_sql.specs.Text.{length_of}
 use Rattle.sqlite_value.specs.declared.value.Value.TheVariants.{Blob}
 use Rattle.sqlite_value.specs.Order.{Row, column}
@@ -23,9 +23,11 @@ use Rattle.contest_store_fixed_rows.proofs.SpellingLaws.{contests_write_back}
 use Rattle.contest_store_tables.specs.Statements.{loaded_row}
 use Rattle.contest_store_tables.specs.Tables.{TableRows}
 use Rattle.contest_store_tables.specs.declared.table_name.TableName.TheVariants.{Submissions}
-use Rattle.contest_store_valid.specs.Files.{has_small_files}
 use Rattle.contest_store_changes.specs.ContestTables.{file_in, if_valid, loaded_tables, valid_listed_in_version, with_file, with_files}
+use Rattle.contest_store_changes.specs.Kinds.{AreOfKinds}
 use Rattle.contest_store_changes.proofs.FiledRows.{blob_is}
+use Rattle.contest_store_changes.proofs.ValidSound.{loaded_kinds}
+use Rattle.contest_store_sqlite.specs.Loading.{AreChecked}
 use Rattle.contest_store_sqlite.proofs.FilelessLists.{HasNoFile, lists_fileless}
 
 -- without their files they are as they were read
@@ -42,16 +44,13 @@ size_is s n size x r is =
     let blob : column r 7 ≡ Blob (file_in r) = blob_is (column r 7) (ap (λ q. column q 7) is) in
     ap (λ v. number_of (length_of v)) (sym blob) ∙ ap (λ q. number_of (column q 8)) is
 
-small : (m n : ℕ) → m ≤ n → nat_le m n ≡ true
-small m n l = grind (arith, nat_tests, l)
-
 small_files : (s : Setup) (n : ℕ) (xs : List Submission) (rows : List Row) → AreSubmissionRows s n xs (map (loaded_row Submissions) rows)
     → list_all (λ (y : Submission). nat_le (length y.file) POSTED_FILE) (map (λ p. with_file p.0 p.1) (zip xs rows)) ≡ true
 small_files s n [] [] are = refl
 small_files s n [] (r ∷ rows) are = absurd are
 small_files s n (x ∷ xs) [] are = absurd are
 small_files s n (x ∷ xs) (r ∷ rows) are =
-    ap₂ ◌&&◌ (small (length (file_in r)) POSTED_FILE (subst (λ size. size ≤ POSTED_FILE) (sym (size_is s n are.0.0 x r are.0.2)) are.0.1)) (small_files s (n + 1) xs rows are.1)
+    ap₂ ◌&&◌ (le-leb (length (file_in r)) POSTED_FILE (subst (λ size. size ≤ POSTED_FILE) (sym (size_is s n are.0.0 x r are.0.2)) are.0.1)) (small_files s (n + 1) xs rows are.1)
 
 -- the contest that was found
 pub record Found (version : Version) (rows : TableRows) (lists : ContestState) : Type 0 where
@@ -59,16 +58,18 @@ pub record Found (version : Version) (rows : TableRows) (lists : ContestState) :
   pub read : valid_listed_in_version version rows ≡ Some contest
   pub valid : is_valid contest ≡ true
   pub held : loaded contest ≡ lists
+  pub kinds : AreOfKinds contest
 
-pub found : (version : Version) (rows : TableRows) (lists : ContestState) → lists_in_version version (loaded_tables rows) ≡ Some lists → ((x : ContestState) → loaded x ≡ lists → (true && has_small_files x) ≡ is_valid x) → Found version rows lists
-found version rows lists is valid =
+pub found : (version : Version) (rows : TableRows) (lists : ContestState) → lists_in_version version (loaded_tables rows) ≡ Some lists → AreChecked lists → Found version rows lists
+found version rows lists is checked =
     let x = with_files (rows Submissions) lists in
     let are = (contests_write_back version (loaded_tables rows) lists is).submissions in
     let held : loaded x ≡ lists = ap (λ submissions. record lists { submissions = submissions }) (fileless_back lists.fixed.settings 1 lists.submissions (rows Submissions) are (lists_fileless version (loaded_tables rows) lists is)) in
-    let whole : is_valid x ≡ true = sym (valid x held) ∙ small_files lists.fixed.settings 1 lists.submissions (rows Submissions) are in
+    let whole : is_valid x ≡ true = sym (checked.valid x held) ∙ small_files lists.fixed.settings 1 lists.submissions (rows Submissions) are in
     record {
       contest = x;
       read = ap (λ o. option_and_then if_valid (option_map (with_files (rows Submissions)) o)) is ∙ (rw whole refl);
       valid = whole;
       held = held;
+      kinds = loaded_kinds x (subst AreOfKinds (sym held) checked.kinds);
     }

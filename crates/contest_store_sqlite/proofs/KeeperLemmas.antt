@@ -16,9 +16,7 @@ use Rattle.contest_store_tables.specs.declared.counts.Counts.{Counts}
 use Rattle.contest_store_tables.proofs.HoldLemmas.{on_ok}
 use Rattle.contest_store_changes.specs.Additions.{HasAdded}
 use Rattle.contest_store_changes.specs.ContestTables.{table_rows, valid_contest_in}
-use Rattle.contest_store_changes.specs.Kinds.{IsOfKinds}
 use Rattle.contest_store_changes.specs.Sound.{IsSound}
-use Rattle.contest_store_changes.proofs.SoundAdditions.{additions_stay_sound}
 use Rattle.contest_store_changes.proofs.SoundReadings.{sound_contests_read_back}
 use Rattle.contest_store_sqlite.specs.Contests.{committed_of, contest_in_trees, contest_of, may_leave_of, HoldsContests}
 use Rattle.contest_store_sqlite.specs.Keeping.{IsTrusted, StaysCommitted, StaysHeld, StaysKept, kept_of}
@@ -113,7 +111,7 @@ module _ (old new : State) (b a : Counts) (c : ℕ) (l : Bool) (was : StaysKept 
       ((left.0, λ clean. tt, undone new a c false (committed_of old) left.0 left.1.err), left.1)
 
   -- a change, of lists that were taken
-  module _ (lists : ContestState) (e : Entry) (had : StaysHeld old (Some lists)) (may : IsTrusted old → is_addable (contest_of old) e ≡ true) (kinds : IsOfKinds e) where
+  module _ (lists : ContestState) (e : Entry) (had : StaysHeld old (Some lists)) (may : IsTrusted old → is_addable (contest_of old) e ≡ true) where
     admits : Meets old (MayAdd lists e)
     admits clean up = (
         let k = (was clean).holds up in
@@ -125,7 +123,7 @@ module _ (old new : State) (b a : Counts) (c : ℕ) (l : Bool) (was : StaysKept 
         let k = (was clean).holds up in
         let one : h.contest ≡ contest_of old = same_contest (contest_of old) h.contest k.sound h.sound h.shown in
         record {
-          sound = additions_stay_sound (contest_of old) e k.sound (may (trusted old was clean)) kinds;
+          sound = subst (λ x. IsSound (add x e)) one h.after;
           was_sound = k.was_sound;
           holds = subst (λ x. Holds new (Showing (table_rows (add x e))) (kept_in old)) one h.within.0;
         }

@@ -21,3 +21,4 @@ pub mod MadeContests
 pub mod CreatedStores
 pub mod ScoredAdditions
 pub mod UpgradedContests
+pub mod CellessContests

@@ -16,6 +16,7 @@ use Rattle.contest_store_changes.proofs.CellRowsKept.{cells_rise}
 use Rattle.contest_store_changes.proofs.RisingRows.{rises}
 use Rattle.contest_store_changes.proofs.SoundReadings.{tables_loaded}
 use Rattle.contest_store_sqlite.specs.Loading.{AllRise}
+use Rattle.contest_store_changes.proofs.Writable.{writable}
 
 pub sound_rises : (x : ContestState) → IsSound x → AllRise (table_rows x)
 sound_rises x h Desk = rises x h.by_id Desk
@@ -32,7 +33,7 @@ sound_rises x h Cells = cells_rise x (is_placed x h.valid)
 sound_rises x h Notices = rises x h.by_id Notices
 
 pub sound_is_read : (x : ContestState) → IsSound x → lists_in (loaded_tables (table_rows x)) ≡ Some (loaded x)
-sound_is_read x h = ap lists_in (tables_loaded (cell_rows x) x) ∙ contests_read_back x h.writable
+sound_is_read x h = ap lists_in (tables_loaded (cell_rows x) x) ∙ contests_read_back x (writable x h)
 
 -- and no others are
 pub read_sound : (s : State) (lists : ContestState) → ((now : TableRows) (kept : Content) → Holds s (Showing now) kept → AllRise now → lists_in (loaded_tables now) ≡ Some lists)

@@ -7,7 +7,7 @@ use Rattle.contest_types.specs.State.{ContestState, FixedPart}
 use Rattle.contest_types.specs.declared.contest.ContestHead.{ContestHead}
 use Rattle.contest_store.specs.declared.store_error.StoreError.{StoreError}
 use Rattle.contest_store_fixed_rows.specs.Spelling.{without_rows}
-use Rattle.contest_store_tables.specs.Connected.{IsAtRest, IsBare, IsLacking, IsOfDesk}
+use Rattle.contest_store_tables.specs.Connected.{IsAtRest, IsBare, IsCelless, IsLacking, IsOfDesk}
 use Rattle.contest_store_tables.specs.Counts.{CountsCall}
 use Rattle.contest_store_tables.specs.Steps.{Call, Content, Ended, HasFirst, Holds, MakesNone, MakesNow, OnlyMade, Showing, Undoes, Within}
 use Rattle.contest_store_tables.specs.declared.counts.Counts.{Counts}
@@ -126,9 +126,11 @@ no_table one more is = cc
 
 -- where the tables of a desk, all or some, or others stand there are some
 pub not_bare : (s : State) (standing : Standing) → (standing ≡ standings.Desk → IsOfDesk s) → ((table : LaterTable) → standing ≡ standings.Lacking table → IsLacking table s)
-    → (standing ≡ standings.Foreign → (¬ IsOfDesk s) × ((table : LaterTable) → ¬ IsLacking table s) × (¬ IsBare s))
-    → (standing ≡ standings.Desk) ⊎ (((table : LaterTable) × standing ≡ standings.Lacking table) ⊎ (standing ≡ standings.Foreign)) → ¬ IsBare s
-not_bare s standing desk lacking foreign (inl is) bare = no_table _ _ (sym (ap (λ (x : Schema). x.tables) (desk is)) ∙ ap (λ (x : Schema). x.tables) bare)
-not_bare s standing desk lacking foreign (inr (inl (Cells, is))) bare = no_table _ _ (sym (ap (λ (x : Schema). x.tables) (lacking Cells is)) ∙ ap (λ (x : Schema). x.tables) bare)
-not_bare s standing desk lacking foreign (inr (inl (Notices, is))) bare = no_table _ _ (sym (ap (λ (x : Schema). x.tables) (lacking Notices is)) ∙ ap (λ (x : Schema). x.tables) bare)
-not_bare s standing desk lacking foreign (inr (inr is)) bare = (foreign is).2 bare
+    → (standing ≡ standings.Celless → (place : LaterTable) × IsCelless place s)
+    → (standing ≡ standings.Foreign → (¬ IsOfDesk s) × ((table : LaterTable) → ¬ IsLacking table s) × ((place : LaterTable) → ¬ IsCelless place s) × (¬ IsBare s))
+    → (standing ≡ standings.Desk) ⊎ (((table : LaterTable) × standing ≡ standings.Lacking table) ⊎ ((standing ≡ standings.Celless) ⊎ (standing ≡ standings.Foreign))) → ¬ IsBare s
+not_bare s standing desk lacking celless foreign (inl is) bare = no_table _ _ (sym (ap (λ (x : Schema). x.tables) (desk is)) ∙ ap (λ (x : Schema). x.tables) bare)
+not_bare s standing desk lacking celless foreign (inr (inl (Cells, is))) bare = no_table _ _ (sym (ap (λ (x : Schema). x.tables) (lacking Cells is)) ∙ ap (λ (x : Schema). x.tables) bare)
+not_bare s standing desk lacking celless foreign (inr (inl (Notices, is))) bare = no_table _ _ (sym (ap (λ (x : Schema). x.tables) (lacking Notices is)) ∙ ap (λ (x : Schema). x.tables) bare)
+not_bare s standing desk lacking celless foreign (inr (inr (inl is))) bare = no_table _ _ (sym (ap (λ (x : Schema). x.tables) (celless is).1) ∙ ap (λ (x : Schema). x.tables) bare)
+not_bare s standing desk lacking celless foreign (inr (inr (inr is))) bare = (foreign is).3 bare

@@ -8,7 +8,6 @@ use Rattle.contest_types.specs.State.{ContestState, add}
 use Rattle.contest_types.specs.declared.entry.Entry.{Entry}
 use Rattle.contest_store.specs.declared.store_error.StoreError.{StoreError}
 use Rattle.contest_store_tables.specs.Steps.{Content, MakesNone, Showing, Step, Within}
-use Rattle.contest_store_tables.specs.Tables.{TableRows}
 use Rattle.contest_store_tables.specs.declared.counts.Counts.{Counts}
 use Rattle.contest_store_tables.proofs.StepLemmas.{in_turn}
 use Rattle.contest_store_cells.specs.CellRows.{cell_rows}
@@ -19,15 +18,13 @@ use Rattle.contest_store_changes.specs.Kinds.{IsOfKinds}
 use Rattle.contest_store_changes.specs.Sound.{IsSound}
 use Rattle.contest_store_changes.proofs.SoundAdditions.{additions_stay_sound}
 use Rattle.contest_store_changes.proofs.SoundReadings.{sound_listed_reads_back}
+use Rattle.contest_store_changes.proofs.CellWriting.{same_showing}
 
 -- tables show one contest, whatever the cells
 same_listed : (cells more : List Row) (x y : ContestState) → IsSound x → IsSound y → rows_with cells x ≡ rows_with more y → x ≡ y
 same_listed cells more x y one two same =
     let both : Some x ≡ Some y = sym (sound_listed_reads_back cells x one) ∙ ap valid_listed_in same ∙ sound_listed_reads_back more y two in
     cc both
-
-shown_rows : (rows more : TableRows) → Showing rows ≡ Showing more → rows ≡ more
-shown_rows rows more h = cc h
 
 module _ {T U : Type 0} (given : T) (r : Result U StoreError) (old mid new : State) (b m a : Counts) (lists next : ContestState) (e : Entry) (kinds : IsOfKinds e)
     (grown : (x : ContestState) → loaded x ≡ lists → is_addable x e ≡ true → next ≡ loaded (add x e))
@@ -39,7 +36,7 @@ module _ {T U : Type 0} (given : T) (r : Result U StoreError) (old mid new : Sta
   scores : (now kept : Content) → (from : Admits lists e old now kept) → HasListed lists e mid now kept → Scores next e mid (between from.contest) kept
   scores now kept from h =
       let x = from.contest in
-      let same : h.contest ≡ x = same_listed (cell_rows h.contest) (cell_rows x) h.contest x h.sound from.sound (shown_rows (table_rows h.contest) (table_rows x) (sym h.shown ∙ from.shown)) in
+      let same : h.contest ≡ x = same_listed (cell_rows h.contest) (cell_rows x) h.contest x h.sound from.sound (same_showing (table_rows h.contest) (table_rows x) (sym h.shown ∙ from.shown)) in
       record {
         contest = x;
         shown = refl;
@@ -55,8 +52,8 @@ module _ {T U : Type 0} (given : T) (r : Result U StoreError) (old mid new : Sta
       let x = from.contest in
       let z = done.contest in
       let after = additions_stay_sound x e from.sound from.may kinds in
-      let same : add z e ≡ add x e = same_listed (cell_rows z) (cell_rows x) (add z e) (add x e) done.after after (sym (shown_rows (rows_with (cell_rows x) (add x e)) (rows_with (cell_rows z) (add z e)) done.shown)) in
-      record { contest = x; shown = from.shown; sound = from.sound; held = from.held; within = subst (λ (y : ContestState). Within new (Showing (table_rows y)) kept) same done.within }
+      let same : add z e ≡ add x e = same_listed (cell_rows z) (cell_rows x) (add z e) (add x e) done.after after (sym (same_showing (rows_with (cell_rows x) (add x e)) (rows_with (cell_rows z) (add z e)) done.shown)) in
+      record { contest = x; shown = from.shown; sound = from.sound; after = after; held = from.held; within = subst (λ (y : ContestState). Within new (Showing (table_rows y)) kept) same done.within }
 
   pub added_and_scored : Step r old new b a (Admits lists e) (HasAdded lists e) (MakesNone old (Admits lists e))
   added_and_scored =

@@ -1,5 +1,5 @@
 -- The cells of a contest that is opened, compared or filled.
-use Rattle.std.proofs.Common.{◌≡◌, ◌∙◌, ◌<◌, ◌≤◌, ◌+◌, ℕ, zero, suc, Bool, true, List, [], ◌∷◌, ◌++◌, length, map, take, get_or, Result, Ok, Err, refl, rules, sym, ap, subst, arith, IsPermutation}
+use Rattle.std.proofs.Common.{◌≡◌, ◌∙◌, ◌<◌, ◌≤◌, ◌+◌, inl, inr, ℕ, zero, suc, Bool, true, List, [], ◌∷◌, ◌++◌, length, map, take, get_or, Result, Ok, Err, refl, rules, sym, ap, subst, arith, IsPermutation}
 use Rattle.std.specs.Prelude.{◌↔◌, ◌==◌, IsTrue}
 use Rattle.std.specs.List.{AllByRecursion}
 use Rattle.std.proofs.lemmas.Bool.{eqb-true}
@@ -21,7 +21,7 @@ use Rattle.contest_store_cells.proofs.CellOrder.{is_placed}
 use Rattle.contest_store_tables.specs.Schema.{form_of}
 use Rattle.contest_store_tables.specs.Connected.{IsUndone}
 use Rattle.contest_store_tables.specs.Counts.{CountsCall, counted}
-use Rattle.contest_store_tables.proofs.HoldLemmas.{on_err}
+use Rattle.contest_store_tables.proofs.HoldLemmas.{on_err, on_ok}
 use Rattle.contest_store_tables.specs.Statements.{loaded_row}
 use Rattle.contest_store_tables.specs.Steps.{Call, Content, Ended, Full, HasInserted, Holds, IsHeldAsGiven, IsWith, MakesNone, MakesNow, Rises, Showing, Step, Undoes, Within, with_rows}
 use Rattle.contest_store_tables.specs.Tables.{TableRows}
@@ -31,7 +31,7 @@ use Rattle.contest_store_tables.proofs.StepLemmas.{answers, in_turn, leaves, no_
 use Rattle.contest_store_changes.proofs.CellRowsKept.{cell_given, cells_rise}
 use Rattle.contest_store_changes.proofs.CellWriting.{narrowed, same_showing}
 use Rattle.contest_store_changes.proofs.CellsPassed.{put_same, put_twice}
-use Rattle.contest_store_sqlite.specs.Settling.{Fillable, HasFilled, HasSettled, Keeps, MakesRight, Rising, Settleable, Settles, SettlesAny}
+use Rattle.contest_store_sqlite.specs.Settling.{AreCellsOrNone, Fillable, HasFilled, HasSettled, Keeps, MakesRight, Rising, Settleable, Settles, SettlesAny}
 
 front_rises : {X : Type 0} (R : X → X → Type 0) (n : ℕ) (xs : List X) → IsAscending R xs → IsAscending R (take n xs)
 front_rises R zero xs up = tt
@@ -116,7 +116,10 @@ filled_by r old new b a lists cells are =
       none = h.has;
       up = subst (Rises Cells) (sym (are h.contest h.valid h.held)) (cells_rise h.contest (is_placed h.contest h.valid));
     })
-    (λ now kept h done rows shown x valid held. subst (λ (own : List Row). Within new (Showing (with_rows Cells own rows)) kept) (are x valid held) (done rows shown))
+    (λ now kept h done rows shown x valid held. (
+      inl (ap (λ (all : TableRows). all Cells) (sym (same_showing h.rows rows (sym h.shown ∙ shown))) ∙ h.has),
+      subst (λ (own : List Row). Within new (Showing (with_rows Cells own rows)) kept) (are x valid held) (done rows shown),
+    ))
 
 -- what is given up before a cell is filled, where memory was refused
 pub not_listed : (e given : StoreError) (old new : State) (b a : Counts) (lists : ContestState) → e ≡ given → (HasCleanDisk new → IsUndone old new) → a ≡ counted given b → Survives old new (λ _. ⊥)
@@ -132,7 +135,7 @@ compared right s b lists found same = (
   λ clean now kept h is rows shown x valid held.
       (let own : h.rows ≡ rows = same_showing h.rows rows (sym h.shown ∙ shown) in
       let has : rows Cells ≡ cell_rows x = ap (λ (all : TableRows). all Cells) (sym own) ∙ h.has ∙ (same x valid held).0 (subst IsTrue (sym is) (search rules)) in
-      subst (λ (c : Content). Within s c kept) (shown ∙ ap (λ (all : TableRows). Showing all) (sym (put_same (cell_rows x) rows has))) h.within),
+      (inr has, subst (λ (c : Content). Within s c kept) (shown ∙ ap (λ (all : TableRows). Showing all) (sym (put_same (cell_rows x) rows has))) h.within)),
   no_step right s b (Settleable lists found) (λ _ _ _. Unit {0}) (MakesNone s (Settleable lists found)) (λ now kept h. tt),
 )
 
@@ -206,19 +209,21 @@ module _ (r : Result (Unit {0}) StoreError) (old mid new : State) (b m a : Count
   abbrev right : (now kept : Content) → Rising lists old now kept → TableRows
   right now kept h = with_rows Cells (cell_rows h.contest) h.rows
 
-  settled : HasCleanDisk mid → (now kept : Content) → (h : Rising lists old now kept) → Holds mid (Showing (right now kept h)) kept
-  settled clean now kept h = (one.0 clean now kept h is h.rows h.shown h.contest h.valid h.held).0
+  settled : HasCleanDisk mid → (now kept : Content) → (h : Rising lists old now kept) → AreCellsOrNone (h.rows Cells) h.contest × Holds mid (Showing (right now kept h)) kept
+  settled clean now kept h = (let own = one.0 clean now kept h is h.rows h.shown h.contest h.valid h.held in (own.0, own.1.0))
 
   before : HasCleanDisk new → HasCleanDisk mid
   before clean = omega (arith, clean, two.step.survives.clean)
 
   pub committed : Keeps r lists old new
-  committed clean now kept h = two.step.ok clean (Showing (right now kept h)) kept (settled (before clean) now kept h)
+  committed clean now kept h =
+      let own = settled (before clean) now kept h in
+      on_ok r (λ done. (own.0, done)) (two.step.ok clean (Showing (right now kept h)) kept own.1)
 
   pub commits_right : Survives old new (MakesRight lists old)
   commits_right =
       survives_then old mid new (MakesNone old (Rising lists)) _ (MakesRight lists old) (λ _ db none now kept h. absurd (none now kept h))
-      (λ clean db made now kept h. made.1 (Showing (right now kept h)) kept (settled (omega (arith, clean, two.step.survives.clean)) now kept h)) one.1.survives two.step.survives
+      (λ clean db made now kept h. (let own = settled (omega (arith, clean, two.step.survives.clean)) now kept h in (own.0, made.1 (Showing (right now kept h)) kept own.1))) one.1.survives two.step.survives
 
 -- where they aren't right, or weren't compared, nothing is made
 pub makes_none_right : (old new : State) (lists : ContestState) → Survives old new (MakesNone old (Rising lists)) → Survives old new (MakesRight lists old)

@@ -5,6 +5,7 @@ use Rattle.sqlite.specs.State.{HasCleanDisk, State}
 use Rattle.sqlite.specs.Tree.{Trees}
 use Rattle.contest_store.specs.Keeping.{Shows}
 use Rattle.contest_store_tables.specs.Tables.{rows_in}
+use Rattle.contest_store_tables.proofs.CellessLemmas.{lacks_no_cells}
 use Rattle.contest_store_tables.proofs.LaterLemmas.{lacks_none}
 use Rattle.contest_store_tables.specs.declared.counts.Counts.{Counts}
 use Rattle.contest_types.specs.State.{ContestState}
@@ -52,4 +53,5 @@ pub kept_numbered : (s : State) → StaysKept s → IsNumbered s
 kept_numbered s kept = record {
   desk = λ clean up desk. ((kept clean).holds up).holds.shows.2;
   lacking = λ table clean up is. absurd (lacks_none table s.now.schema (((kept clean).holds up).holds.shows.0) is);
+  celless = λ place clean up is. absurd (lacks_no_cells place s.now.schema (((kept clean).holds up).holds.shows.0) is);
 }

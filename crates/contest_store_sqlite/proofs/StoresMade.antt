@@ -25,7 +25,6 @@ read_valid old new counts commits is_loaded lists r = record { contest = r.conte
 pub opened : (old new : State) (counts : Counts) (commits : ℕ) (is_loaded : Bool) (lists : ContestState) → IsRead old new lists → KeepsLists old new → HasCleanDisk new → Opened old (kept_of new counts commits is_loaded)
 opened old new counts commits is_loaded lists r survives clean = record {
   contest = r.contest;
-  desk = r.desk;
   found = r.found;
   shows = shows new r.contest r.contest r.holds counts commits is_loaded;
   crash = λ c left. elim (survives.crash clean left.0 left.1) [ inl before ↦ inl (left.0, before, left.2) | inr filled ↦ inr (filled.0, filled.1, sym left.2 ∙ filled.2) ];

@@ -1,20 +1,20 @@
 -- What is found and left where tables of the first schema are opened or upgraded.
-use Rattle.std.proofs.Common.{◌≡◌, ◌∙◌, Bool, true, false, List, [], Result, Ok, Err, Some, IsTrue, inl, inr, refl, sym, ap, subst, arith}
-use Rattle.std.specs.Prelude.{◌&&◌}
+use Rattle.std.proofs.Common.{◌≡◌, ◌∙◌, ℕ, Bool, true, false, List, [], length, map, get_or, Result, Ok, Err, Some, IsTrue, inl, inr, refl, sym, ap, subst, arith}
 use Rattle.sqlite.specs.Effect.{IsDatabase}
+use Rattle.sqlite.specs.Schema.{Schema}
 use Rattle.sqlite.specs.State.{HasCleanDisk, State, Survives}
+use Rattle.sqlite.specs.Table.{Table}
 use Rattle.sqlite.proofs.StateLemmas.{survives_then, survives_weaker}
 use Rattle.sqlite_value.specs.Order.{Row}
 use Rattle.sqlite_catalog.specs.Listing.{IsSound as IsSoundDatabase}
 use Rattle.contest_lists.specs.Lists.{loaded}
 use Rattle.contest_types.specs.State.{ContestState}
-use Rattle.contest_types.specs.Valid.{is_valid}
 use Rattle.contest_store.specs.declared.store_error.StoreError.{StoreError}
 use Rattle.contest_store_cells.specs.CellRows.{cell_rows}
 use Rattle.contest_store_fixed_rows.specs.FixedParts.{is_desk}
 use Rattle.contest_store_fixed_rows.specs.Spelling.{lists_in_version}
 use Rattle.contest_store_rows.specs.declared.versions.Version.TheVariants.{First}
-use Rattle.contest_store_tables.specs.Connected.{IsAtRest, IsLacking}
+use Rattle.contest_store_tables.specs.Connected.{IsAtRest, IsBare, IsCelless, IsLacking, IsOfDesk}
 use Rattle.contest_store_tables.specs.Numbered.{IsNumbered}
 use Rattle.contest_store_tables.specs.Steps.{Call, Content, Holds, IsLive, Lacking, MakesNone, Rises, Showing, Step, with_rows}
 use Rattle.contest_store_tables.specs.Tables.{TableRows, lacking, rows_in}
@@ -23,9 +23,8 @@ use Rattle.contest_store_tables.specs.declared.later_table.LaterTable.{LaterTabl
 use Rattle.contest_store_tables.specs.declared.later_table.LaterTable.TheVariants as later
 use Rattle.contest_store_tables.specs.declared.table_name.TableName.TheVariants.{Desk, Accounts, Submissions, Clarifications, Cells, Notices}
 use Rattle.contest_store_tables.proofs.HoldLemmas.{lacking_holds, on_ok}
-use Rattle.contest_store_tables.proofs.LaterLemmas.{lacking_rows, rows_lacking}
+use Rattle.contest_store_tables.proofs.LaterLemmas.{lacking_rows, lacks_none, rows_lacking}
 use Rattle.contest_store_tables.proofs.SoundRows.{lacking_rises_in}
-use Rattle.contest_store_valid.specs.Files.{has_small_files}
 use Rattle.contest_store_changes.specs.ContestTables.{list_rows, loaded_tables, rows_with, table_rows}
 use Rattle.contest_store_changes.specs.Upgraded.{first_listed_in, first_rows_with}
 use Rattle.contest_store_changes.specs.UpgradeSteps.{FirstRows, HasUpgraded, ShowsFirst}
@@ -35,9 +34,9 @@ use Rattle.contest_store_changes.proofs.UpgradedTables.{first_contests_sound}
 use Rattle.contest_store_changes.proofs.WideRows.{shown_are_wide}
 use Rattle.contest_store_sqlite.specs.Contests.{first_listed_in_trees}
 use Rattle.contest_store_sqlite.specs.Creation.{KeepsLists}
-use Rattle.contest_store_sqlite.specs.Loading.{AllRise}
+use Rattle.contest_store_sqlite.specs.Loading.{AllRise, AreChecked}
 use Rattle.contest_store_sqlite.specs.Opening.{IsOfFirst}
-use Rattle.contest_store_sqlite.specs.Settling.{Keeps, MakesRight, Rising}
+use Rattle.contest_store_sqlite.specs.Settling.{AreCellsOrNone, Keeps, MakesRight, Rising}
 use Rattle.contest_store_sqlite.specs.Steps.{HasAll, HoldsLacking}
 use Rattle.contest_store_sqlite.specs.Upgrading.{AreWide, IsUpgraded, KeepsUpgraded, MakesMoved, MakesUpgraded, MovesUp, UpgradesTables}
 use Rattle.contest_store_sqlite.proofs.FoundContests.{found}
@@ -80,6 +79,15 @@ module _ (old new : State) (table : LaterTable) (lacks : IsLacking table old) wh
       let read = reads rows (Lacking table rows) (stands old table lacks rests numbered clean on) (climbs old table lacks rests numbered sound clean on Desk) in
       let same : rows Desk ≡ rows_in old.now.trees Desk = ap (λ (all : TableRows). all Desk) (lacking_rows table old.now.trees) ∙ desk_kept table (rows_in old.now.trees) in
       record { table = table; lacks = lacks; version = sym (ap (is_desk First) same) ∙ sym read ∙ is }
+
+  -- and the version that stands is the one that is read
+  pub first_told : (rests : IsTrue old.is_open → IsAtRest old) (sound : IsTrue old.is_open → IsDatabase old.now) (numbered : IsNumbered old) (first : Bool) → HasCleanDisk old → IsTrue old.is_open
+      → ((rows : TableRows) (kept : Content) → Holds old (Lacking table rows) kept → Rises Desk (rows Desk) → first ≡ is_desk First (rows Desk)) → IsOfFirst old → first ≡ true
+  first_told rests sound numbered first clean on reads is =
+      let rows = own old table lacks rests numbered in
+      let read = reads rows (Lacking table rows) (stands old table lacks rests numbered clean on) (climbs old table lacks rests numbered sound clean on Desk) in
+      let same : rows Desk ≡ rows_in old.now.trees Desk = ap (λ (all : TableRows). all Desk) (lacking_rows table old.now.trees) ∙ desk_kept table (rows_in old.now.trees) in
+      read ∙ ap (is_desk First) same ∙ is.version
 
   pub not_made : (outside : old.in_transaction ≡ false) (rests : IsTrue old.is_open → IsAtRest old) (numbered : IsNumbered old) → Survives old new (λ db. (IsLive old → IsTrue old.is_open) × MakesNone old (HoldsLacking table) db)
       → Survives old new (λ _. ⊥)
@@ -127,7 +135,7 @@ module _ (x : Unit {0}) (r : Result (Unit {0}) StoreError) (old mid new : State)
   unfolding rising
   moves_up keeps clean now kept from =
       let u = one.ok (early clean) now kept from in
-      on_ok r (λ done. (u.0, subst (λ (all : TableRows). Holds new (Showing all) (Showing all)) (whole u.0.cells u.0.contest) done)) (keeps clean (Showing (rows_with u.0.cells u.0.contest)) kept (rising now kept u))
+      on_ok r (λ done. (u.0, done.0, subst (λ (all : TableRows). Holds new (Showing all) (Showing all)) (whole u.0.cells u.0.contest) done.1)) (keeps clean (Showing (rows_with u.0.cells u.0.contest)) kept (rising now kept u))
 
   pub makes_moved : Survives old new (MakesMoved lists old)
   unfolding rising
@@ -135,7 +143,8 @@ module _ (x : Unit {0}) (r : Result (Unit {0}) StoreError) (old mid new : State)
       survives_then old mid new _ (MakesRight lists mid) (MakesMoved lists old) (λ _ db none now kept from. absurd (none now kept from))
       (λ clean db made now kept from.
       (let u = one.ok (omega (arith, clean, survives.clean)) now kept from in
-      (u.0, made (Showing (rows_with u.0.cells u.0.contest)) kept (rising now kept u) ∙ whole u.0.cells u.0.contest)))
+      let it = made (Showing (rows_with u.0.cells u.0.contest)) kept (rising now kept u) in
+      (u.0, it.0, it.1 ∙ whole u.0.cells u.0.contest)))
       one.survives survives
 
 pub moved_none : (e : StoreError) (old new : State) (b a : Counts) (lists : ContestState) → Moves {T = Unit {0}} (Err e) old new b a lists
@@ -146,14 +155,14 @@ moved_none e old new b a lists one = survives_weaker old new _ _ (λ _ db none n
 module _ {T : Type 0} (x : T) (old mid new : State) (b m : Counts) (table : LaterTable) (lists : ContestState)
     (one : Call (Ok x) old mid b m (HoldsLacking table) (HasAll table) (MakesNone old (HoldsLacking table)))
     (are : HasCleanDisk mid → (rows : TableRows) (kept : Content) → Holds old (Lacking table rows) kept → AllRise rows → lists_in_version First (loaded_tables rows) ≡ Some lists)
-    (valid : (y : ContestState) → loaded y ≡ lists → (true && has_small_files y) ≡ is_valid y) (survives : Survives mid new (MakesMoved lists mid)) where
+    (checked : AreChecked lists) (survives : Survives mid new (MakesMoved lists mid)) where
   before : HasCleanDisk new → HasCleanDisk mid
   before clean = omega (arith, clean, survives.clean)
 
   showing : (clean : HasCleanDisk mid) (rows : TableRows) (kept : Content) → Holds old (Lacking table rows) kept → AllRise rows → AreWide rows → ShowsFirst lists mid (Showing rows) kept
   showing clean rows kept holds up wide =
-      let f = found First rows lists (are clean rows kept holds up) valid in
-      let own = first_contests_sound rows f.contest (up Accounts) wide.submissions wide.clarifications f.read in (
+      let f = found First rows lists (are clean rows kept holds up) checked in
+      let own = first_contests_sound rows f.contest (up Accounts) wide.submissions wide.clarifications f.kinds f.read in (
         record {
           cells = rows Cells;
           contest = f.contest;
@@ -170,9 +179,13 @@ module _ {T : Type 0} (x : T) (old mid new : State) (b m : Counts) (table : Late
   spelled : (rows : TableRows) (g : FirstRows lists (Showing rows)) → first_listed_in rows ≡ Some g.contest
   spelled rows g = ap first_listed_in (same_showing rows (first_rows_with g.cells g.contest) g.shown) ∙ g.found
 
+  -- and the cells are those that stood
+  own_cells : (rows : TableRows) (g : FirstRows lists (Showing rows)) → AreCellsOrNone g.cells g.contest → AreCellsOrNone (rows Cells) g.contest
+  own_cells rows g = subst (λ (cells : List Row). AreCellsOrNone cells g.contest) (sym (ap (λ (all : TableRows). all Cells) (same_showing rows (first_rows_with g.cells g.contest) g.shown)))
+
   pub upgrades_tables : (r : Result (Unit {0}) StoreError) → MovesUp r lists mid new → UpgradesTables r table old new
   upgrades_tables r moves clean rows kept holds up wide =
-      on_ok r (λ done. (done.0.contest, spelled rows done.0, done.0.sound, done.1)) (moves clean (Showing rows) kept (showing (before clean) rows kept holds up wide))
+      on_ok r (λ done. (done.0.contest, spelled rows done.0, done.0.sound, own_cells rows done.0 done.1, done.2)) (moves clean (Showing rows) kept (showing (before clean) rows kept holds up wide))
 
   pub makes_upgraded : Survives old new (MakesUpgraded table old)
   makes_upgraded =
@@ -180,7 +193,7 @@ module _ {T : Type 0} (x : T) (old mid new : State) (b m : Counts) (table : Late
       (λ _ db none. (none.0, λ rows kept holds up wide. absurd (none.1 (Lacking table rows) kept (holds, (rows, refl)))))
       (λ clean db made.
       (let after : HasCleanDisk mid = omega (arith, clean, survives.clean) in
-      (one.up after, λ rows kept holds up wide. (let it = made (Showing rows) kept (showing after rows kept holds up wide) in (it.0.contest, spelled rows it.0, it.0.sound, it.1)))))
+      (one.up after, λ rows kept holds up wide. (let it = made (Showing rows) kept (showing after rows kept holds up wide) in (it.0.contest, spelled rows it.0, it.0.sound, own_cells rows it.0 it.1, it.2)))))
       one.step.survives survives
 
 -- where no valid contest was found nothing is made
@@ -214,7 +227,7 @@ module _ (old new : State) (table : LaterTable) (lacks : IsLacking table old) (o
       let on = up clean (not_live old.in_transaction outside) in
       let early : HasCleanDisk old = omega (arith, clean, survives.clean) in
       let it = upgrades clean rows (Lacking table rows) (stands old table lacks rests numbered early on) (climbs old table lacks rests numbered sound early on) wide in
-      record { contest = it.0; table = table; lacked = lacks; found = listed ∙ it.1; holds = record { sound = it.2; was_sound = it.2; holds = it.3 } }
+      record { contest = it.0; table = table; lacked = lacks; found = listed ∙ it.1; cells = it.3; holds = record { sound = it.2; was_sound = it.2; holds = it.4 } }
 
   pub keeps_upgraded : KeepsUpgraded old new
   keeps_upgraded =
@@ -222,5 +235,23 @@ module _ (old new : State) (table : LaterTable) (lacks : IsLacking table old) (o
       (let on = made.0 (not_live old.in_transaction outside) in
       let early : HasCleanDisk old = omega (arith, clean, survives.clean) in
       let it = made.1 rows (Lacking table rows) (stands old table lacks rests numbered early on) (climbs old table lacks rests numbered sound early on) wide in
-      inr (it.0, listed ∙ it.1, shown_is db it.0 it.2 it.3)))
+      inr (it.0, listed ∙ it.1, (table, lacks, it.3), shown_is db it.0 it.2 it.4)))
       survives
+
+-- tables that are of the first schema are none of these
+pub not_of_desk : (s : State) → IsOfFirst s → IsOfDesk s → ⊥
+not_of_desk s first desk = lacks_none first.table s.now.schema desk first.lacks
+
+pub not_celless : (s : State) → IsOfFirst s → (place : LaterTable) × IsCelless place s → ⊥
+not_celless s first is = go first.table first.lacks
+  where
+    go : (table : LaterTable) → IsLacking table s → ⊥
+    go later.Cells lacks = let same : 10 ≡ 11 = ap (λ (it : Schema). length it.tables) (sym lacks ∙ is.1) in omega (arith, same)
+    go later.Notices lacks = let same : 7 ≡ 11 = ap (λ (it : Schema). get_or (map (λ (t : Table). length t.columns) it.tables) 10 0) (sym lacks ∙ is.1) in omega (arith, same)
+
+pub not_bare : (s : State) → IsOfFirst s → IsBare s → ⊥
+not_bare s first is = go first.table first.lacks
+  where
+    go : (table : LaterTable) → IsLacking table s → ⊥
+    go later.Cells lacks = let same : 10 ≡ 0 = ap (λ (it : Schema). length it.tables) (sym lacks ∙ is) in omega (arith, same)
+    go later.Notices lacks = let same : 11 ≡ 0 = ap (λ (it : Schema). length it.tables) (sym lacks ∙ is) in omega (arith, same)

@@ -4,7 +4,7 @@ use Rattle.sqlite.specs.State.{HasCleanDisk, State}
 use Rattle.sqlite.proofs.StateLemmas.{survives_then}
 use Rattle.contest_store.specs.declared.store_error.StoreError.{StoreError}
 use Rattle.contest_store_tables.specs.Counts.{CountsCall}
-use Rattle.contest_store_tables.specs.Steps.{Call, Content, Full, FullLacking, HasLater, Lacking, MakesNone, Showing, Step, Undoes, Within}
+use Rattle.contest_store_tables.specs.Steps.{Call, Content, Full, Holding, FullLacking, HasLater, Lacking, MakesNone, Showing, Step, Undoes, Within}
 use Rattle.contest_store_tables.specs.Tables.{TableRows}
 use Rattle.contest_store_tables.specs.declared.counts.Counts.{Counts}
 use Rattle.contest_store_tables.specs.declared.later_table.LaterTable.{LaterTable}
@@ -33,30 +33,37 @@ both_made x r old mid new b m a one two =
     (λ db on none now kept full. none (Lacking Notices full.1.0) kept (on now kept full full.1.0 full.1.1, (full.1.0, refl)))
     (λ db none. none)
 
--- a transaction in which they stand, and then a step that leaves them as they are
-module _ {T U : Type 0} (x : U) (r : Result T StoreError) (old mid new : State) (b m a : Counts) (table : LaterTable)
-    (one : Call (Ok x) old mid b m (HoldsLacking table) (HasAll table) (MakesNone old (HoldsLacking table))) (two : Reads r mid new m a) where
+-- a transaction in which these rows stand, and then a step that leaves them as they are
+module _ {T U : Type 0} (x : U) (r : Result T StoreError) (old mid new : State) (b m a : Counts) (From To : Holding) (left : (now kept : Content) → From old now kept → TableRows)
+    (leads : (now kept : Content) → (h : From old now kept) → To mid now kept → Within mid (Showing (left now kept h)) kept)
+    (ends : (now kept : Content) → (h : From old now kept) → Within new (Showing (left now kept h)) kept → To new now kept)
+    (one : Call (Ok x) old mid b m From To (MakesNone old From)) (two : Reads r mid new m a) where
   early : HasCleanDisk new → HasCleanDisk mid
   early clean = omega (arith, clean, two.survives.clean)
 
-  full : HasCleanDisk mid → (now kept : Content) → (h : HoldsLacking table old now kept) → Full mid (Showing h.1.0) kept
-  full clean now kept h = (one.step.ok clean now kept h h.1.0 h.1.1, (h.1.0, refl))
+  full : HasCleanDisk mid → (now kept : Content) → (h : From old now kept) → Full mid (Showing (left now kept h)) kept
+  full clean now kept h = (leads now kept h (one.step.ok clean now kept h), (left now kept h, refl))
 
-  ends : (now kept : Content) → (h : HoldsLacking table old now kept) → Full new (Showing h.1.0) kept → HasAll table new now kept
-  ends now kept h done rows is = subst (λ (all : TableRows). Within new (Showing all) kept) (one_content table h.1.0 rows (sym h.1.1 ∙ is)) done.0
-
-  pub whole_then : Call r old new b a (HoldsLacking table) (HasAll table) (MakesNone old (HoldsLacking table))
-  whole_then = record {
+  pub begun_and_read : Call r old new b a From To (MakesNone old From)
+  begun_and_read = record {
     step = record {
-      ok = λ clean now kept h. on_ok r (ends now kept h) (two.ok clean (Showing h.1.0) kept (full (early clean) now kept h));
-      err = λ clean. on_err r (λ (u : Undoes mid new Full). record { autocommit = u.autocommit; holds = λ is now kept h. u.holds is (Showing h.1.0) kept (full (early clean) now kept h) }) (two.err clean);
+      ok = λ clean now kept h. on_ok r (λ (done : Full new (Showing (left now kept h)) kept). ends now kept h done.0) (two.ok clean (Showing (left now kept h)) kept (full (early clean) now kept h));
+      err = λ clean. on_err r (λ (u : Undoes mid new Full). record { autocommit = u.autocommit; holds = λ is now kept h. u.holds is (Showing (left now kept h)) kept (full (early clean) now kept h) }) (two.err clean);
       counts = subst (λ n. CountsCall r n a) one.step.counts two.counts;
       survives = survives_then old mid new _ (MakesNone mid Full) _ (λ _ db made. made)
           (λ clean db none.
           let before : HasCleanDisk mid = omega (arith, clean, two.survives.clean) in
-          (one.up before, λ now kept h. none (Showing h.1.0) kept (full before now kept h)))
+          (one.up before, λ now kept h. none (Showing (left now kept h)) kept (full before now kept h)))
           one.step.survives two.survives;
     };
     up = λ clean live. any_ok r (one.up (early clean) live);
     back = λ clean live. any_err r (λ _. one.up (early clean) live);
   }
+
+-- those of a desk that lacked some
+module _ {T U : Type 0} (x : U) (r : Result T StoreError) (old mid new : State) (b m a : Counts) (table : LaterTable)
+    (one : Call (Ok x) old mid b m (HoldsLacking table) (HasAll table) (MakesNone old (HoldsLacking table))) (two : Reads r mid new m a) where
+  pub whole_then : Call r old new b a (HoldsLacking table) (HasAll table) (MakesNone old (HoldsLacking table))
+  whole_then =
+      begun_and_read x r old mid new b m a (HoldsLacking table) (HasAll table) (λ now kept h. h.1.0) (λ now kept h all. all h.1.0 h.1.1)
+      (λ now kept h within rows is. subst (λ (all : TableRows). Within new (Showing all) kept) (one_content table h.1.0 rows (sym h.1.1 ∙ is)) within) one two

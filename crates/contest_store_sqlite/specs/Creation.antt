@@ -18,8 +18,8 @@ use Rattle.contest_store_tables.specs.Steps.{Content, Holding, Holds, OnlyMade, 
 use Rattle.contest_store_tables.specs.Tables.{rows_in}
 use Rattle.contest_store_changes.specs.ContestTables.{table_rows}
 use Rattle.contest_store_changes.specs.Kinds.{IsMoment}
-use Rattle.contest_store_sqlite.specs.Contests.{contest_in_trees, HoldsContests, listed_in_trees, may_leave_of}
-use Rattle.contest_store_sqlite.specs.Opening.{IsRead, Opened}
+use Rattle.contest_store_sqlite.specs.Contests.{contest_in_trees, HoldsContests, may_leave_of}
+use Rattle.contest_store_sqlite.specs.Opening.{FindsContest, IsRead, Opened}
 use Rattle.contest_store_sqlite.specs.declared.open_error.OpenError.{OpenError}
 use Rattle.contest_store_sqlite.specs.declared.open_error.OpenError.TheVariants as open_error
 
@@ -36,12 +36,12 @@ pub record StoodEqual (c : Contest) (s : State) (kept : Kept) : Type 0 where
 
 -- trees show the valid contest whose lists stood, with its cells
 abbrev pub IsFilled : State → Trees → Type 0
-IsFilled s db = (x : ContestState) × (listed_in_trees s.now.trees ≡ Some x) × (contest_in_trees db ≡ Some x)
+IsFilled s db = (x : ContestState) × FindsContest s x × (contest_in_trees db ≡ Some x)
 
 -- the lists of a valid contest stood with another head, and no transaction is left
 pub record StoodOther (head : ContestHead) (s after : State) : Type 0 where
   pub contest : ContestState
-  pub found : listed_in_trees s.now.trees ≡ Some contest
+  pub found : FindsContest s contest
   pub other : contest.fixed.settings.head ≢ head
   pub autocommit : after.in_transaction ≡ false
 

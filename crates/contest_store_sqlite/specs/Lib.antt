@@ -8,4 +8,5 @@ pub mod Steps
 pub mod Opening
 pub mod Creation
 pub mod Settling
+pub mod Celless
 pub mod Upgrading

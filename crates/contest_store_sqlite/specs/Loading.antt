@@ -1,10 +1,15 @@
 -- The rows of the tables of the lists, as they are loaded one table after the other.
-use Rattle.std.specs.Prelude.{List, [], ◌∷◌, ◌++◌}
+use Rattle.std.specs.Prelude.{◌≡◌, ◌&&◌, true, List, [], ◌∷◌, ◌++◌}
 use Rattle.sqlite_value.specs.Order.{Row}
+use Rattle.contest_lists.specs.Lists.{loaded}
+use Rattle.contest_types.specs.State.{ContestState}
+use Rattle.contest_types.specs.Valid.{is_valid}
 use Rattle.contest_store_rows.specs.Tables.{Tables}
 use Rattle.contest_store_tables.specs.Schema.{first_tables}
 use Rattle.contest_store_tables.specs.Steps.{Rises}
 use Rattle.contest_store_tables.specs.Tables.{TableRows}
+use Rattle.contest_store_valid.specs.Files.{has_small_files}
+use Rattle.contest_store_changes.specs.Kinds.{AreOfKinds}
 use Rattle.contest_store_tables.specs.declared.table_name.TableName.{TableName}
 use Rattle.contest_store_tables.specs.declared.table_name.TableName.TheVariants.{Desk, Contest, Items, Accounts, Submissions, Proposals, Releases, Rejudgings, Members, Clarifications, Cells, Notices}
 
@@ -33,3 +38,8 @@ with_loaded Members rows t = record t { members = rows }
 with_loaded Clarifications rows t = record t { clarifications = rows }
 with_loaded Notices rows t = record t { notices = rows }
 with_loaded Cells rows t = t
+
+-- lists that were read passed all tests: a contest with these lists is valid if its files are small; and they are of their kinds
+pub record AreChecked (lists : ContestState) : Type 0 where
+  pub valid : (x : ContestState) → loaded x ≡ lists → (true && has_small_files x) ≡ is_valid x
+  pub kinds : AreOfKinds lists

@@ -5,25 +5,25 @@ ghost use Rattle.contest_types.specs.Addable.{is_addable};
 ghost use Rattle.contest_types.specs.State.{ContestState, add};
 ghost use Rattle.contest_store_tables.specs.Connected.{shown_by, counts_of};
 ghost use Rattle.contest_store_tables.specs.Steps.{Call, Step, MakesNone};
-ghost use Rattle.contest_store_changes.specs.Additions.{Admits, Appends, HasAdded};
+ghost use Rattle.contest_store_changes.specs.Additions.{Admits, HasAdded};
 ghost use Rattle.contest_store_changes.specs.CellSteps.{HasScored, Scores};
 ghost use Rattle.contest_store_sqlite.specs.Steps.{MayAdd};
 
 use contest_store::{ScoredLists, StoreError};
-use contest_store_changes::{append, is_of_kinds, keep_cells};
+use contest_store_changes::{is_of_kinds, keep_cells, write_entry};
 use contest_store_tables::Tables;
 use contest_types::Entry;
 use sqlite::Alter;
 use std::alloc::{AllocError, Global};
 
-/// The lists with one change, which is made in the tables too, and in their cells, in a transaction, which
-/// is begun where there is none.
+/// The lists with one change, which is made in the tables too, and in their cells, in a
+/// transaction, which is begun where there is none.
 ///
 /// # Errors
 ///
-/// `Memory` where a growth was refused, and `Fault` where the connection failed for another cause. No
-/// change stands then that wasn't committed.
-pub(crate) fn add<S: Alter>(
+/// `Memory` where a growth was refused, and `Fault` where the connection failed for another cause.
+/// No change stands then that wasn't committed.
+pub(crate) fn add_everywhere<S: Alter>(
     tables: &mut Tables<S>,
     alloc: Global,
     lists: ScoredLists,
@@ -53,7 +53,7 @@ fn add_within<S: Alter>(
         (MakesNone (shown_by S.Store tables.old) (Admits lists entry.now)) }
 {
     is_of_kinds(entry);
-    match append_scored(tables, alloc, &lists, entry) {
+    match write_entry(tables, alloc, lists.lists(), entry) {
         Ok(()) => match lists.add(alloc, entry) {
             Ok(changed) => keep_scored(tables, changed, entry),
             Err(AllocError) => Err(tables.out_of_memory()),
@@ -82,16 +82,4 @@ fn keep_scored<S: Alter>(
             Err(error)
         }
     }
-}
-
-// Makes one change in the tables of the lists of a contest with these lists; its cells are as they were.
-fn append_scored<S: Alter>(
-    tables: &mut Tables<S>,
-    alloc: Global,
-    lists: &ScoredLists,
-    entry: &Entry,
-) -> Result<(), StoreError>
-    ensures { Appends result (shown_by S.Store tables.old) (shown_by S.Store tables.new) (counts_of tables.old) (counts_of tables.new) lists.now entry.now }
-{
-    append(tables, alloc, lists.lists(), entry)
 }

@@ -4,7 +4,8 @@ ghost use Rattle.contest_store_cells.specs.PlacedCells.{placed_row};
 ghost use Rattle.contest_store_tables.specs.Connected.{counts_of, shown_by};
 ghost use Rattle.contest_store_tables.specs.Steps.{Full, HasInserted, MakesNone, Step};
 ghost use Rattle.contest_store_tables.specs.declared.table_name.TableName.TheVariants.{Cells};
-ghost use Rattle.contest_store_sqlite.specs.Settling.{Fillable, HasFilled, HasSettled, Settleable, Settles, SettlesAny};
+ghost use Rattle.contest_store_sqlite.specs.Settling.{Fillable, HasFilled, HasSettled, Settleable};
+ghost use Rattle.contest_store_sqlite.specs.Settling.{Settles, SettlesAny};
 
 use contest_store::{ScoredLists, StoreError};
 use contest_store_cells::{PlacedCell, are_cells, cell_cells, placed_cells};
@@ -13,8 +14,8 @@ use contest_types::Settings;
 use sqlite::{Alter, Row};
 use std::alloc::{AllocError, Global};
 
-/// Whether the cells in the tables are those of these lists, once they are filled where there was none. It
-/// is within a transaction.
+/// Whether the cells in the tables are those of these lists, once they are filled where there was
+/// none. It is within a transaction.
 ///
 /// # Errors
 ///

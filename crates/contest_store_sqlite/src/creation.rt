@@ -1,5 +1,7 @@
-//! A contest that is set up: its tables are made where there is none, and compared where they stand.
-ghost use Rattle.std.specs.Prelude.{◌≡◌, ◌⊎◌, ◌↔◌, [], IfErr, IfOk, IfSome, IsTrue, OnOk, false, true};
+//! A contest that is set up: its tables are made where there is none, and compared where they
+//! stand.
+ghost use Rattle.std.specs.Prelude.{◌≡◌, ◌⊎◌, ◌↔◌, [], IfErr, IfOk, IfSome, IsTrue, OnOk, false};
+ghost use Rattle.std.specs.Prelude.{true};
 ghost use Rattle.sqlite.specs.State.{HasCleanDisk};
 ghost use Rattle.contest_types.specs.State.{new_contest};
 ghost use Rattle.contest_types.specs.Valid.{is_valid};
@@ -8,7 +10,11 @@ ghost use Rattle.contest_store_tables.specs.Connected.{IsBare, counts_of, shown_
 ghost use Rattle.contest_store_tables.specs.Steps.{Call, HasFirst, MakesNone, Step};
 ghost use Rattle.contest_store_changes.specs.Kinds.{IsMoment};
 ghost use Rattle.contest_store_changes.specs.Sound.{IsSound};
-ghost use Rattle.contest_store_sqlite.specs.Creation.{HasContest, HasHeadAlone, HasNoRow, HoldsNone, IsMade, IsOfKindsContest, IsOfOpen, IsReadEqual, KeepsLists, KeepsContest, LeavesEither, LeavesWhole, MakesContest, StoodOther};
+ghost use Rattle.contest_store_sqlite.specs.Creation.{HasContest, HasHeadAlone, HasNoRow};
+ghost use Rattle.contest_store_sqlite.specs.Creation.{HoldsNone, IsMade, IsOfKindsContest};
+ghost use Rattle.contest_store_sqlite.specs.Creation.{IsOfOpen, IsReadEqual, KeepsLists};
+ghost use Rattle.contest_store_sqlite.specs.Creation.{KeepsContest, LeavesEither, LeavesWhole};
+ghost use Rattle.contest_store_sqlite.specs.Creation.{MakesContest, StoodOther};
 ghost use Rattle.contest_store_sqlite.specs.Opening.{IsOfFirst};
 ghost use Rattle.contest_store_tables.specs.Numbered.{IsNumbered};
 
@@ -35,7 +41,7 @@ pub(crate) fn new_fixed(alloc: Global, contest: Contest) -> Result<Rc<Fixed>, Re
     ensures sound { OnOk result (IsSound (new_contest contest)) }
     ensures refused { IfErr result (λ e. (e ≡ Refusal.Memory) ⊎ ((e ≡ Refusal.Malformed) × (is_valid (new_contest contest) ≡ false))) }
 {
-    is_of_kinds(&contest);
+    contest_is_of_kinds(&contest);
     let Contest { head, start } = contest;
     match Settings::new(alloc, head) {
         Ok(settings) => shared_if_valid(
@@ -77,7 +83,7 @@ fn share_if<T: Drop>(alloc: Global, value: T, is_valid: bool) -> Result<Rc<T>, R
 }
 
 // What the types of a contest keep true of its texts and its start: their own calls say it.
-fn is_of_kinds(contest: &Contest)
+fn contest_is_of_kinds(contest: &Contest)
     ensures { IsOfKindsContest contest.now }
 {
     let _ = contest.head.id.as_str();
@@ -96,14 +102,16 @@ fn is_moment_if_any(start: Option<Moment>)
     }
 }
 
-/// The lists of the contest with this fixed part, whose tables are made where no table stands, or of
-/// the one that stands, where its head is the same. Cells that the one that stands lacks are filled.
+/// The lists of the contest with this fixed part, whose tables are made where no table stands, or
+/// of the one that stands, where its head is the same. Cells that the one that stands lacks are
+/// filled.
 ///
 /// # Errors
 ///
-/// `KeyReused` where another contest stands; then no transaction is left. `OldSchema` where the tables are
-/// those of the first schema. `Memory` where a growth was refused. `StoreFault` where the connection failed
-/// for another cause, where a transaction stands already, or where the tables show no valid contest.
+/// `KeyReused` where another contest stands; then no transaction is left. `OldSchema` where the
+/// tables are those of the first schema. `Memory` where a growth was refused. `StoreFault` where
+/// the connection failed for another cause, where a transaction stands already, or where the tables
+/// show no valid contest.
 pub(crate) fn make_or_read<S: Alter>(
     tables: &mut Tables<S>,
     alloc: Global,
@@ -131,11 +139,9 @@ pub(crate) fn make_or_read<S: Alter>(
             Ok(lists) => Ok(lists),
             Err(error) => Err(OpenError::Store(error).refusal()),
         },
-        Standing::Desk | Standing::Lacking(_) | Standing::Foreign => read_equal(
-            tables,
-            alloc,
-            fixed.settings.head(),
-        ),
+        Standing::Desk | Standing::Lacking(_) | Standing::Celless | Standing::Foreign => {
+            read_equal(tables, alloc, fixed.settings.head())
+        }
     }
 }
 

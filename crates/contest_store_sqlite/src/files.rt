@@ -6,7 +6,8 @@ ghost use Rattle.sqlite.specs.State.{HasCleanDisk};
 ghost use Rattle.contest_types.specs.Loads.{file_of};
 ghost use Rattle.contest_types.specs.State.{ContestState};
 ghost use Rattle.contest_store_tables.specs.Connected.{shown_by, counts_of};
-ghost use Rattle.contest_store_tables.specs.Steps.{Call, Step, Content, Full, Holds, MakesNone, Showing, Within};
+ghost use Rattle.contest_store_tables.specs.Steps.{Call, Step, Content, Full, Holds, MakesNone};
+ghost use Rattle.contest_store_tables.specs.Steps.{Showing, Within};
 ghost use Rattle.contest_store_changes.specs.ContestTables.{bytes_of, table_rows};
 ghost use Rattle.contest_store_changes.specs.Sound.{IsSound};
 ghost use Rattle.contest_store_sqlite.specs.Steps.{HoldsDesk};
@@ -19,8 +20,8 @@ use sqlite::types::ValueRef;
 use sqlite::{Alter, Row};
 use std::alloc::{AllocError, Global};
 
-/// The file of the submission with a number, from 1, of the team at a place, from 0, in a transaction,
-/// which is begun where there is none; none where there is no such submission.
+/// The file of the submission with a number, from 1, of the team at a place, from 0, in a
+/// transaction, which is begun where there is none; none where there is no such submission.
 ///
 /// # Errors
 ///

@@ -1,5 +1,14 @@
 //! The tables of a contest, with the lists that were read from them.
-ghost use Rattle.std.specs.Prelude.{◌≡◌, IfOk, IsTrue, Ok, OnErr, OnOk, false, is_ok, is_some, Some, None, true};
+//!
+//! 1. Lists that are held are those that the tables show, changes that aren't committed yet among
+//!    them (`IsWhole`: each call asks for it and leaves it so).
+//! 2. What fails leaves no lists and no change that wasn't committed; the next load reads the lists
+//!    again (`fail`, clause `dropped`).
+//! 3. A change is made in the tables, in the lists and in the cells, or nowhere (`append`, clause
+//!    `leaves`).
+//! 4. A commit without a change asks nothing of the connection (`commit`, clause `nothing`).
+ghost use Rattle.std.specs.Prelude.{◌≡◌, IfOk, IsTrue, Ok, OnErr, OnOk, false, is_ok, is_some};
+ghost use Rattle.std.specs.Prelude.{Some, None, true};
 ghost use Rattle.sqlite.specs.State.{HasCleanDisk};
 ghost use Rattle.contest_store.specs.Keeping.{Reads, Adds, Commits};
 ghost use Rattle.contest_types.specs.Addable.{is_addable};
@@ -9,11 +18,10 @@ ghost use Rattle.contest_streams.specs.Streams.{one_more};
 ghost use Rattle.contest_store_tables.specs.Connected.{shown_by};
 ghost use Rattle.contest_store_sqlite.specs.Keepers.{keeps, IsWhole};
 
-use crate::additions::add;
+use crate::additions::add_everywhere;
 use crate::files::load_file;
 use crate::reads::load_lists;
 use contest_store::{ScoredLists, StoreError};
-use contest_store_changes::is_of_kinds;
 use contest_store_tables::{Tables, one_more};
 use contest_types::{Entry, Rows};
 use sqlite::Alter;
@@ -106,28 +114,15 @@ impl<S: Alter> Keeper<S> {
         ensures changed { self.new.is_changed ≡ is_ok result }
     {
         match self.held.take() {
-            Some(lists) => self.add(alloc, lists, entry),
+            Some(lists) => match add_everywhere(&mut self.tables, alloc, lists, entry) {
+                Ok(changed) => {
+                    self.held = Some(changed);
+                    self.is_changed = true;
+                    Ok(())
+                }
+                Err(error) => Err(self.fail(error)),
+            },
             None => unreachable!(),
-        }
-    }
-
-    // The lists were taken, and are put back with the change.
-    fn add(&mut self, alloc: Global, lists: ScoredLists, entry: &Entry) -> Result<(), StoreError>
-        requires whole { IsWhole S.Store (record self.old { held = Some lists }) }
-        requires taken { self.old.held ≡ None }
-        requires addable { (keeps S.Store self.old).is_clean → is_addable (keeps S.Store self.old).contest entry.now ≡ true }
-        ensures whole { IsWhole S.Store self.new }
-        ensures leaves { Adds result (keeps S.Store (record self.old { held = Some lists })) (keeps S.Store self.new) (add (keeps S.Store self.old).contest entry.now) }
-        ensures changed { self.new.is_changed ≡ is_ok result }
-    {
-        is_of_kinds(entry);
-        match add(&mut self.tables, alloc, lists, entry) {
-            Ok(changed) => {
-                self.held = Some(changed);
-                self.is_changed = true;
-                Ok(())
-            }
-            Err(error) => Err(self.fail(error)),
         }
     }
 

@@ -2,6 +2,7 @@
 #![tactic(auto)]
 
 mod additions;
+mod celless;
 mod cells;
 mod creation;
 mod files;

@@ -1,4 +1,12 @@
-//! Tables of a desk that lacks some: those are made in a transaction, so that all statements are understood.
+//! Tables of a desk that lacks some: those are made in a transaction, so that all statements are
+//! understood.
+//!
+//! 1. What lacks tables is of the first schema or of no known one, and is told so
+//!    (`older_error`).
+//! 2. The tables that are made to ask that are undone: nothing of them is committed
+//!    (`older_error`, clause `survives`).
+//! 3. All that lack are made in one transaction, in the order in which a desk makes them
+//!    (`begin_whole`, `make_both`).
 ghost use Rattle.std.specs.Prelude.{◌≡◌, IfOk, IsTrue, false, true};
 ghost use Rattle.sqlite.specs.Effect.{IsDatabase};
 ghost use Rattle.sqlite.specs.State.{HasCleanDisk, Survives};
@@ -6,11 +14,13 @@ ghost use Rattle.contest_store_fixed_rows.specs.FixedParts.{is_desk};
 ghost use Rattle.contest_store_rows.specs.declared.versions.Version.TheVariants.{First};
 ghost use Rattle.contest_store_tables.specs.Connected.{IsAtRest, IsLacking, shown_by, counts_of};
 ghost use Rattle.contest_store_tables.specs.Numbered.{IsNumbered};
-ghost use Rattle.contest_store_tables.specs.Steps.{Call, Content, Full, FullLacking, Holds, Lacking, MakesNone, Rises, Showing, Step, Within};
+ghost use Rattle.contest_store_tables.specs.Steps.{Call, Content, Full, FullLacking, Holds};
+ghost use Rattle.contest_store_tables.specs.Steps.{Lacking, MakesNone, Rises, Showing, Step};
+ghost use Rattle.contest_store_tables.specs.Steps.{Within};
 ghost use Rattle.contest_store_tables.specs.Tables.{TableRows};
 ghost use Rattle.contest_store_tables.specs.declared.later_table.LaterTable.TheVariants.{Cells};
 ghost use Rattle.contest_store_tables.specs.declared.table_name.TableName.TheVariants.{Desk};
-ghost use Rattle.contest_store_sqlite.specs.Opening.{IsOfFirst};
+ghost use Rattle.contest_store_sqlite.specs.Opening.{IsOfFirst, TellsFirst};
 ghost use Rattle.contest_store_sqlite.specs.Steps.{HasAll, HoldsLacking};
 
 use crate::open_error::OpenError;
@@ -20,8 +30,8 @@ use contest_store_rows::Version;
 use contest_store_tables::{LaterTable, TableName, Tables};
 use sqlite::Alter;
 
-/// Why the tables of a desk that lacks this one aren't opened: they are of the first schema, or of no
-/// known one.
+/// Why the tables of a desk that lacks this one aren't opened: they are of the first schema, or of
+/// no known one.
 pub(crate) fn older_error<S: Alter>(tables: &mut Tables<S>, table: LaterTable) -> OpenError
     requires numbered { IsNumbered (shown_by S.Store tables.old) }
     requires lacks { IsLacking table (shown_by S.Store tables.old) }
@@ -29,6 +39,7 @@ pub(crate) fn older_error<S: Alter>(tables: &mut Tables<S>, table: LaterTable) -
     requires rest { IsTrue (shown_by S.Store tables.old).is_open → IsAtRest (shown_by S.Store tables.old) }
     requires sound { IsTrue (shown_by S.Store tables.old).is_open → IsDatabase (shown_by S.Store tables.old).now }
     ensures first { HasCleanDisk (shown_by S.Store tables.new) → result ≡ OpenError.OldSchema → IsTrue (shown_by S.Store tables.old).is_open → IsOfFirst (shown_by S.Store tables.old) }
+    ensures told { HasCleanDisk (shown_by S.Store tables.new) → IsTrue (shown_by S.Store tables.old).is_open → IsOfFirst (shown_by S.Store tables.old) → TellsFirst result (counts_of tables.old) (counts_of tables.new) }
     ensures survives { Survives (shown_by S.Store tables.old) (shown_by S.Store tables.new) (λ _. ⊥) }
 {
     match begin_older(tables, table) {
@@ -41,7 +52,8 @@ pub(crate) fn older_error<S: Alter>(tables: &mut Tables<S>, table: LaterTable) -
 }
 
 fn version_error(is_first: bool) -> OpenError
-    ensures { result ≡ OpenError.OldSchema → is_first ≡ true }
+    ensures first { result ≡ OpenError.OldSchema → is_first ≡ true }
+    ensures told { is_first ≡ true → result ≡ OpenError.OldSchema }
 {
     if is_first {
         OpenError::OldSchema
@@ -93,7 +105,9 @@ fn make_whole<S: Alter>(tables: &mut Tables<S>, table: LaterTable) -> Result<(),
     }
 }
 
-fn make_both<S: Alter>(tables: &mut Tables<S>) -> Result<(), StoreError>
+/// Makes the tables of the cells and of the notices, which a desk's first tables lack, within a
+/// transaction.
+pub(crate) fn make_both<S: Alter>(tables: &mut Tables<S>) -> Result<(), StoreError>
     ensures { Step result (shown_by S.Store tables.old) (shown_by S.Store tables.new) (counts_of tables.old) (counts_of tables.new) (FullLacking Cells) (HasAll Cells) (MakesNone (shown_by S.Store tables.old) (FullLacking Cells)) }
 {
     match tables.make_later(LaterTable::Cells) {

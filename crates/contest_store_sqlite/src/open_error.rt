@@ -8,9 +8,9 @@ use contest_types::Refusal;
 /// Why the tables of a connection aren't opened.
 #[derive(Clone, Copy, Debug, PartialEq, Eq)]
 pub enum OpenError {
-    /// The store failed. `Fault` where the tables aren't exactly those of a desk, show no valid contest, or
-    /// have cells that aren't exactly those of its lists, where a transaction stands, or where the
-    /// connection failed; `Memory` where a growth was refused.
+    /// The store failed. `Fault` where the tables aren't exactly those of a desk, show no valid
+    /// contest, or have cells that aren't exactly those of its lists, where a transaction stands,
+    /// or where the connection failed; `Memory` where a growth was refused.
     Store(StoreError),
     /// The tables are those of the first schema: they have to be upgraded.
     OldSchema,

@@ -5,7 +5,8 @@ ghost use Rattle.contest_types.specs.State.{ContestState};
 ghost use Rattle.contest_lists.specs.Lists.{loaded};
 ghost use Rattle.contest_store_fixed_rows.specs.Spelling.{lists_in, lists_in_version, tables_of};
 ghost use Rattle.contest_store_tables.specs.Connected.{shown_by, counts_of};
-ghost use Rattle.contest_store_tables.specs.Steps.{Call, Step, Content, Full, Holds, MakesNone, Showing, Within};
+ghost use Rattle.contest_store_tables.specs.Steps.{Call, Step, Content, Full, Holds, MakesNone};
+ghost use Rattle.contest_store_tables.specs.Steps.{Showing, Within};
 ghost use Rattle.contest_store_tables.specs.Tables.{TableRows};
 ghost use Rattle.contest_store_changes.specs.ContestTables.{loaded_tables, table_rows};
 ghost use Rattle.contest_store_changes.specs.Sound.{IsSound};
@@ -20,13 +21,13 @@ use contest_store_tables::{LIST_TABLES, TableName, Tables};
 use sqlite::{Alter, Row};
 use std::alloc::{AllocError, Global};
 
-/// The lists of the contest that the tables of a store show, in a transaction, which is begun where there
-/// is none.
+/// The lists of the contest that the tables of a store show, in a transaction, which is begun where
+/// there is none.
 ///
 /// # Errors
 ///
-/// `Memory` where a growth was refused; `Fault` where the connection failed for another cause, or where
-/// the rows are those of no contest, which are not what was written.
+/// `Memory` where a growth was refused; `Fault` where the connection failed for another cause, or
+/// where the rows are those of no contest, which are not what was written.
 pub(crate) fn load_lists<S: Alter>(
     tables: &mut Tables<S>,
     alloc: Global,
@@ -44,8 +45,8 @@ pub(crate) fn load_lists<S: Alter>(
     }
 }
 
-/// The lists of the contest that the tables show, in a transaction, which is begun where there is none;
-/// none where their rows are those of no contest.
+/// The lists of the contest that the tables show, in a transaction, which is begun where there is
+/// none; none where their rows are those of no contest.
 ///
 /// # Errors
 ///
@@ -81,8 +82,8 @@ pub(crate) fn find_within<S: Alter>(
     }
 }
 
-// The lists that rows are, with their cells; none where they are those of no contest.
-fn read_scored(
+/// The lists that rows are, with their cells; none where they are those of no contest.
+pub(crate) fn read_scored(
     alloc: Global,
     version: Version,
     rows: &LoadedRows,
@@ -131,7 +132,8 @@ fn without_rows(alloc: Global) -> LoadedRows
     }
 }
 
-fn put(rows: &mut LoadedRows, table: TableName, found: Vec<Row>)
+/// Puts the rows of one table among the loaded ones.
+pub(crate) fn put(rows: &mut LoadedRows, table: TableName, found: Vec<Row>)
     ensures { tables_of rows.new ≡ with_loaded table found.items (tables_of rows.old) }
 {
     match table {

@@ -15,9 +15,9 @@ use sqlite::{Alter, Connection};
 use std::alloc::Global;
 use std::marker::Model;
 
-/// The tables of one contest, over memory or a file that any sqlite3 reads. What it has read it holds
-/// in memory, so no request reads rows by SQL but a submission's file. Changes stand in one transaction
-/// until `commit`.
+/// The tables of one contest, over memory or a file that any sqlite3 reads. What it has read it
+/// holds in memory, so no request reads rows by SQL but a submission's file. Changes stand in one
+/// transaction until `commit`.
 #[derive(Drop)]
 pub struct Store<S: Alter> {
     keeper: Keeper<S>,
@@ -54,22 +54,24 @@ impl<S: Alter> Store<S> {
     ghost use Rattle.contest_store_tables.specs.Connected.{IsBare};
     ghost use Rattle.contest_store.specs.Keeping.{LeavesOnly};
     ghost use Rattle.contest_store_sqlite.specs.Contests.{committed_of, contest_of, may_leave_of};
-    ghost use Rattle.contest_store_sqlite.specs.Creation.{Created, IsOfOpen, IsOfStore, KeepsLists, LeavesEither, StoodEqual, StoodOther};
+    ghost use Rattle.contest_store_sqlite.specs.Creation.{Created, IsOfOpen, IsOfStore, KeepsLists};
+    ghost use Rattle.contest_store_sqlite.specs.Creation.{LeavesEither, StoodEqual, StoodOther};
     ghost use Rattle.contest_store_sqlite.specs.Keeping.{IsTrusted};
-    ghost use Rattle.contest_store_sqlite.specs.Opening.{HasDesk, IsNew, IsOfFirst, IsRead, Opened, ShowsValid};
+    ghost use Rattle.contest_store_sqlite.specs.Opening.{HasDesk, IsNew, IsOfFirst, IsRead, Opened};
+    ghost use Rattle.contest_store_sqlite.specs.Opening.{ShowsValid};
     ghost use Rattle.contest_store_tables.specs.Numbered.{IsNumbered};
     ghost use Rattle.contest_store_sqlite.specs.Upgrading.{IsUpgraded, KeepsUpgraded};
     ghost use Rattle.contest_store_sqlite.specs.Value.{shown_in, stored};
     ghost use Rattle.contest_types.specs.State.{ContestState};
 
-    /// The store over the tables of a contest, which are read at once, outside of a transaction. Where their
-    /// cells have no row, or no table yet, they are filled in one commit; else they have to be those of the
-    /// lists.
+    /// The store over the tables of a contest, which are read at once, outside of a transaction.
+    /// Where their cells have no row, or their table was taken out, they are filled in one commit;
+    /// else they have to be those of the lists.
     ///
     /// # Errors
     ///
-    /// `OpenError` says when each comes. The connection is handed back, and what is committed is as it
-    /// was, but for cells that were filled.
+    /// `OpenError` says when each comes. The connection is handed back, and what is committed is as
+    /// it was, but for cells that were filled.
     pub fn open(alloc: Global, conn: Connection<S>) -> Result<Store<S>, (OpenError, Connection<S>)>
         requires { IsNumbered (state S.Store conn) }
         ensures opened { IfOk result (λ store. HasCleanDisk (shown_in S.Store store) → Opened (state S.Store conn) (stored S.Store store)) }
@@ -94,18 +96,19 @@ impl<S: Alter> Store<S> {
         }
     }
 
-    /// The store over the tables of a contest that is set up. Where no table stands, they are made with
-    /// the contest in one commit. Where a valid contest stands that has the same head, it is opened as
-    /// `open` does it: its start isn't compared, for it may have been set since.
+    /// The store over the tables of a contest that is set up. Where no table stands, they are made
+    /// with the contest in one commit. Where a valid contest stands that has the same head, it is
+    /// opened as `open` does it: its start isn't compared, for it may have been set since.
     ///
     /// # Errors
     ///
     /// `Malformed` where a number of the head is off its range or the end is no moment: nothing is
-    /// touched. `KeyReused` where a contest with another head stands. `OldSchema` where the tables are those
-    /// of the first schema. `StoreFault` where other tables stand or show no valid contest, where a
-    /// transaction stands, or where the connection failed; `Memory` where a growth was refused. The
-    /// connection is handed back. What is committed is as it was, but for cells that were filled where a
-    /// contest stands; and a crash may leave the contest where no table stood and the commit failed.
+    /// touched. `KeyReused` where a contest with another head stands. `OldSchema` where the tables
+    /// are those of the first schema. `StoreFault` where other tables stand or show no valid
+    /// contest, where a transaction stands, or where the connection failed; `Memory` where a growth
+    /// was refused. The connection is handed back. What is committed is as it was, but for cells
+    /// that were filled where a contest stands; and a crash may leave the contest where no table
+    /// stood and the commit failed.
     pub fn create(
         alloc: Global,
         conn: Connection<S>,
@@ -146,16 +149,16 @@ impl<S: Alter> Store<S> {
         }
     }
 
-    /// Whether the tables of a connection were upgraded. Those of the first schema show their contest in that
-    /// of today afterwards, by one commit; their cells are treated as `open` does it. Those of today are
-    /// only read, as `open` reads them. The connection is handed back.
+    /// Whether the tables of a connection were upgraded. Those of the first schema show their
+    /// contest in that of today afterwards, by one commit; their cells are treated as `open` does
+    /// it. Those of today are only read, as `open` reads them. The connection is handed back.
     ///
     /// # Errors
     ///
-    /// `StoreFault` where the tables are of neither schema or show no valid contest, where a transaction
-    /// stands, or where the connection failed; `Memory` where a growth was refused. What is committed is as
-    /// it was, but for cells that were filled; and a crash may leave the upgraded contest where the
-    /// commit failed.
+    /// `StoreFault` where the tables are of neither schema or show no valid contest, where a
+    /// transaction stands, or where the connection failed; `Memory` where a growth was refused.
+    /// What is committed is as it was, but for cells that were filled; and a crash may leave the
+    /// upgraded contest where the commit failed.
     pub fn upgrade(alloc: Global, conn: Connection<S>) -> (Result<bool, Refusal>, Connection<S>)
         requires { IsNumbered (state S.Store conn) }
         ensures moved { HasCleanDisk (state S.Store result.1) → IfOk result.0 (λ moved. moved ≡ true → IsUpgraded (state S.Store conn) (state S.Store result.1)) }
@@ -171,9 +174,9 @@ impl<S: Alter> Store<S> {
         (done, tables.into_connection())
     }
 
-    /// The connection alone, where no change stands that wasn't committed. A transaction stands in it
-    /// where something was read since the last commit of a change. While it is open a crash leaves the last commit,
-    /// and no other.
+    /// The connection alone, where no change stands that wasn't committed. A transaction stands in
+    /// it where something was read since the last commit of a change. While it is open a crash
+    /// leaves the last commit, and no other.
     pub fn into_connection(self) -> Connection<S>
         requires { IsTrusted (shown_in S.Store self) → IsTrue (shown_in S.Store self).is_open → contest_of (shown_in S.Store self) ≡ committed_of (shown_in S.Store self) }
         ensures connection { result ≡ self.conn }
@@ -263,8 +266,8 @@ impl<S: Alter> ContestStore for Store<S> {
         done
     }
 
-    // Beyond what any store promises: where no change was made since the last commit, it is answered
-    // and only counted.
+    // Beyond what any store promises: where no change was made since the last commit, it is
+    // answered and only counted.
     fn commit(&mut self) -> Result<(), StoreError>
         requires { IsTrue self.old.is_loaded }
         ensures leaves { Commits result (stored S.Store self.old) (stored S.Store self.new) (stored S.Store self.old).contest }

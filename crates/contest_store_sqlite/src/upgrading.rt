@@ -1,22 +1,22 @@
 //! Tables of the first schema are upgraded to that of today.
-ghost use Rattle.std.specs.Prelude.{◌≡◌, ◌&&◌, IfOk, IfSome, IsTrue, OnOk, Some, false, true};
+ghost use Rattle.std.specs.Prelude.{◌≡◌, IfOk, IfSome, IsTrue, OnOk, Some, false, true};
 ghost use Rattle.sqlite.specs.State.{HasCleanDisk, Survives};
 ghost use Rattle.contest_types.specs.State.{ContestState};
-ghost use Rattle.contest_types.specs.Valid.{is_valid};
-ghost use Rattle.contest_lists.specs.Lists.{loaded};
 ghost use Rattle.contest_store_fixed_rows.specs.Spelling.{lists_in_version};
 ghost use Rattle.contest_store_rows.specs.declared.versions.Version.TheVariants.{First};
 ghost use Rattle.contest_store_tables.specs.Connected.{shown_by, counts_of};
 ghost use Rattle.contest_store_tables.specs.Numbered.{IsNumbered};
-ghost use Rattle.contest_store_tables.specs.Steps.{Call, Content, Holds, IsLive, Lacking, MakesNone};
+ghost use Rattle.contest_store_tables.specs.Steps.{Call, Content, Holds, IsLive, Lacking};
+ghost use Rattle.contest_store_tables.specs.Steps.{MakesNone};
 ghost use Rattle.contest_store_tables.specs.Tables.{TableRows};
-ghost use Rattle.contest_store_valid.specs.Files.{has_small_files};
 ghost use Rattle.contest_store_changes.specs.ContestTables.{loaded_tables};
-ghost use Rattle.contest_store_sqlite.specs.Loading.{AllRise};
+ghost use Rattle.contest_store_sqlite.specs.Loading.{AllRise, AreChecked};
 ghost use Rattle.contest_store_sqlite.specs.Opening.{IsRead};
 ghost use Rattle.contest_store_sqlite.specs.Steps.{HasAll, HoldsLacking};
-ghost use Rattle.contest_store_sqlite.specs.Upgrading.{IsUpgraded, KeepsUpgraded, MakesMoved, MakesUpgraded, MovesUp, UpgradesTables};
+ghost use Rattle.contest_store_sqlite.specs.Upgrading.{IsUpgraded, KeepsUpgraded, MakesMoved};
+ghost use Rattle.contest_store_sqlite.specs.Upgrading.{MakesUpgraded, MovesUp, UpgradesTables};
 
+use crate::celless::read_celless;
 use crate::older::begin_whole;
 use crate::opening::{check_within, commit_settled, read_tables};
 use contest_store::{ScoredLists, StoreError};
@@ -26,14 +26,14 @@ use contest_store_tables::{LaterTable, Standing, Tables};
 use sqlite::Alter;
 use std::alloc::Global;
 
-/// Whether the tables were upgraded, outside of a transaction: those of the first schema are, in one commit;
-/// those of today are only read, and their cells are filled where none was there.
+/// Whether the tables were upgraded, outside of a transaction: those of the first schema are, in
+/// one commit; those of today are only read, and their cells are filled where none was there.
 ///
 /// # Errors
 ///
-/// `Memory` where a growth was refused. `Fault` where the connection failed for another cause, where a
-/// transaction stands already, where the tables are of neither schema, where they show no valid contest, or
-/// where there are cells that aren't those of its lists.
+/// `Memory` where a growth was refused. `Fault` where the connection failed for another cause,
+/// where a transaction stands already, where the tables are of neither schema, where they show no
+/// valid contest, or where there are cells that aren't those of its lists.
 pub(crate) fn upgrade_desk<S: Alter>(
     tables: &mut Tables<S>,
     alloc: Global,
@@ -49,6 +49,13 @@ pub(crate) fn upgrade_desk<S: Alter>(
     }
     match tables.standing() {
         Standing::Desk => match read_tables(tables, alloc) {
+            Ok(lists) => {
+                drop(lists);
+                Ok(false)
+            }
+            Err(error) => Err(error),
+        },
+        Standing::Celless => match read_celless(tables, alloc) {
             Ok(lists) => {
                 drop(lists);
                 Ok(false)
@@ -86,15 +93,15 @@ fn upgrade_tables<S: Alter>(
     }
 }
 
-// The lists that the tables show in the first schema, if they are a valid contest's, in a transaction in which
-// all tables of today stand.
+// The lists that the tables show in the first schema, if they are a valid contest's, in a
+// transaction in which all tables of today stand.
 fn find_first<S: Alter>(
     tables: &mut Tables<S>,
     alloc: Global,
     table: LaterTable,
 ) -> Result<Option<ScoredLists>, StoreError>
     ensures lists { HasCleanDisk (shown_by S.Store tables.new) → (now : TableRows) (kept : Content) → Holds (shown_by S.Store tables.old) (Lacking table now) kept → AllRise now → IfOk result (λ found. IfSome found (λ lists. lists_in_version First (loaded_tables now) ≡ Some lists)) }
-    ensures valid { IfOk result (λ found. IfSome found (λ lists. (x : ContestState) → loaded x ≡ lists → (true && has_small_files x) ≡ is_valid x)) }
+    ensures checked { IfOk result (λ found. IfSome found AreChecked) }
     ensures call { Call result (shown_by S.Store tables.old) (shown_by S.Store tables.new) (counts_of tables.old) (counts_of tables.new) (HoldsLacking table) (HasAll table) (MakesNone (shown_by S.Store tables.old) (HoldsLacking table)) }
 {
     match begin_whole(tables, table) {

@@ -16,8 +16,8 @@ returns-in-Desk-clause-survives g c =
     either_filled (without_rows c.args.fixed.value) (shown_by g.S.Store c.args.tables.now) (shown_by g.S.Store c.read_equal.new.tables) c.read_equal.ensures.survives
 
 pub read_equal-requires : goal.read_equal-requires
-read_equal-requires g c = record { numbered = c.requires.numbered; stood = not_bare (shown_by g.S.Store c.args.tables.now) c.standing.result c.standing.ensures.desk c.standing.ensures.lacking c.standing.ensures.foreign c.in-Desk.is }
+read_equal-requires g c = record { numbered = c.requires.numbered; stood = not_bare (shown_by g.S.Store c.args.tables.now) c.standing.result c.standing.ensures.desk c.standing.ensures.lacking c.standing.ensures.celless c.standing.ensures.foreign c.in-Desk.is }
 
 pub returns-in-Desk-clause-bare : goal.returns-in-Desk-clause-bare
 returns-in-Desk-clause-bare g c bare =
-    absurd (not_bare (shown_by g.S.Store c.args.tables.now) c.standing.result c.standing.ensures.desk c.standing.ensures.lacking c.standing.ensures.foreign c.in-Desk.is bare)
+    absurd (not_bare (shown_by g.S.Store c.args.tables.now) c.standing.result c.standing.ensures.desk c.standing.ensures.lacking c.standing.ensures.celless c.standing.ensures.foreign c.in-Desk.is bare)

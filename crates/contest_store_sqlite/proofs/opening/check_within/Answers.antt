@@ -1,14 +1,21 @@
-use Rattle.std.proofs.Common.{◌∙◌, sym}
+use Rattle.std.proofs.Common.{◌∙◌, arith, sym}
+use Rattle.std.proofs.lemmas.Option.{IfSome_then}
+use Rattle.sqlite.specs.State.{HasCleanDisk}
 use Rattle.contest_store_tables.specs.Connected.{shown_by}
 use Rattle.contest_store_tables.specs.Steps.{Full}
-use Rattle.contest_store_sqlite.proofs.LaterSteps.{given_up_then}
+use Rattle.contest_store_tables.proofs.HoldLemmas.{if_ok}
+use Rattle.contest_store_tables.proofs.StepLemmas.{refuses}
+use Rattle.contest_store_sqlite.proofs.LaterSteps.{full_then}
 use Rattle.contest_store_sqlite.proofs.opening.check_within.Goals as goal
 
-pub returns-in-Ok-true-clause-lists : goal.returns-in-Ok-true-clause-lists
-returns-in-Ok-true-clause-lists g c clean now kept within up = sym (c.in-Ok.ensures.lists clean now kept within up) ∙ c.in-Some.is
+pub returns-in-Ok-clause-lists : goal.returns-in-Ok-clause-lists
+returns-in-Ok-clause-lists g c clean now kept within up =
+    let early : HasCleanDisk (shown_by g.S.Store c.find_within.new.tables) = omega (arith, clean, c.keep_valid.ensures.step.survives.clean) in
+    if_ok c.keep_valid.result c.keep_valid.ensures.lists (λ found own. IfSome_then found own (λ lists is. sym (c.in-Ok.ensures.lists early now kept within up) ∙ is))
 
-pub returns-in-Err-is_valid-clause-step : goal.returns-in-Err-is_valid-clause-step
-returns-in-Err-is_valid-clause-step g c =
-    let up = c.out_of_memory in
-    given_up_then _ _ _ (shown_by g.S.Store c.args.tables.now) (shown_by g.S.Store c.find_within.new.tables) (shown_by g.S.Store up.new.self) _ _ _ Full Full Full
-    (λ now kept from full. (now, full.0)) c.in-Ok.ensures.step up.ensures.error up.ensures.undone up.ensures.counts up.ensures.survives
+pub returns-in-Ok-clause-step : goal.returns-in-Ok-clause-step
+returns-in-Ok-clause-step g c =
+    full_then _ c.keep_valid.result (shown_by g.S.Store c.args.tables.now) (shown_by g.S.Store c.find_within.new.tables) (shown_by g.S.Store c.keep_valid.new.tables) _ _ _ c.in-Ok.ensures.step c.keep_valid.ensures.step
+
+pub returns-in-Err-clause-step : goal.returns-in-Err-clause-step
+returns-in-Err-clause-step g c = refuses _ (shown_by g.S.Store c.args.tables.now) (shown_by g.S.Store c.find_within.new.tables) _ _ Full Full Full _ c.in-Err.ensures.step

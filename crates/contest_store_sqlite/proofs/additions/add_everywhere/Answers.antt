@@ -3,7 +3,7 @@ use Rattle.contest_store_changes.specs.Additions.{Admits, HasAdded}
 use Rattle.contest_store_sqlite.specs.Steps.{MayAdd}
 use Rattle.contest_store_sqlite.proofs.CallLemmas.{begun_then, not_begun}
 use Rattle.contest_store_sqlite.proofs.ListsGrown.{admits_within}
-use Rattle.contest_store_sqlite.proofs.additions.add.Goals as goal
+use Rattle.contest_store_sqlite.proofs.additions.add_everywhere.Goals as goal
 
 pub returns-in-Ok-clause-call : goal.returns-in-Ok-clause-call
 returns-in-Ok-clause-call g c =
