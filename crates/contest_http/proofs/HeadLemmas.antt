@@ -48,10 +48,6 @@ has_end-later xs i inside e =
     let some : 0 < length (drop i xs) = grind (arith, length-drop) in
     rw add-one (first_off (drop i xs) some e ∙ ap has_end (drop_one xs i))
 
-pub still_none : (a : Option (List ℕ)) → Consumes a a []
-still_none None = tt
-still_none (Some xs) = refl
-
 pub still_init : (a : Option (List ℕ)) → StillHead a a []
 still_init None = tt
 still_init (Some xs) = refl

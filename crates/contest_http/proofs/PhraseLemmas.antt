@@ -3,6 +3,7 @@ use Rattle.std.proofs.Common.{◌≡◌, ◌∙◌, ◌<◌, ◌≤◌, ℕ, zer
 use Rattle.std.specs.Prelude.{◌&&◌, nat_le, nat_lt, unwrap_or, if◌then◌else◌}
 use Rattle.std.specs.Option.{option_map}
 use Rattle.std.proofs.lemmas.Bool.Decides.{Decides-below_and, nat_tests}
+use Rattle.std.proofs.lemmas.Bool.{leb-true}
 use Rattle.http.specs.StatusCode.{reason_phrase}
 use Rattle.contest_types.proofs.PlaceLemmas.{and_right, both_true}
 use Rattle.contest_http.specs.Spelling.{phrase_of}
@@ -17,16 +18,13 @@ short_below (suc n) = is_short n && short_below n
 short : (n : ℕ) → n < 1000 → is_short n ≡ true
 short n below = (Decides-below_and is_short (λ k. is_short k ≡ true) short_below (λ k. (λ x. x, λ x. x)) refl (λ _. refl) 1000).0 refl n below
 
-within : (phrase : List ℕ) → nat_le (length phrase) 40 ≡ true → length phrase ≤ 40
-within phrase h = grind (arith, nat_tests, h)
-
 below_thousand : (n : ℕ) → (nat_le 100 n && nat_lt n 1000) ≡ true → n < 1000
 below_thousand n h = let e = and_right (nat_le 100 n) (nat_lt n 1000) h in grind (arith, nat_tests, e)
 
 pub phrase_is_short : (n : ℕ) → length (phrase_of n) ≤ 40
 phrase_is_short n =
     let go : (b : Bool) → (nat_le 100 n && nat_lt n 1000) ≡ b → length (if b then unwrap_or (reason_phrase n) [] else []) ≤ 40 = elim [
-      | true ↦ λ e. within (unwrap_or (reason_phrase n) []) (short n (below_thousand n e))
+      | true ↦ λ e. leb-true (length (unwrap_or (reason_phrase n) [])) 40 (short n (below_thousand n e))
       | false ↦ λ e. omega arith
     ] in
     go (nat_le 100 n && nat_lt n 1000) refl

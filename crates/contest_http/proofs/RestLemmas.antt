@@ -4,7 +4,7 @@ use Rattle.std.specs.Prelude.{codes, ◌⊎◌, IsTrue, IsSome, Result, Ok, Err}
 use Rattle.std.specs.Io.KnownBytes.{Appends}
 use Rattle.std.proofs.lemmas.Bool.Decides.{nat_tests}
 use Rattle.std.proofs.Math.Seq.{drop-append_seam, drop-length, drop-nil}
-use Rattle.std.proofs.lemmas.List.{append-nil}
+use Rattle.std.proofs.KnownBytes.{Appends-nil}
 use Rattle.contest_types.specs.declared.refusal.Refusal.{Refusal}
 use Rattle.contest_types.specs.declared.refusal.Refusal.TheVariants.{Encoding, Malformed, Memory}
 use Rattle.contest_http.specs.Bodies.{TakesBody, TakesBodyPart}
@@ -15,6 +15,7 @@ use Rattle.contest_http.specs.Fields.{FieldText, values}
 use Rattle.contest_http.specs.Targets.{path_of}
 use Rattle.contest_requests.specs.declared.request.Method.{Method}
 use Rattle.httparse.specs.Grammar.{RequestHead}
+use Rattle.httparse.proofs.GrammarLemmas.{request_unique}
 use Rattle.httparse.specs.Spans.{name_and_value}
 use Rattle.contest_http.specs.Reading.{BeforeRead, Due, ReadsHead, ReadsOne, ReadsRest, RefusesBody, RefusesMemory, Takes, TakesHeadFront, TakesRest, interim, interim_text}
 use Rattle.contest_http.specs.declared.framed.Framed.{Framed}
@@ -25,11 +26,6 @@ use Rattle.contest_http.specs.declared.plan.Expected.{Expected}
 use Rattle.contest_http.specs.declared.plan.Plan.{Plan}
 use Rattle.contest_http.specs.declared.plan.Plan.TheVariants.{Expect, Refuse}
 use Rattle.contest_http.proofs.FrameLemmas.{frame_unique, head_front, none_is_empty}
-
--- nothing is written
-pub appends_none : (a : Option (List ℕ)) → Appends a a []
-appends_none None = tt
-appends_none (Some xs) = sym (append-nil xs)
 
 pub is_some_of : (a : Option (List ℕ)) (x : List ℕ) → a ≡ Some x → IsSome a
 is_some_of a x e = rw e refl
@@ -145,6 +141,28 @@ expects_at (x ∷ xs) e false t a h =
 pub expects_head : (head : List ℕ) (e : Expected) → IsPlanOf head (Some (Expect e)) → IsTrue (is_head e.method) → AsksForHead head
 expects_head head e a h = let t : is_head e.method ≡ true = search (rules, h) in expects_at head e (has_end head) refl a t
 
+-- and where a head asks for the reply's head alone, so does its method
+heeds_at : (head : List ℕ) (e : Expected) (found : Option RequestHead) → IsHeadOf head found → Some (Expect e) ≡ Some (plan_found found) → AsksForHead head → is_head e.method ≡ true
+unfolding method_in
+heeds_at head e None is same asks = absurd (search (rules, same))
+heeds_at head e (Some found) is same asks =
+    let p : Expect e ≡ head_plan found = search (rules, same) in
+    let m : e.method ≡ method_of found.method = plan_method (method_of found.method) e.method found.target found.minor (map name_and_value found.fields) (sym (ap method_in p)) in
+    let one : found ≡ asks.0 = (request_unique head found asks.0 [] [] is asks.1).0 in
+    rw (m, one) asks.2
+
+-- a head that doesn't end asks for nothing that follows
+heeds_in : (head : List ℕ) (e : Expected) (b : Bool) → has_end head ≡ b → IsPlanOf head (Some (Expect e)) → AsksForHead head → is_head e.method ≡ true
+heeds_in head e true t a asks = let f = a.ended t in heeds_at head e f.0 f.1 f.2 asks
+heeds_in [] e false t a asks = let n = a.none refl in absurd (search (rules, n))
+heeds_in (x ∷ xs) e false t a asks =
+    let some : 0 < length (x ∷ xs) = omega arith in
+    let n = a.unended some t in
+    absurd (search (rules, n))
+
+heeds_head : (head : List ℕ) (e : Expected) → IsPlanOf head (Some (Expect e)) → AsksForHead head → IsTrue (is_head e.method)
+heeds_head head e a asks = let t : is_head e.method ≡ true = heeds_in head e (has_end head) refl a asks in search (rules, t)
+
 -- the frame of a head and what follows it
 frame_at : (input rest : List ℕ) (e : Expected) → ReadsHead input rest (Some (Expect e)) → IsFrame input (framed_by (Expect e) (length (head_of input)) rest)
 frame_at input rest e r = (Some (Expect e), r.plan_is, rw (sym r.left_is) refl)
@@ -181,6 +199,7 @@ join_refuses input rest left e framed r t =
       head_only = is_head e.method;
       framed_is = t.framed_is;
       asks = λ h. expects_head (head_of input) e r.plan_is h;
+      heeds = λ _ asks. heeds_head (head_of input) e r.plan_is asks;
       part = record {
         count = n + t.count;
         left_is = t.left_is ∙ ap (drop t.count) r.left_is ∙ drop_more n t.count input;
@@ -218,7 +237,7 @@ pub join_none : (input left : List ℕ) (old : Option (List ℕ)) → ReadsHead 
 join_none input left old r =
     let none = none_is_empty (head_of input) r.plan_is in (
       [],
-      appends_none old,
+      Appends-nil old,
       inl record {
         frame = frame_by None (head_of input) (drop (length (head_of input)) input);
         is = (None, r.plan_is, refl);
@@ -233,7 +252,7 @@ pub join_refused : (input left : List ℕ) (old : Option (List ℕ)) (refusal : 
     → ReadsOne input left old old (Ok (Refused refusal h))
 join_refused input left old refusal h r = (
   [],
-  appends_none old,
+  Appends-nil old,
   inl record {
     frame = framed_by (Refuse refusal h) (length (head_of input)) (drop (length (head_of input)) input);
     is = (Some (Refuse refusal h), r.plan_is, refl);
@@ -248,11 +267,12 @@ pub join_memory : (input left : List ℕ) (old : Option (List ℕ)) (h : Bool) �
     → ReadsOne input left old old (Ok (Refused Memory h))
 join_memory input left old h t asks = (
   [],
-  appends_none old,
+  Appends-nil old,
   inr record {
     head_only = h;
     framed_is = refl;
     asks = asks;
+    heeds = λ past _. absurd (omega (arith, past, t.within));
     part = record {
       count = t.count;
       left_is = t.left_is;

@@ -1,7 +1,9 @@
 -- What is answered, by what was read.
 use Rattle.std.proofs.Common.{rules, ◌≡◌, ◌++◌, ◌∙◌, sym, ap, subst, refl, ℕ, List, Bool, true, Option, Some, Ok, Err, take, inl, inr}
-use Rattle.std.specs.Prelude.{◌⊎◌, Result, None, unwrap_or}
+use Rattle.std.specs.Prelude.{◌⊎◌, Result, None}
 use Rattle.std.specs.Io.KnownBytes.{Appends}
+use Rattle.std.proofs.lemmas.Option.{same_Some}
+use Rattle.std.proofs.KnownBytes.{Appends-trans}
 use Rattle.httpdate.specs.Text.{imf_fixdate}
 use Rattle.httpdate.proofs.Theorems.{unix_secs_injective}
 use Rattle.contest_types.specs.Alike.{Alike, MayBeHeld}
@@ -10,7 +12,6 @@ use Rattle.contest_types.specs.Valid.{is_valid}
 use Rattle.contest_types.specs.declared.audience.Audience.{Audience}
 use Rattle.contest_types.specs.declared.refusal.Refusal.{Refusal}
 use Rattle.contest_types.specs.declared.refusal.Refusal.TheVariants.{Memory}
-use Rattle.contest_streams.proofs.StreamLemmas.{appends_both}
 use Rattle.contest_store.specs.Keeping.{Kept}
 use Rattle.contest_operations.specs.Laws.{HasSight}
 use Rattle.contest_operations.specs.Replies.{refused, IsStoreReply}
@@ -66,10 +67,10 @@ serves : {S : Type 0} (kept : S → Kept) (input left : List ℕ) (old mid new :
     → ServesOne kept input left old new now before after r
 serves kept input left old mid new now before after reply h first (Ok served.Nothing) out d a = absurd a
 serves kept input left old mid new now before after reply h first (Ok (served.Answered status)) out d (same, text, spelling, p) =
-    (record { first = first; reply = reply; head_only = h; decided = d; text = text; spelled = spelling }, same, appends_both old mid new first text out p)
+    (record { first = first; reply = reply; head_only = h; decided = d; text = text; spelled = spelling }, same, Appends-trans old mid new first text out p)
 serves kept input left old mid new now before after reply h first (Err Read) out d a = absurd a
 serves kept input left old mid new now before after reply h first (Err Write) out d (text, spelling, f) =
-    inr (record { first = first; reply = reply; head_only = h; decided = d; text = text; spelled = spelling }, f.0, appends_both old mid new first (take f.0 text) out f.2)
+    inr (record { first = first; reply = reply; head_only = h; decided = d; text = text; spelled = spelling }, f.0, Appends-trans old mid new first (take f.0 text) out f.2)
 
 pub serves_refused : {S : Type 0} (kept : S → Kept) (input left : List ℕ) (old mid new : Option (List ℕ)) (now : ℕ) (before : S) (refusal : Refusal) (h : Bool) (reply : Reply) (r : Result Served ServeFault)
     → ReadsOne input left old mid (Ok (Refused refusal h)) → reply ≡ refused refusal → Answers now reply h mid new r
@@ -104,9 +105,6 @@ asked_in : Framed → Option (Credential × (Request × Bool))
 asked_in (Asked credential request h) = Some (credential, (request, h))
 asked_in f = None
 
-unwrapped : {A : Type 0} (x y : A) → Some x ≡ Some y → x ≡ y
-unwrapped x y e = ap (λ o. unwrap_or o x) e
-
 is_failure : (reply : Reply) (status : ℕ) → status ≡ reply.status → IsStoreReply reply → status ≡ 503
 is_failure reply status e (inl r) = e ∙ ap (λ (r : Reply). r.status) r
 is_failure reply status e (inr r) = e ∙ ap (λ (r : Reply). r.status) r
@@ -124,7 +122,7 @@ unfolding asked_in
 alike_asked kept input left old new now before after reply first text c d r q h k f a y clean ordinary takes handles spelling out is asked sight held valid alike =
     let one : f ≡ takes.frame = frame_unique input f takes.frame is takes.is in
     let same : Asked c r h ≡ Asked d q k = sym asked ∙ ap (λ (g : Frame). g.framed) one ∙ sym takes.framed_is in
-    let parts = unwrapped (c, (r, h)) (d, (q, k)) (ap asked_in same) in
+    let parts = same_Some (c, (r, h)) (d, (q, k)) (ap asked_in same) in
     let who : c ≡ d = ap (λ (p : Credential × (Request × Bool)). p.0) parts in
     let what : r ≡ q = ap (λ (p : Credential × (Request × Bool)). p.1.0) parts in
     let head : h ≡ k = ap (λ (p : Credential × (Request × Bool)). p.1.1) parts in

@@ -1,5 +1,5 @@
 -- What is taken from a reader, and what goes out, while one request is read.
-use Rattle.std.specs.Prelude.{◌≡◌, ◌≤◌, ◌⊎◌, ℕ, List, [], Bool, true, Result, Ok, Err, IsTrue, Option, codes, drop, length, if◌then◌else◌}
+use Rattle.std.specs.Prelude.{◌≡◌, ◌<◌, ◌≤◌, ◌⊎◌, ℕ, List, [], Bool, true, Result, Ok, Err, IsTrue, Option, codes, drop, length, if◌then◌else◌}
 use Rattle.std.specs.Io.KnownBytes.{Appends}
 use Rattle.contest_streams.specs.Streams.{AppendsFront}
 use Rattle.contest_types.specs.declared.refusal.Refusal.TheVariants.{Memory}
@@ -45,12 +45,14 @@ pub record TakesPart (input left first : List ℕ) : Type 0 where
   pub within : (f : Frame) → IsFrame input f → count ≤ f.front
   pub first_is : (first ≡ []) ⊎ (Due input × (first ≡ interim_text))
 
--- memory was refused meanwhile; only the reply's head is asked for only where a head was read that says so
+-- memory was refused meanwhile; only the reply's head is asked for only where a head was read that says so, and it is where a
+-- byte behind such a head was taken
 pub record RefusesMemory (input left : List ℕ) (framed : Framed) (first : List ℕ) : Type 0 where
   pub head_only : Bool
   pub framed_is : framed ≡ Refused Memory head_only
   pub asks : IsTrue head_only → AsksForHead (head_of input)
   pub part : TakesPart input left first
+  pub heeds : length (head_of input) < part.count → AsksForHead (head_of input) → IsTrue head_only
 
 -- what went out when a read failed: nothing, or the interim reply where it is due
 abbrev pub BeforeRead : List ℕ → Option (List ℕ) → Option (List ℕ) → Type 0

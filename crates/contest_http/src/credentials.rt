@@ -1,9 +1,11 @@
 //! Who asks and by which key, as the fields of a head say it.
-ghost use Rattle.std.specs.Prelude.{◌≡◌, ◌≤◌, ◌==◌, ◌∷◌, [], IfOk, IfSome, codes, drop, length, not, take};
+ghost use Rattle.std.specs.Prelude.{◌≡◌, ◌≤◌, ◌==◌, ◌∷◌, [], IfOk, IfSome, codes, drop, length};
+ghost use Rattle.std.specs.Prelude.{not, take};
 ghost use Rattle.std.specs.List.{position};
 ghost use Rattle.std.specs.Option.{option_map};
 ghost use Rattle.std.specs.Str.{str_eq_ignore_ascii_case};
-ghost use Rattle.contest_http.specs.Credentials.{bearer_token, credential_of, key_of, spaces, token_after};
+ghost use Rattle.contest_http.specs.Credentials.{bearer_token, credential_of, key_of, spaces};
+ghost use Rattle.contest_http.specs.Credentials.{token_after};
 ghost use Rattle.contest_http.specs.Fields.{values};
 
 use crate::fields::{Fields, Found};

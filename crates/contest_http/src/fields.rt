@@ -1,5 +1,6 @@
 //! The fields of a head, by their names.
-ghost use Rattle.std.specs.Prelude.{◌≡◌, ◌≤◌, ◌<◌, IsTrue, List, codes, drop, length, map, slice_index_or, All};
+ghost use Rattle.std.specs.Prelude.{◌≡◌, ◌≤◌, ◌<◌, IsTrue, List, codes, drop, length, map};
+ghost use Rattle.std.specs.Prelude.{slice_index_or, All};
 ghost use Rattle.std.specs.Str.{str_eq_ignore_ascii_case};
 ghost use Rattle.httparse.specs.Spans.{IsHeaderWithin, header_bytes};
 ghost use Rattle.httparse.specs.declared.spans.HeaderSpan.{HeaderSpan as FieldSpan};
@@ -106,7 +107,8 @@ fn has_this(head: &[u8], span: HeaderSpan, value: &[u8]) -> bool
     span.value.of(head).eq_ignore_ascii_case(value)
 }
 
-// The place of the first field of that name from a place on; the fields' number where there is none.
+// The place of the first field of that name from a place on; the fields' number where there is
+// none.
 fn first(head: &[u8], spans: &[HeaderSpan], name: &[u8], from: usize) -> usize
     requires within { All (IsHeaderWithin (length head.now)) spans.now }
     requires from { from ≤ length spans.now }

@@ -1,5 +1,6 @@
 //! The head of a request, byte by byte.
-ghost use Rattle.std.specs.Prelude.{◌≡◌, ◌≤◌, ◌∷◌, ◌++◌, [], false, IfErr, IfOk, MatchOption, OnErr, OnOk, length};
+ghost use Rattle.std.specs.Prelude.{◌≡◌, ◌≤◌, ◌∷◌, ◌++◌, [], false, IfErr, IfOk, MatchOption};
+ghost use Rattle.std.specs.Prelude.{OnErr, OnOk, length};
 ghost use Rattle.std.specs.Io.KnownBytes.{Consumes, IsAtEnd, Keeps};
 ghost use Rattle.contest_streams.specs.Streams.{Fails, stream};
 ghost use Rattle.contest_http.specs.Head.{TakesHead, TakesHeadPart, begins_end, has_end};
@@ -18,8 +19,8 @@ pub(crate) enum RequestFault {
     Memory,
 }
 
-/// Takes the head of what the reader has left: the shortest front with the end of a head; where there
-/// is none, all that is left, but at most 16,384 bytes.
+/// Takes the head of what the reader has left: the shortest front with the end of a head; where
+/// there is none, all that is left, but at most 16,384 bytes.
 pub(crate) fn read_head<R: Read>(
     alloc: Global,
     reader: &mut Counted<R>,
@@ -65,8 +66,8 @@ fn next_byte<R: Read>(
     }
 }
 
-// Puts a byte at the end of bytes without the end of a head, and says whether it is there then. A head's end
-// has three bytes at most, so the last three are enough to look at.
+// Puts a byte at the end of bytes without the end of a head, and says whether it is there then. A
+// head's end has three bytes at most, so the last three are enough to look at.
 fn add_byte(bytes: &mut Vec<u8>, byte: u8) -> Result<bool, RequestFault>
     requires { has_end bytes.old.items ≡ false }
     ensures bytes { OnOk result (bytes.new.items ≡ bytes.old.items ++ byte ∷ []) }

@@ -1,5 +1,6 @@
 //! What the head of a request asks for.
-ghost use Rattle.std.specs.Prelude.{◌≡◌, ◌≤◌, ◌<◌, ◌*◌, ◌∷◌, [], IfErr, IfOk, IsTrue, Option, codes, length, nat_lt};
+ghost use Rattle.std.specs.Prelude.{◌≡◌, ◌≤◌, ◌<◌, ◌*◌, ◌∷◌, [], IfErr, IfOk, IsTrue, Option};
+ghost use Rattle.std.specs.Prelude.{codes, length, nat_lt};
 ghost use Rattle.std.specs.Char.{digit_value};
 ghost use Rattle.std.specs.List.{list_all};
 ghost use Rattle.httparse.specs.Grammar.{RequestHead};
@@ -7,7 +8,8 @@ ghost use Rattle.contest_types.specs.RelTimeRead.{are_digits};
 ghost use Rattle.contest_http.specs.Fields.{values};
 ghost use Rattle.contest_http.specs.Frames.{AsksForHead, IsHeadOf, IsPlanOf, plan_found, unended};
 ghost use Rattle.contest_http.specs.Targets.{path_of};
-ghost use Rattle.contest_http.specs.Plans.{body_length, expected_of, is_interim_due, lacks_host, plan_at, plan_of};
+ghost use Rattle.contest_http.specs.Plans.{body_length, expected_of, is_interim_due, lacks_host};
+ghost use Rattle.contest_http.specs.Plans.{plan_at, plan_of};
 
 use crate::credentials::{copied, credential_of, key_of};
 use crate::fields::{Fields, Found};
@@ -47,7 +49,8 @@ pub(crate) enum Plan {
     Expect(Expected),
 }
 
-/// Memory was refused; and whether only the head of the reply is asked for, as far as that was read.
+/// Memory was refused; and whether only the head of the reply is asked for, as far as that was
+/// read.
 #[derive(Clone, Copy)]
 pub(crate) struct MemoryRefused {
     pub head_only: bool,

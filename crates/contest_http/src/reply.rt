@@ -1,5 +1,6 @@
 //! A reply written.
-ghost use Rattle.std.specs.Prelude.{◌≡◌, ◌≤◌, ◌<◌, ◌/◌, ◌++◌, List, ℕ, IfErr, IfSome, IsSome, OnErr, OnOk};
+ghost use Rattle.std.specs.Prelude.{◌≡◌, ◌≤◌, ◌<◌, ◌/◌, ◌++◌, List, ℕ, IfErr, IfSome, IsSome};
+ghost use Rattle.std.specs.Prelude.{OnErr, OnOk};
 ghost use Rattle.std.specs.Io.KnownBytes.{Appends};
 ghost use Rattle.contest_streams.specs.Streams.{AppendsFront, Fails, stream};
 ghost use Rattle.httpdate.specs.Date.{date_text, unix_secs};
@@ -14,12 +15,13 @@ use contest_types::Moment;
 use httpdate::HttpDate;
 use std::io::Write;
 
-/// Writes a reply, with the date of a moment; its body is left out where only its head is asked for.
-/// It takes no memory.
+/// Writes a reply, with the date of a moment; its body is left out where only its head is asked
+/// for. It takes no memory.
 ///
 /// # Errors
 ///
-/// `Write` where the writer failed, was interrupted or took nothing: a front of the reply is out then.
+/// `Write` where the writer failed, was interrupted or took nothing: a front of the reply is out
+/// then.
 pub fn write_reply<W: Write>(
     writer: &mut Counted<W>,
     now: Moment,

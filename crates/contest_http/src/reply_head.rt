@@ -2,7 +2,8 @@
 ghost use Rattle.std.specs.Prelude.{◌≡◌, ◌≤◌, ◌+◌, ◌++◌, length};
 ghost use Rattle.httpdate.specs.Date.{date_text};
 ghost use Rattle.contest_operations.specs.Offers.{methods_text};
-ghost use Rattle.contest_http.specs.Spelling.{extra_line, head_lines, head_text, phrase_of, status_text, type_text};
+ghost use Rattle.contest_http.specs.Spelling.{extra_line, head_lines, head_text, phrase_of};
+ghost use Rattle.contest_http.specs.Spelling.{status_text, type_text};
 
 use crate::head_buffer::HeadBuffer;
 use contest_desk::{AllowedMethods, ContentType, ExtraField, Reply};

@@ -1,8 +1,10 @@
 //! One request read.
-ghost use Rattle.std.specs.Prelude.{◌≡◌, ◌≤◌, ◌⊎◌, List, ℕ, [], Err, IfErr, IfOk, IsSome, IsTrue, OnErr, OnOk, Some, true};
+ghost use Rattle.std.specs.Prelude.{◌≡◌, ◌≤◌, ◌⊎◌, List, ℕ, [], Err, IfErr, IfOk, IsSome, IsTrue};
+ghost use Rattle.std.specs.Prelude.{OnErr, OnOk, Some, true};
 ghost use Rattle.std.specs.Io.KnownBytes.{Appends};
 ghost use Rattle.contest_streams.specs.Streams.{AppendsFront, Fails, stream};
-ghost use Rattle.contest_http.specs.Reading.{ReadsHead, ReadsOne, ReadsRest, RefusesBody, StopsInHead, TakesRest, interim, interim_text};
+ghost use Rattle.contest_http.specs.Reading.{ReadsHead, ReadsOne, ReadsRest, RefusesBody};
+ghost use Rattle.contest_http.specs.Reading.{StopsInHead, TakesRest, interim, interim_text};
 
 use crate::body::read_body;
 use crate::framed::{Framed, ServeFault};
@@ -15,13 +17,14 @@ use contest_types::{Refusal, Rows};
 use std::alloc::Global;
 use std::io::{Read, Write};
 
-/// Reads one request: its head, byte by byte; the interim reply, where its client waits for it; and its
-/// body. Not one byte after it is taken. An interrupted read is tried again, 1,000 times in all.
+/// Reads one request: its head, byte by byte; the interim reply, where its client waits for it; and
+/// its body. Not one byte after it is taken. An interrupted read is tried again, 1,000 times in
+/// all.
 ///
 /// # Errors
 ///
-/// `Read` where a read failed, `Write` where the interim reply couldn't be written. Want of memory is
-/// a refusal, which can be answered.
+/// `Read` where a read failed, `Write` where the interim reply couldn't be written. Want of memory
+/// is a refusal, which can be answered.
 pub fn read_request<R: Read, W: Write>(
     alloc: Global,
     reader: &mut Counted<R>,
@@ -57,7 +60,8 @@ pub fn read_request<R: Read, W: Write>(
 enum Unplanned {
     /// A read failed.
     Read,
-    /// Memory was refused; and whether only the head of the reply is asked for, as far as that was read.
+    /// Memory was refused; and whether only the head of the reply is asked for, as far as that was
+    /// read.
     Memory(bool),
 }
 

@@ -13,17 +13,17 @@ use contest_types::Moment;
 use std::alloc::Global;
 use std::io::{Read, Write};
 
-/// Reads one request, has the desk handle it at a moment, and writes its reply; what is no request is
-/// answered by its refusal.
+/// Reads one request, has the desk handle it at a moment, and writes its reply; what is no request
+/// is answered by its refusal.
 ///
-/// What a request adds is kept before the first byte of its reply goes out. Until the thaw the bytes
-/// that go out are the same over every contest that is alike for the caller.
+/// What a request adds is kept before the first byte of its reply goes out. Until the thaw the
+/// bytes that go out are the same over every contest that is alike for the caller.
 ///
 /// # Errors
 ///
-/// `Read` where a read failed: nothing went out but the interim reply, and the contest is as before.
-/// `Write` where a write failed: a front of the interim reply went out, and the contest is as before;
-/// or a front of the reply, and the contest is as it is after the reply.
+/// `Read` where a read failed: nothing went out but the interim reply, and the contest is as
+/// before. `Write` where a write failed: a front of the interim reply went out, and the contest is
+/// as before; or a front of the reply, and the contest is as it is after the reply.
 pub fn serve_one<R: Read, W: Write, S: ContestStore>(
     alloc: Global,
     reader: &mut Counted<R>,

@@ -4,8 +4,8 @@ ghost use Rattle.std.specs.List.{position};
 ghost use Rattle.std.specs.Option.{option_map};
 ghost use Rattle.contest_http.specs.Targets.{before_query, from_slash, path_and_query, path_of};
 
-/// The path of a target, without its query; none where the target is neither a path nor a URI of HTTP
-/// (RFC 9112, section 3.2).
+/// The path of a target, without its query; none where the target is neither a path nor a URI of
+/// HTTP (RFC 9112, section 3.2).
 pub(crate) fn path_of(target: &[u8]) -> Option<&[u8]>
     ensures { option_map (λ path. path.now) result ≡ path_of target.now }
 {

@@ -1,6 +1,6 @@
 use Rattle.std.proofs.Common.{◌++◌, arith, take}
 use Rattle.std.proofs.lemmas.Grind.{common_steps}
-use Rattle.contest_streams.proofs.StreamLemmas.{consumes_both}
+use Rattle.std.proofs.KnownBytes.{Consumes-trans}
 use Rattle.contest_http.proofs.body.read_by.Goals as goal
 
 -- the last piece is taken too, though memory for it was refused
@@ -11,5 +11,5 @@ returns-then-is_err-clause-err g c =
     record {
       bytes = bytes ++ last;
       within = grind (arith, common_steps, c.in-Ok.ensures.bound);
-      taken = consumes_both _ _ _ bytes last c.loop-bytes.invariant.taken c.in-Ok.ensures.bytes.0;
+      taken = Consumes-trans _ _ _ bytes last c.loop-bytes.invariant.taken c.in-Ok.ensures.bytes.0;
     }

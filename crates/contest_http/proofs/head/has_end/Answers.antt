@@ -1,11 +1,8 @@
-use Rattle.std.proofs.Common.{◌≡◌, ◌-◌, arith, sym, ap, ◌∙◌, ℕ, List, drop, take, length, length-drop}
-use Rattle.std.proofs.lemmas.List.{take_all}
+use Rattle.std.proofs.Common.{◌-◌, arith, sym, ap, ◌∙◌}
+use Rattle.std.proofs.lemmas.List.{take_rest}
 use Rattle.contest_http.specs.Head.{begins_end}
 use Rattle.contest_http.proofs.HeadLemmas.{has_end-later}
 use Rattle.contest_http.proofs.head.has_end.Goals as goal
-
-rest : (xs : List ℕ) (i : ℕ) → take (length xs - i) (drop i xs) ≡ drop i xs
-rest xs i = grind (arith, take_all, length-drop)
 
 pub loop-at-preserved : goal.loop-at-preserved
 loop-at-preserved c = record {
@@ -13,5 +10,5 @@ loop-at-preserved c = record {
   none =
       c.loop-at.invariant.none
       ∙ has_end-later c.args.bytes.now c.loop-at.at c.loop-at-test.true
-      (ap begins_end (sym (rest c.args.bytes.now c.loop-at.at)) ∙ sym c.begins_end.ensures ∙ c.if-begins_end.false);
+      (ap begins_end (sym (take_rest c.args.bytes.now c.loop-at.at)) ∙ sym c.begins_end.ensures ∙ c.if-begins_end.false);
 }

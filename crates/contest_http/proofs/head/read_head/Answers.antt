@@ -1,5 +1,6 @@
 use Rattle.std.proofs.Common.{arith, sym, refl, ◌∙◌, ◌≡◌, ◌+◌, ◌++◌, ◌∷◌, [], length, length-append, Result, Ok, Err, OnErr}
-use Rattle.contest_http.proofs.HeadLemmas.{still_none, still_init, takes_more, still_more, head_whole, head_cut, head_most, part_kept, part_more}
+use Rattle.std.proofs.KnownBytes.{Consumes-nil}
+use Rattle.contest_http.proofs.HeadLemmas.{still_init, takes_more, still_more, head_whole, head_cut, head_most, part_kept, part_more}
 use Rattle.contest_http.proofs.head.read_head.Goals as goal
 
 on_err_always : {T E P : Type 0} (r : Result T E) → P → OnErr r P
@@ -10,7 +11,7 @@ pub loop-reader-init : goal.loop-reader-init
 loop-reader-init g c = record {
   count = omega arith;
   within = rw c.new-bytes.ensures.items (omega arith);
-  taken = rw c.new-bytes.ensures.items (still_none _);
+  taken = rw c.new-bytes.ensures.items (Consumes-nil _);
   none = rw c.new-bytes.ensures.items refl;
   still = rw c.new-bytes.ensures.items (still_init _);
 }
