@@ -1,6 +1,6 @@
 -- How a command ends that keeps a contest in a file: by its words, by what can't be had of the machine, or as it says
 -- of what was opened.
-use Rattle.std.specs.Prelude.{◌≡◌, ◌⊎◌, ℕ, List}
+use Rattle.std.specs.Prelude.{◌≡◌, ◌⊎◌, ℕ, Bool, true, List, Result, Ok, Err}
 use Rattle.std.specs.Io.KnownBytes.{Keeps}
 use Rattle.clap.specs.Simple.{App}
 use Rattle.clap.specs.Walk.{Row, Text}
@@ -11,6 +11,8 @@ use Rattle.contest_store_tables.specs.Numbered.{IsNumbered}
 use Rattle.contest_cli_words.specs.CommandErrors.{IsMemory, IsWords, exit_status_of, line_of}
 use Rattle.contest_cli_words.specs.CommandTable.{HasFault, Names}
 use Rattle.contest_cli_machine.specs.Unopened.{IsNoStore}
+use Rattle.contest_cli_machine.specs.declared.opening.Opening.{Opening}
+use Rattle.contest_cli_machine.specs.declared.opening.Opening.TheVariants.{Existing}
 use Rattle.contest_cli_words.specs.declared.command_error.CommandError.{CommandError}
 use Rattle.contest_cli_words.specs.declared.command_error.CommandError.TheVariants.{Clock}
 
@@ -19,26 +21,39 @@ abbrev pub EndsEarly : (CommandError → Type 0) → (err_old err_new : Stream) 
 EndsEarly Why err_old err_new status =
     (stop : CommandError) × Why stop × (status ≡ exit_status_of stop) × Tells err_old err_new (line_of stop)
 
--- a command is known to clap; values of its words are some A, which leaves the moment to the clock if it Looks; and this
--- can't be had of the machine once the file that keeps the contest is open
-module _ {A : Type 0} (app : App) (Is : List Row → A → Type 0) (Looks : A → Type 0) (Lacks : CommandError → Type 0) where
-  -- a clock that shows no moment, or something that can't be opened
+-- the file that keeps the contest isn't made by its opening: the command makes none, or something is at the path
+abbrev pub StandsThere : Opening → (There : List ℕ → Result Bool CommandError → Type 0) → (path : List ℕ) → Type 0
+StandsThere way There path = (way ≡ Existing) ⊎ There path (Ok true)
+
+-- that file can't be looked for, or not be opened
+abbrev pub Unopened : {A S : Type 0} → (file : A → List ℕ) → (There : List ℕ → Result Bool CommandError → Type 0) → (Found : List ℕ → Result (Held S) CommandError → Type 0)
+    → A → CommandError → Type 0
+Unopened file There Found asked stop = IsNoStore stop × (There (file asked) (Err stop) ⊎ Found (file asked) (Err stop))
+
+-- a command is known to clap; values of its words are some A, which name the file that keeps the contest, and which leave
+-- the moment to the clock if it Looks; this can't be had of the machine for them. On the machine this comes of looking at
+-- the clock, of looking whether something is at a path, and of opening the SQLite file there
+module _ {A S : Type 0} (app : App) (Is : List Row → A → Type 0) (file : A → List ℕ) (Looks : A → Type 0) (Lacks : A → CommandError → Type 0)
+    (Shows : Result ℕ CommandError → Type 0) (There : List ℕ → Result Bool CommandError → Type 0) (Found : List ℕ → Result (Held S) CommandError → Type 0) where
+  -- a clock that shows no moment, that file, or something else that can't be had
   abbrev pub Unmet : A → CommandError → Type 0
-  Unmet asked stop = (Looks asked × (stop ≡ Clock)) ⊎ (IsNoStore stop ⊎ Lacks stop)
+  Unmet asked stop = (Looks asked × (stop ≡ Clock) × Shows (Err stop)) ⊎ (Unopened file There Found asked stop ⊎ Lacks asked stop)
 
   -- why it isn't begun: its words have a fault, or memory was refused, or something can't be had of the machine
   abbrev pub StopsEarly : List Text → CommandError → Type 0
   StopsEarly words stop =
       (IsWords stop × HasFault Is app words) ⊎ (IsMemory stop ⊎ ((asked : A) × Names Is app words asked × Unmet asked stop))
 
-  -- stores are of some type S, of which this is known of one that was opened, and the command ends so on one
-  module _ {S : Type 0} (g : Ghosts S) (Found : Held S → Type 0)
-      (Ends : A → (out_old out_new err_old err_new : Stream) → (old new : Held S) → (status : ℕ) → Type 0) where
-    -- it is begun, and ends as it says of the file that was opened
+  -- it runs at some N, which Fits what is asked for, on some I that it Has of the machine; of a store of type S it has
+  -- Left; and it ends so on one
+  module _ {N I : Type 0} (Fits : A → N → Type 0) (Has : A → I → Type 0) (g : Ghosts S) (Left : S → Type 0)
+      (Ends : A → N → I → (out_old out_new err_old err_new : Stream) → (old new : Held S) → (status : ℕ) → Type 0) where
+    -- it is begun, and ends as it says of the file that was opened, from which it parts
     abbrev pub RunsOpened : List Text → (out_old out_new err_old err_new : Stream) → (status : ℕ) → Type 0
     RunsOpened words out_old out_new err_old err_new status =
-        (asked : A) × Names Is app words asked × (old new : Held S) × Found old × IsNumbered (state g old)
-        × Ends asked out_old out_new err_old err_new old new status
+        (asked : A) × Names Is app words asked × (now : N) × Fits asked now × (input : I) × Has asked input
+        × (old new : Held S) × Found (file asked) (Ok old) × IsNumbered (state g old)
+        × Ends asked now input out_old out_new err_old err_new old new status × (last : S) × Left last
 
     -- how it ends by its words; where it isn't begun, `out` keeps what it had
     abbrev pub RunsByWords : List Text → (out_old out_new err_old err_new : Stream) → (status : ℕ) → Type 0

@@ -3,7 +3,8 @@ ghost use Rattle.std.specs.Prelude.{◌≡◌, ◌≤◌, codes, map, string_byt
 ghost use Rattle.sqlite.specs.Files.{over_files};
 ghost use Rattle.contest_streams.specs.Streams.{stream};
 ghost use Rattle.contest_cli_words.specs.Endings.{ShowsSome, TellsWords};
-ghost use Rattle.contest_cli.specs.Commands.{AsksHelp, NamesNone, TellsNone, TellsUnknown, first_word, invocation_of, unknown_command};
+ghost use Rattle.contest_cli.specs.Commands.{AsksHelp, NamesNone, TellsNone, TellsUnknown};
+ghost use Rattle.contest_cli.specs.Commands.{first_word, invocation_of, unknown_command};
 ghost use Rattle.contest_cli.specs.Runs.{Runs};
 ghost use Rattle.contest_cli_commands.specs.Serve.{ServesOn};
 ghost use Rattle.contest_cli.specs.declared.invocation.CommandName.{CommandName};
@@ -11,7 +12,10 @@ ghost use Rattle.contest_cli.specs.declared.invocation.CommandName.{CommandName}
 use crate::file_command::run_by_words;
 use crate::help::{HELP, show_help_of};
 use crate::invocation::{CommandName, Invocation, invocation_of};
-use contest_cli_machine::{Host, HostListener, HostNetwork, Listen, Machine, Network};
+use contest_cli_machine::{
+    ClientReader, ClientWriter, Host, HostListener, HostNetwork, Listen, Machine, MachineClock,
+    Network, Outside,
+};
 use contest_cli_replay::replay;
 use contest_cli_words::{
     AwardsWords, BoardWords, CommandError, ExportWords, ImportWords, InitWords, ServeWords,
@@ -22,8 +26,8 @@ use contest_types::Refusal;
 use sqlite::{Start, Unknown};
 use std::alloc::{AllocError, Global};
 use std::env::Args;
+use std::fs::File;
 use std::io::{self, Read, Write};
-use std::net::TcpStream;
 
 /// Runs the program by its arguments, of which the first is its own name. Answers the exit status.
 pub fn start<R: Read + Drop, O: Write + Drop, E: Write + Drop>(
@@ -59,7 +63,7 @@ fn run_on_host<D: Start, R: Read, O: Write, E: Write>(
 ) -> u8
     ensures statuses { result ≤ 2 }
     ensures command { (command : CommandName) → invocation_of (map string_bytes words.now) ≡ Invocation.To command
-        → Runs over_files ⟦<Host<'static, D> as Machine>⟧.found (ServesOn over_files ⟦<HostListener as Listen>⟧.port_of ⟦<HostListener as Listen>⟧.gives ⟦<HostListener as Listen>⟧.parts ⟦<HostNetwork<'static> as Network>⟧.shows ⟦<TcpStream as Read>⟧.remaining ⟦<TcpStream as Write>⟧.contents) command (map string_bytes words.now)
+        → Runs over_files ⟦<File as Read>⟧.remaining (⟦<Host<'static, D> as MachineClock>⟧.shows (record { rt = rt.entry; disk = disk })) (⟦<Host<'static, D> as Machine>⟧.there (record { rt = rt.entry; disk = disk })) ⟦<Host<'static, D> as Machine>⟧.found ⟦<HostNetwork<'static> as Outside>⟧.reads ⟦<Host<'static, D> as Machine>⟧.left (ServesOn over_files ⟦<HostListener<'static> as Listen>⟧.port_of ⟦<HostListener<'static> as Listen>⟧.gives ⟦<HostListener<'static> as Listen>⟧.parts ⟦<HostNetwork<'static> as Network>⟧.shows ⟦<ClientReader<'static> as Read>⟧.remaining ⟦<ClientWriter<'static> as Write>⟧.contents) command (map string_bytes words.now)
         (stream R.remaining reader.old) (stream R.remaining reader.new)
         (stream O.contents out.old) (stream O.contents out.new)
         (stream E.contents err.old) (stream E.contents err.new) result }
@@ -79,7 +83,7 @@ fn run_owned<M: Machine, R: Read, O: Write, E: Write>(
 ) -> u8
     ensures statuses { result ≤ 2 }
     ensures command { (command : CommandName) → invocation_of (map string_bytes words.now) ≡ Invocation.To command
-        → Runs M.Disk.Store M.found (ServesOn M.Disk.Store M.Outside.Listener.port_of M.Outside.Listener.gives M.Outside.Listener.parts M.Outside.shows M.Outside.Listener.Reader.remaining M.Outside.Listener.Writer.contents) command (map string_bytes words.now)
+        → Runs M.Disk.Store M.Outside.File.remaining (M.shows machine) (M.there machine) M.found M.Outside.reads M.left (ServesOn M.Disk.Store M.Outside.Listener.port_of M.Outside.Listener.gives M.Outside.Listener.parts M.Outside.shows M.Outside.Listener.Reader.remaining M.Outside.Listener.Writer.contents) command (map string_bytes words.now)
         (stream R.remaining reader.old) (stream R.remaining reader.new)
         (stream O.contents out.old) (stream O.contents out.new)
         (stream E.contents err.old) (stream E.contents err.new) result }
@@ -104,7 +108,7 @@ pub fn run<M: Machine, R: Read, O: Write, E: Write>(
 ) -> u8
     ensures statuses { result ≤ 2 }
     ensures command { (command : CommandName) → invocation_of (map (λ s. s.now) words.now) ≡ Invocation.To command
-        → Runs M.Disk.Store M.found (ServesOn M.Disk.Store M.Outside.Listener.port_of M.Outside.Listener.gives M.Outside.Listener.parts M.Outside.shows M.Outside.Listener.Reader.remaining M.Outside.Listener.Writer.contents) command (map (λ s. s.now) words.now)
+        → Runs M.Disk.Store M.Outside.File.remaining (M.shows machine) (M.there machine) M.found M.Outside.reads M.left (ServesOn M.Disk.Store M.Outside.Listener.port_of M.Outside.Listener.gives M.Outside.Listener.parts M.Outside.shows M.Outside.Listener.Reader.remaining M.Outside.Listener.Writer.contents) command (map (λ s. s.now) words.now)
         (stream R.remaining reader.old) (stream R.remaining reader.new)
         (stream O.contents out.old) (stream O.contents out.new)
         (stream E.contents err.old) (stream E.contents err.new) result }
@@ -142,7 +146,7 @@ fn run_command<M: Machine, R: Read, O: Write, E: Write>(
     err: &mut Counted<E>,
 ) -> u8
     ensures statuses { result ≤ 2 }
-    ensures runs { Runs M.Disk.Store M.found (ServesOn M.Disk.Store M.Outside.Listener.port_of M.Outside.Listener.gives M.Outside.Listener.parts M.Outside.shows M.Outside.Listener.Reader.remaining M.Outside.Listener.Writer.contents) command (map (λ s. s.now) words.now)
+    ensures runs { Runs M.Disk.Store M.Outside.File.remaining (M.shows machine) (M.there machine) M.found M.Outside.reads M.left (ServesOn M.Disk.Store M.Outside.Listener.port_of M.Outside.Listener.gives M.Outside.Listener.parts M.Outside.shows M.Outside.Listener.Reader.remaining M.Outside.Listener.Writer.contents) command (map (λ s. s.now) words.now)
         (stream R.remaining reader.old) (stream R.remaining reader.new)
         (stream O.contents out.old) (stream O.contents out.new)
         (stream E.contents err.old) (stream E.contents err.new) result }

@@ -1,9 +1,11 @@
 //! The commands that keep a contest in a file.
-ghost use Rattle.std.specs.Prelude.{◌≡◌, IfErr, IfOk, None};
+ghost use Rattle.std.specs.Prelude.{◌≡◌, Err, IfErr, IfOk, None};
 ghost use Rattle.sqlite.specs.Held.{state};
-ghost use Rattle.contest_streams.specs.Streams.{stream};
+ghost use Rattle.contest_streams.specs.Streams.{ReadsAll, stream};
 ghost use Rattle.contest_store_tables.specs.Numbered.{IsNumbered};
-ghost use Rattle.contest_cli.specs.FileCommands.{AwardsOn, BoardsOn, ExportsOn, ImportsOn, InitsOn, IsAskedMoment, LacksContest, ServesOnce, UpgradesOn, viewer};
+ghost use Rattle.contest_cli.specs.FileCommands.{AwardsOn, BoardsOn, ExportsOn, ImportsOn, InitsOn};
+ghost use Rattle.contest_cli.specs.FileCommands.{IsAskedMoment, IsUnread, ServesOnce, UpgradesOn};
+ghost use Rattle.contest_cli.specs.FileCommands.{viewer};
 ghost use Rattle.contest_cli_commands.specs.Serve.{ServesOn};
 
 use crate::file_command::FileCommand;
@@ -14,25 +16,30 @@ use contest_cli_words::{
     ServeWords, UpgradeWords, Who,
 };
 use contest_streams::{Counted, read_limited};
-use contest_types::Moment;
 use contest_types::limits::IMPORTED_FILE;
+use contest_types::{Moment, Rows};
 use sqlite::{Alter, Connection};
 use std::alloc::Global;
 use std::io::{Read, Write};
 
 impl<W: Outside> FileCommand<W> for InitWords<'_> {
-    ghost use Rattle.contest_cli.specs.FileCommands.{InitsOn, LacksContest, LooksNever};
+    ghost use Rattle.contest_cli.specs.FileCommands.{FitsAny, HasContest, InitsOn, LacksContest};
+    ghost use Rattle.contest_cli.specs.FileCommands.{LooksNever};
     ghost use Rattle.contest_cli_machine.specs.declared.opening.Opening.TheVariants.{New};
 
     type Now = ();
 
-    type Input = Vec<u8>;
+    type Input = Rows<u8>;
 
     ghost looks = { LooksNever };
 
-    ghost fits = { λ asked now. Unit {0} };
+    ghost fits = { λ _. FitsAny };
 
-    ghost lacks = { LacksContest };
+    ghost lacks = { LacksContest W.File.remaining W.reads };
+
+    ghost has = { HasContest W.File.remaining W.reads };
+
+    ghost path = { λ asked. asked.file.now };
 
     ghost way = { New };
 
@@ -51,23 +58,23 @@ impl<W: Outside> FileCommand<W> for InitWords<'_> {
     }
 
     // All bytes are read here, so that no file is made where that fails.
-    fn input(&self, alloc: Global, outside: W) -> Result<Vec<u8>, CommandError> {
+    fn input(&self, alloc: Global, outside: W) -> Result<Rows<u8>, CommandError> {
         let mut reader = outside.read(self.contest)?;
-        whole_file(alloc, &mut reader)
+        let bytes = whole_file(alloc, &mut reader)?;
+        Ok(Rows::from_vec(bytes))
     }
 
     fn run<S: Alter, O: Write, E: Write>(
         &self,
         alloc: Global,
         conn: Connection<S>,
-        _: (),
-        input: Vec<u8>,
+        now: (),
+        input: Rows<u8>,
         out: &mut Counted<O>,
         err: &mut Counted<E>,
     ) -> (u8, Connection<S>)
-        requires numbered { IsNumbered (state S.Store conn) }
-        requires fits { Unit {0} }
-        ensures { InitsOn S.Store self.now (stream O.contents out.old) (stream O.contents out.new)
+        requires { IsNumbered (state S.Store conn) }
+        ensures { InitsOn S.Store self.now now input (stream O.contents out.old) (stream O.contents out.new)
             (stream E.contents err.old) (stream E.contents err.new) conn result.1 result.0 }
     {
         run_init(alloc, conn, &mut Counted::new(input.as_slice()), err)
@@ -75,8 +82,10 @@ impl<W: Outside> FileCommand<W> for InitWords<'_> {
 }
 
 // The bytes of a file, which is read to its end.
+#[tactic(auto, using(crate::proofs::CommandLemmas::is_unread))]
 fn whole_file<R: Read>(alloc: Global, reader: &mut Counted<R>) -> Result<Vec<u8>, CommandError>
-    ensures { IfErr result LacksContest }
+    ensures ok { IfOk result (λ bytes. ReadsAll (R.remaining reader.old.inner) (R.remaining reader.new.inner) IMPORTED_FILE bytes.items) }
+    ensures err { IfErr result (IsUnread (stream R.remaining reader.old) (stream R.remaining reader.new)) }
 {
     match read_limited(alloc, reader, IMPORTED_FILE) {
         Ok(bytes) => Ok(bytes),
@@ -85,9 +94,9 @@ fn whole_file<R: Read>(alloc: Global, reader: &mut Counted<R>) -> Result<Vec<u8>
 }
 
 impl<W: Outside> FileCommand<W> for ImportWords<'_> {
-    ghost use Rattle.contest_cli.specs.FileCommands.{ImportsOn, LooksAlways};
+    ghost use Rattle.contest_cli.specs.FileCommands.{FitsClock, HasPath, ImportsOn, LacksPath};
+    ghost use Rattle.contest_cli.specs.FileCommands.{LooksAlways};
     ghost use Rattle.contest_cli_machine.specs.declared.opening.Opening.TheVariants.{Existing};
-    ghost use Rattle.contest_cli_machine.specs.Unopened.{IsNoFile};
 
     type Now = Moment;
 
@@ -95,13 +104,17 @@ impl<W: Outside> FileCommand<W> for ImportWords<'_> {
 
     ghost looks = { LooksAlways };
 
-    ghost fits = { λ asked now. Unit {0} };
+    ghost fits = { λ shows. FitsClock shows };
 
-    ghost lacks = { IsNoFile };
+    ghost lacks = { LacksPath W.File.remaining W.reads };
+
+    ghost has = { HasPath W.File.remaining W.reads };
+
+    ghost path = { λ asked. asked.file.now };
 
     ghost way = { Existing };
 
-    ghost ends = { λ g. ImportsOn g };
+    ghost ends = { λ g. ImportsOn g W.File.remaining };
 
     fn file(&self) -> &str {
         self.file
@@ -128,9 +141,8 @@ impl<W: Outside> FileCommand<W> for ImportWords<'_> {
         out: &mut Counted<O>,
         err: &mut Counted<E>,
     ) -> (u8, Connection<S>)
-        requires numbered { IsNumbered (state S.Store conn) }
-        requires fits { Unit {0} }
-        ensures { ImportsOn S.Store self.now (stream O.contents out.old) (stream O.contents out.new)
+        requires { IsNumbered (state S.Store conn) }
+        ensures { ImportsOn S.Store W.File.remaining self.now now input (stream O.contents out.old) (stream O.contents out.new)
             (stream E.contents err.old) (stream E.contents err.new) conn result.1 result.0 }
     {
         run_import(alloc, conn, now, self.kind, &mut input, out, err)
@@ -138,7 +150,8 @@ impl<W: Outside> FileCommand<W> for ImportWords<'_> {
 }
 
 impl<W: Outside> FileCommand<W> for BoardWords<'_> {
-    ghost use Rattle.contest_cli.specs.FileCommands.{BoardLooks, BoardsOn, IsAskedMoment, LacksNothing};
+    ghost use Rattle.contest_cli.specs.FileCommands.{BoardLooks, BoardsOn, FitsBoard, HasAny};
+    ghost use Rattle.contest_cli.specs.FileCommands.{LacksNothing};
     ghost use Rattle.contest_cli_machine.specs.declared.opening.Opening.TheVariants.{Existing};
 
     type Now = Moment;
@@ -147,9 +160,13 @@ impl<W: Outside> FileCommand<W> for BoardWords<'_> {
 
     ghost looks = { BoardLooks };
 
-    ghost fits = { λ asked now. IsAskedMoment asked.at now };
+    ghost fits = { λ shows. FitsBoard shows };
 
     ghost lacks = { LacksNothing };
+
+    ghost has = { HasAny };
+
+    ghost path = { λ asked. asked.file.now };
 
     ghost way = { Existing };
 
@@ -176,13 +193,12 @@ impl<W: Outside> FileCommand<W> for BoardWords<'_> {
         alloc: Global,
         conn: Connection<S>,
         now: Moment,
-        _: (),
+        input: (),
         out: &mut Counted<O>,
         err: &mut Counted<E>,
     ) -> (u8, Connection<S>)
-        requires numbered { IsNumbered (state S.Store conn) }
-        requires fits { IsAskedMoment self.now.at now }
-        ensures { BoardsOn S.Store self.now (stream O.contents out.old) (stream O.contents out.new)
+        requires { IsNumbered (state S.Store conn) }
+        ensures { BoardsOn S.Store self.now now input (stream O.contents out.old) (stream O.contents out.new)
             (stream E.contents err.old) (stream E.contents err.new) conn result.1 result.0 }
     {
         run_print(alloc, conn, now, AskedText::Board(self.asked), out, err)
@@ -190,7 +206,8 @@ impl<W: Outside> FileCommand<W> for BoardWords<'_> {
 }
 
 impl<W: Outside> FileCommand<W> for AwardsWords<'_> {
-    ghost use Rattle.contest_cli.specs.FileCommands.{AwardsLooks, AwardsOn, IsAskedMoment, LacksNothing};
+    ghost use Rattle.contest_cli.specs.FileCommands.{AwardsLooks, AwardsOn, FitsAwards, HasAny};
+    ghost use Rattle.contest_cli.specs.FileCommands.{LacksNothing};
     ghost use Rattle.contest_cli_machine.specs.declared.opening.Opening.TheVariants.{Existing};
 
     type Now = Moment;
@@ -199,9 +216,13 @@ impl<W: Outside> FileCommand<W> for AwardsWords<'_> {
 
     ghost looks = { AwardsLooks };
 
-    ghost fits = { λ asked now. IsAskedMoment asked.at now };
+    ghost fits = { λ shows. FitsAwards shows };
 
     ghost lacks = { LacksNothing };
+
+    ghost has = { HasAny };
+
+    ghost path = { λ asked. asked.file.now };
 
     ghost way = { Existing };
 
@@ -228,13 +249,12 @@ impl<W: Outside> FileCommand<W> for AwardsWords<'_> {
         alloc: Global,
         conn: Connection<S>,
         now: Moment,
-        _: (),
+        input: (),
         out: &mut Counted<O>,
         err: &mut Counted<E>,
     ) -> (u8, Connection<S>)
-        requires numbered { IsNumbered (state S.Store conn) }
-        requires fits { IsAskedMoment self.now.at now }
-        ensures { AwardsOn S.Store self.now (stream O.contents out.old) (stream O.contents out.new)
+        requires { IsNumbered (state S.Store conn) }
+        ensures { AwardsOn S.Store self.now now input (stream O.contents out.old) (stream O.contents out.new)
             (stream E.contents err.old) (stream E.contents err.new) conn result.1 result.0 }
     {
         let asked = AskedText::Awards(viewer(self.jury));
@@ -244,8 +264,8 @@ impl<W: Outside> FileCommand<W> for AwardsWords<'_> {
 
 // The moment that is asked for; the clock's where none is.
 fn asked_moment<C: MachineClock>(at: Option<Moment>, clock: &C) -> Result<Moment, CommandError>
-    ensures ok { IfOk result (IsAskedMoment at) }
-    ensures err { IfErr result (λ stop. (at ≡ None) × (stop ≡ CommandError.Clock)) }
+    ensures ok { IfOk result (IsAskedMoment (C.shows clock.now) at) }
+    ensures err { IfErr result (λ stop. (at ≡ None) × (stop ≡ CommandError.Clock) × C.shows clock.now (Err stop)) }
 {
     match at {
         Some(moment) => Ok(moment),
@@ -261,7 +281,8 @@ fn viewer(jury: bool) -> Who<'static>
 }
 
 impl<W: Outside> FileCommand<W> for ExportWords<'_> {
-    ghost use Rattle.contest_cli.specs.FileCommands.{ExportsOn, LacksNothing, LooksNever};
+    ghost use Rattle.contest_cli.specs.FileCommands.{ExportsOn, FitsAny, HasAny, LacksNothing};
+    ghost use Rattle.contest_cli.specs.FileCommands.{LooksNever};
     ghost use Rattle.contest_cli_machine.specs.declared.opening.Opening.TheVariants.{Existing};
 
     type Now = ();
@@ -270,9 +291,13 @@ impl<W: Outside> FileCommand<W> for ExportWords<'_> {
 
     ghost looks = { LooksNever };
 
-    ghost fits = { λ asked now. Unit {0} };
+    ghost fits = { λ _. FitsAny };
 
     ghost lacks = { LacksNothing };
+
+    ghost has = { HasAny };
+
+    ghost path = { λ asked. asked.file.now };
 
     ghost way = { Existing };
 
@@ -298,14 +323,13 @@ impl<W: Outside> FileCommand<W> for ExportWords<'_> {
         &self,
         alloc: Global,
         conn: Connection<S>,
-        _: (),
-        _: (),
+        now: (),
+        input: (),
         out: &mut Counted<O>,
         err: &mut Counted<E>,
     ) -> (u8, Connection<S>)
-        requires numbered { IsNumbered (state S.Store conn) }
-        requires fits { Unit {0} }
-        ensures { ExportsOn S.Store self.now (stream O.contents out.old) (stream O.contents out.new)
+        requires { IsNumbered (state S.Store conn) }
+        ensures { ExportsOn S.Store self.now now input (stream O.contents out.old) (stream O.contents out.new)
             (stream E.contents err.old) (stream E.contents err.new) conn result.1 result.0 }
     {
         run_export(alloc, conn, out, err)
@@ -313,7 +337,8 @@ impl<W: Outside> FileCommand<W> for ExportWords<'_> {
 }
 
 impl<W: Outside> FileCommand<W> for ServeWords<'_> {
-    ghost use Rattle.contest_cli.specs.FileCommands.{LacksNothing, LooksAlways, ServesOnce};
+    ghost use Rattle.contest_cli.specs.FileCommands.{FitsClock, HasAny, LacksNothing, LooksAlways};
+    ghost use Rattle.contest_cli.specs.FileCommands.{ServesOnce};
     ghost use Rattle.contest_cli_machine.specs.declared.opening.Opening.TheVariants.{Existing};
     ghost use Rattle.contest_cli_commands.specs.Serve.{ServesOn};
 
@@ -323,9 +348,13 @@ impl<W: Outside> FileCommand<W> for ServeWords<'_> {
 
     ghost looks = { LooksAlways };
 
-    ghost fits = { λ asked now. Unit {0} };
+    ghost fits = { λ shows. FitsClock shows };
 
     ghost lacks = { LacksNothing };
+
+    ghost has = { HasAny };
+
+    ghost path = { λ asked. asked.file.now };
 
     ghost way = { Existing };
 
@@ -352,14 +381,13 @@ impl<W: Outside> FileCommand<W> for ServeWords<'_> {
         &self,
         alloc: Global,
         conn: Connection<S>,
-        _: Moment,
+        now: Moment,
         input: W,
         out: &mut Counted<O>,
         err: &mut Counted<E>,
     ) -> (u8, Connection<S>)
-        requires numbered { IsNumbered (state S.Store conn) }
-        requires fits { Unit {0} }
-        ensures { ServesOnce S.Store (ServesOn S.Store W.Listener.port_of W.Listener.gives W.Listener.parts W.shows W.Listener.Reader.remaining W.Listener.Writer.contents) self.now (stream O.contents out.old) (stream O.contents out.new)
+        requires { IsNumbered (state S.Store conn) }
+        ensures { ServesOnce S.Store (ServesOn S.Store W.Listener.port_of W.Listener.gives W.Listener.parts W.shows W.Listener.Reader.remaining W.Listener.Writer.contents) self.now now input (stream O.contents out.old) (stream O.contents out.new)
             (stream E.contents err.old) (stream E.contents err.new) conn result.1 result.0 }
     {
         run_serve(alloc, conn, &input, self.port, self.requests, out, err)
@@ -367,7 +395,8 @@ impl<W: Outside> FileCommand<W> for ServeWords<'_> {
 }
 
 impl<W: Outside> FileCommand<W> for UpgradeWords<'_> {
-    ghost use Rattle.contest_cli.specs.FileCommands.{UpgradesOn, LacksNothing, LooksNever};
+    ghost use Rattle.contest_cli.specs.FileCommands.{FitsAny, HasAny, LacksNothing, LooksNever};
+    ghost use Rattle.contest_cli.specs.FileCommands.{UpgradesOn};
     ghost use Rattle.contest_cli_machine.specs.declared.opening.Opening.TheVariants.{Existing};
 
     type Now = ();
@@ -376,9 +405,13 @@ impl<W: Outside> FileCommand<W> for UpgradeWords<'_> {
 
     ghost looks = { LooksNever };
 
-    ghost fits = { λ asked now. Unit {0} };
+    ghost fits = { λ _. FitsAny };
 
     ghost lacks = { LacksNothing };
+
+    ghost has = { HasAny };
+
+    ghost path = { λ asked. asked.file.now };
 
     ghost way = { Existing };
 
@@ -404,14 +437,13 @@ impl<W: Outside> FileCommand<W> for UpgradeWords<'_> {
         &self,
         alloc: Global,
         conn: Connection<S>,
-        _: (),
-        _: (),
+        now: (),
+        input: (),
         out: &mut Counted<O>,
         err: &mut Counted<E>,
     ) -> (u8, Connection<S>)
-        requires numbered { IsNumbered (state S.Store conn) }
-        requires fits { Unit {0} }
-        ensures { UpgradesOn S.Store self.now (stream O.contents out.old) (stream O.contents out.new)
+        requires { IsNumbered (state S.Store conn) }
+        ensures { UpgradesOn S.Store self.now now input (stream O.contents out.old) (stream O.contents out.new)
             (stream E.contents err.old) (stream E.contents err.new) conn result.1 result.0 }
     {
         run_upgrade(alloc, conn, out, err)

@@ -45,8 +45,8 @@ Examples:
 write a contest as CSV.
 ";
 
-/// Writes the help of a command to `out`, or tells `err` that `out` failed or memory was refused. Answers the
-/// exit status, 0 or 1.
+/// Writes the help of a command to `out`, or tells `err` that `out` failed or memory was refused.
+/// Answers the exit status, 0 or 1.
 pub(crate) fn show_help_of<O: Write, E: Write>(
     alloc: Global,
     command: CommandName,

@@ -1,5 +1,5 @@
 -- Clients that were served, and one more.
-use Rattle.std.proofs.Common.{◌≡◌, ◌∙◌, ◌+◌, ℕ, List, [], ◌∷◌, ◌++◌, Option, Some, Err, ap, refl, subst}
+use Rattle.std.proofs.Common.{◌≡◌, ◌∙◌, ◌+◌, ℕ, List, [], ◌∷◌, ◌++◌, Option, Some, Ok, Err, ap, refl, subst}
 use Rattle.std.specs.Prelude.{Result}
 use Rattle.std.proofs.lemmas.List.{length_push}
 use Rattle.contest_streams.specs.Streams.{Counting, Failed}
@@ -8,9 +8,10 @@ use Rattle.contest_http.specs.Serving.{HandlesOne, ServesOne}
 use Rattle.contest_http.specs.declared.framed.ServeFault.{ServeFault}
 use Rattle.contest_http.specs.declared.framed.ServeFault.TheVariants.{Read, Write}
 use Rattle.contest_http.specs.declared.framed.Served.{Served}
+use Rattle.contest_cli_words.specs.declared.command_error.CommandError.{CommandError}
 use Rattle.contest_cli_commands.specs.Clients.{Comes, ServesClient, ServesClients, ServesNext, ServesThese}
 
-module _ {L R W S : Type 0} (gives : L → Option (R × W) → L → Type 0) (parts : L → Counting R → Counting W → Type 0) (shows : ℕ → Type 0)
+module _ {L R W S : Type 0} (gives : L → Option (R × W) → L → Type 0) (parts : L → Counting R → Counting W → Type 0) (shows : L → Result ℕ CommandError → Type 0)
     (remaining : R → Option (List ℕ)) (contents : W → Option (List ℕ)) (kept : S → Kept) where
   one_more : (clients : List (Option (R × W))) (client : Option (R × W)) (old last new : L) (before between after : S)
       → ServesThese gives parts shows remaining contents kept clients old last before between
@@ -30,7 +31,7 @@ module _ {L R W S : Type 0} (gives : L → Option (R × W) → L → Type 0) (pa
 
   -- a client that was served by its reader and its writer, whose failed calls were counted from none
   pub served : (l : L) (old : R) (counted reader : Counting R) (old_w : W) (counted_w writer : Counting W) (before after : S) (now : ℕ) (answer : Result Served ServeFault)
-      → shows now → counted.inner ≡ old → counted.faults ≡ 0 → counted_w.inner ≡ old_w → counted_w.faults ≡ 0 → HandlesOne kept now before after
+      → shows l (Ok now) → counted.inner ≡ old → counted.faults ≡ 0 → counted_w.inner ≡ old_w → counted_w.faults ≡ 0 → HandlesOne kept now before after
       → ((input left : List ℕ) → remaining counted.inner ≡ Some input → remaining reader.inner ≡ Some left → ServesOne kept input left (contents counted_w.inner) (contents writer.inner) now before after answer)
       → (answer ≡ Err Read → Failed counted.faults reader.faults) → (answer ≡ Err Write → Failed counted_w.faults writer.faults)
       → parts l reader writer → ServesClient gives parts shows remaining contents kept l old old_w before after

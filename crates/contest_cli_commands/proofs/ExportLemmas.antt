@@ -1,24 +1,43 @@
 -- What is told of the submissions of a contest, and what is left then.
-use Rattle.std.proofs.Common.{◌≡◌, ◌∙◌, ap, sym, inl, inr, ℕ, Some, Result, arith}
+use Rattle.std.proofs.Common.{◌≡◌, ◌∙◌, subst, sym, inl, inr, refl, ℕ, Result, Err, arith}
 use Rattle.std.specs.Prelude.{◌⊎◌}
 use Rattle.std.specs.Io.KnownBytes.{Keeps}
 use Rattle.sqlite.specs.State.{HasCleanDisk, State}
 use Rattle.contest_types.specs.State.{ContestState}
-use Rattle.contest_streams.specs.Streams.{Fails, Stream, Tells}
-use Rattle.contest_store.specs.Keeping.{Kept, LeavesNoMore}
+use Rattle.contest_streams.specs.Streams.{Failed, Fails, Stream, Tells}
+use Rattle.contest_store.specs.Keeping.{CountsFaults, Kept, LeavesNoMore}
+use Rattle.contest_store.specs.StoreErrors.{refusal_of}
 use Rattle.contest_store.specs.declared.store_error.StoreError.{StoreError}
-use Rattle.contest_store_sqlite.specs.Contests.{listed_in_trees, may_leave_of}
-use Rattle.contest_store_sqlite.specs.Opening.{Opened}
+use Rattle.contest_store.specs.declared.store_error.StoreError.TheVariants as error
+use Rattle.contest_store.proofs.LeaveLemmas.{one_more_failed}
+use Rattle.contest_store_sqlite.specs.Contests.{may_leave_of}
+use Rattle.contest_store_sqlite.specs.Opening.{FindsContest, Opened}
 use Rattle.contest_desk.specs.Serving.{OnlyReads}
+use Rattle.contest_export.specs.Exports.{of_store}
+use Rattle.contest_export.specs.declared.export.ExportFault.{ExportFault}
+use Rattle.contest_export.specs.declared.export.ExportFault.TheVariants.{Store}
 use Rattle.contest_cli_words.specs.CommandErrors.{exit_status_of, line_of}
 use Rattle.contest_cli_words.specs.declared.command_error.CommandError.{CommandError}
-use Rattle.contest_cli_words.specs.declared.command_error.CommandError.TheVariants.{File}
-use Rattle.contest_cli_commands.specs.Exporting.{Exports, ExportsKept, PutsFront, TellsExport}
+use Rattle.contest_cli_words.specs.declared.command_error.CommandError.TheVariants.{File, Refused}
+use Rattle.contest_cli_commands.specs.Exporting.{Exports, ExportsKept, PutsFront, StopsKept, TellsExport}
 use Rattle.contest_cli_commands.specs.Printing.{IsStoreStop, StopsOpening}
 
 -- a crash after a look leaves no more than before
 pub leaves_by_look : {T : Type 0} (r : Result T StoreError) (old new : Kept) → OnlyReads r old new → new.is_clean → LeavesNoMore old.may_leave new.may_leave
 leaves_by_look r old new l clean c left = elim (l.crash clean c left) [ inl before ↦ before | inr none ↦ absurd none.1 ]
+
+-- what a store failed with is told as that
+counted_stops : (e : StoreError) (old new : Kept) → CountsFaults (of_store (Err (Store e))) old.faults new.faults → StopsKept old new (Refused (refusal_of e))
+counted_stops error.Fault old new counted = inl (refl, subst (Failed old.faults) (sym counted) (one_more_failed old.faults))
+counted_stops error.Memory old new counted = inr refl
+
+pub stops_kept : (r : Result (Unit {0}) ExportFault) (e : StoreError) (old new : Kept) → r ≡ Err (Store e) → CountsFaults (of_store r) old.faults new.faults
+    → StopsKept old new (Refused (refusal_of e))
+stops_kept r e old new is counted = counted_stops e old new (subst (λ q. CountsFaults (of_store q) old.faults new.faults) is counted)
+
+as_stop : (old new : Kept) (stop : CommandError) → StopsKept old new stop → IsStoreStop stop
+as_stop old new stop (inl fault) = inl fault.0
+as_stop old new stop (inr memory) = inr memory
 
 -- why it ended early is told, and nothing is out or a front of the text
 pub cut_off : (clean : Type 0) (Is : ContestState → Type 0) (Stops : CommandError → Type 0) (out_old out_new err_old err_new : Stream) (stop : CommandError) (status : ℕ)
@@ -55,7 +74,7 @@ pub shown_by_store : (out_old out_new err_old err_new : Stream) (status : ℕ) (
     → (HasCleanDisk new → last.is_clean) → (HasCleanDisk new → Opened old first) → (HasCleanDisk new → LeavesNoMore last.may_leave (may_leave_of new))
     → Exports out_old out_new err_old err_new old new status
 shown_by_store out_old out_new err_old err_new status old new first last shows as_clean opened kept = record {
-  told = told_of last.is_clean (HasCleanDisk new) (λ x. x ≡ first.contest) (λ x. listed_in_trees old.now.trees ≡ Some x) IsStoreStop (StopsOpening old new) out_old out_new err_old err_new status as_clean
-      (λ clean x is. let o = opened clean in o.found ∙ ap Some (sym (is ∙ o.shows.now_is))) (λ stop is. inl is) shows.told;
+  told = told_of last.is_clean (HasCleanDisk new) (λ x. x ≡ first.contest) (FindsContest old) (StopsKept first last) (StopsOpening old new) out_old out_new err_old err_new status as_clean
+      (λ clean x is. let o = opened clean in subst (FindsContest old) (sym (is ∙ o.shows.now_is)) o.found) (λ stop is. inl (as_stop first last stop is)) shows.told;
   leaves = λ clean d left. (opened clean).crash d (shows.crash (as_clean clean) d (kept clean d left));
 }

@@ -1,5 +1,6 @@
 -- What an import leaves, from what its desk left, and how it ends.
 use Rattle.std.proofs.Common.{◌≡◌, ◌+◌, ◌⊎◌, ◌∙◌, inl, inr, ℕ, List, Some, Result, Ok, Err, ap, arith, refl, subst, sym}
+use Rattle.std.proofs.KnownBytes.{Keeps-refl}
 use Rattle.sqlite.specs.State.{HasCleanDisk, State}
 use Rattle.contest_types.specs.State.{ContestState}
 use Rattle.contest_streams.specs.Streams.{Fails, Stream, TakesFront, Tells}
@@ -8,7 +9,7 @@ use Rattle.contest_types.specs.declared.refusal.Refusal.{Refusal}
 use Rattle.contest_types.specs.declared.refusal.Refusal.TheVariants.{Memory, OldSchema, StoreFault}
 use Rattle.contest_streams.specs.declared.input.InputFault.{InputFault}
 use Rattle.contest_streams.specs.declared.input.InputFault.TheVariants as fault
-use Rattle.contest_store.specs.Keeping.{Kept, LeavesOnly, LeavesOr}
+use Rattle.contest_store.specs.Keeping.{Kept, LeavesNoMore, LeavesOnly, LeavesOr}
 use Rattle.contest_store.specs.StoreErrors.{refusal_of}
 use Rattle.contest_store.specs.declared.store_error.StoreError.{StoreError}
 use Rattle.contest_store.specs.declared.store_error.StoreError.TheVariants as error
@@ -19,17 +20,20 @@ use Rattle.contest_store_sqlite.specs.Contests.{may_leave_of}
 use Rattle.contest_store_sqlite.specs.Creation.{KeepsLists, open_refusal}
 use Rattle.contest_store_sqlite.specs.declared.open_error.OpenError.{OpenError}
 use Rattle.contest_store_sqlite.specs.declared.open_error.OpenError.TheVariants as open_error
-use Rattle.contest_store_sqlite.specs.Opening.{FindsFirst, Opened}
+use Rattle.contest_store_sqlite.specs.Opening.{FindsFirst, Opened, may_leave_filled}
 use Rattle.contest_cli_words.specs.Endings.{Shows}
-use Rattle.contest_cli_commands.specs.Import.{Imports, LeavesStep, RefusesImport, Steps, StepsOrFinds, StopsImport, added_line}
+use Rattle.contest_cli_commands.specs.Import.{Imports, KeepsNothing, LeavesStep, RefusesImport, Steps, StepsOrFinds, StopsImport, added_line}
 use Rattle.contest_cli_commands.specs.Inputs.{WasRead}
 use Rattle.contest_cli_words.specs.CommandErrors.{exit_status_of, line_of, stop_of}
 use Rattle.contest_cli_words.specs.declared.command_error.CommandError.{CommandError}
 use Rattle.contest_cli_words.specs.declared.command_error.CommandError.TheVariants.{Clock, File, Net, Refused, Usage}
 use Rattle.contest_cli_commands.proofs.InputLemmas.{keeps_lists, too_large}
-use Rattle.contest_cli_words.proofs.StreamLemmas.{keeps_same}
 
 -- a refusal is the store's or want of memory, or another
+of_store : (r : Refusal) → (r ≡ StoreFault) ⊎ (r ≡ Memory) → HasStoreError {A = ℕ} (Err r)
+of_store r (inl fault) = inl (ap Err fault)
+of_store r (inr memory) = inr (ap Err memory)
+
 decided : (r : Refusal) → ((r ≡ StoreFault) ⊎ (r ≡ Memory)) ⊎ ¬ HasStoreError {A = ℕ} (Err r)
 decided StoreFault = inl (inl refl)
 decided Memory = inl (inr refl)
@@ -55,9 +59,10 @@ module _ (now : ℕ) (kind : ImportKind) (input : Stream) (old new : State) wher
   leaves_as_before keeps clean c left = elim (keeps.crash clean left.0 left.1) [ inl before ↦ inl (inl (left.0, before, left.2)) | inr filled ↦ inl (inr (filled.0, filled.1, sym left.2 ∙ filled.2)) ]
 
   -- why rows that were read aren't added
-  pub refuses : (r : Refusal) → (¬ HasStoreError {A = ℕ} (Err r) → StepsOrFinds now kind input old new (Err r)) → RefusesImport now kind input old new r
-  refuses r steps = elim (decided r) [
-    | inl failed ↦ inl failed
+  pub refuses : (r : Refusal) → (¬ HasStoreError {A = ℕ} (Err r) → StepsOrFinds now kind input old new (Err r)) → (HasStoreError {A = ℕ} (Err r) → KeepsNothing old new)
+      → RefusesImport now kind input old new r
+  refuses r steps fails = elim (decided r) [
+    | inl failed ↦ inl (failed, fails (of_store r failed))
     | inr other ↦ elim (steps other) [ inl first ↦ inr (inl (old_of r first.0, first.1)) | inr is ↦ inr (inr (inr is)) ]
   ]
 
@@ -94,13 +99,18 @@ module _ (now : ℕ) (kind : ImportKind) (input : Stream) (old new : State) wher
       | inr is ↦ inr (bytes, read, opened.contest, opened.found, is ∙ ap (λ (x : ContestState). Some (import_step x now kind bytes).1) opened.shows.now_is)
     ]
 
+-- a desk that failed shows the contest that was found, and a crash leaves no other
+pub keeps_nothing : (old new : State) (before after : Kept) → Opened old before → after.contest ≡ before.contest → LeavesOnly (may_leave_of new) after.contest
+    → LeavesNoMore (may_leave_filled old) (may_leave_of new)
+keeps_nothing old new before after opened same only c left = inr (opened.contest, opened.found, only.1 c left ∙ ap Some (same ∙ opened.shows.now_is))
+
 -- an input that isn't read to its end stops it, and the connection isn't called
 pub fault_stops : (now : ℕ) (kind : ImportKind) (in_old in_new : Stream) (s : State) (f : InputFault)
     → (f ≡ fault.TooLarge → TakesFront in_old.bytes in_new.bytes (IMPORTED_FILE + 1)) → (f ≡ fault.File → Fails in_old in_new)
     → StopsImport now kind in_old in_new s s (stop_of f)
 fault_stops now kind in_old in_new s fault.File large failed = (failed refl, keeps_lists s)
 fault_stops now kind in_old in_new s fault.TooLarge large failed = inr (inr (inl (refl, too_large in_old.bytes in_new.bytes (large refl), keeps_lists s)))
-fault_stops now kind in_old in_new s fault.Memory large failed = inl (inr refl)
+fault_stops now kind in_old in_new s fault.Memory large failed = inl (inr refl, λ clean up c left. inl left)
 
 module _ (now : ℕ) (kind : ImportKind) (in_old in_new : Stream) (old new : State) (leaves : HasCleanDisk new → LeavesStep now kind in_old old new) (err_old err_new : Stream) (status : ℕ) where
   -- rows were added, and their number is told
@@ -124,12 +134,12 @@ module _ (now : ℕ) (kind : ImportKind) (in_old in_new : Stream) (old new : Sta
   stopped out (Refused r) stops is told = record {
     statuses = omega (arith, is);
     done = λ e. absurd (omega (arith, is, e));
-    refused = λ e. (Refused r, told, inl (stops, keeps_same out.bytes));
+    refused = λ e. (Refused r, told, inl (stops, Keeps-refl out.bytes));
     leaves = leaves;
   }
   stopped out File stops is told = record {
     statuses = omega (arith, is);
     done = λ e. absurd (omega (arith, is, e));
-    refused = λ e. (File, told, inl (stops, keeps_same out.bytes));
+    refused = λ e. (File, told, inl (stops, Keeps-refl out.bytes));
     leaves = leaves;
   }

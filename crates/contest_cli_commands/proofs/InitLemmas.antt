@@ -1,5 +1,6 @@
 -- What a file that is read, and a contest that is set up, say of `init`.
 use Rattle.std.proofs.Common.{◌≡◌, ◌+◌, ◌⊎◌, inl, inr, ◌∙◌, refl, subst, sym, ℕ, List, Bool, true, false, IsTrue, arith}
+use Rattle.std.proofs.KnownBytes.{Keeps-refl}
 use Rattle.sqlite.specs.State.{HasCleanDisk, State}
 use Rattle.sqlite.proofs.StateLemmas.{survives_weaker}
 use Rattle.contest_types.specs.State.{ContestState, new_contest}
@@ -27,7 +28,6 @@ use Rattle.contest_cli_words.specs.CommandErrors.{exit_status_of, line_of, stop_
 use Rattle.contest_cli_words.specs.declared.command_error.CommandError.{CommandError}
 use Rattle.contest_cli_words.specs.declared.command_error.CommandError.TheVariants.{File, Refused}
 use Rattle.contest_cli_commands.proofs.InputLemmas.{keeps_lists, too_large, was_read}
-use Rattle.contest_cli_words.proofs.StreamLemmas.{keeps_same}
 
 -- why a file can't be read
 pub unread_stops : (old new : Stream) (f : InputFault) → (f ≡ fault.TooLarge → TakesFront old.bytes new.bytes (IMPORTED_FILE + 1))
@@ -104,7 +104,7 @@ leaves_same input s = survives_weaker s s _ _ (λ clean db filled. inr filled) (
 pub set_up : (in_old in_new err : Stream) (old new : State) → SetsFile in_old old new → LeavesContest in_old old new → Inits in_old in_new err err old new 0
 set_up in_old in_new err old new sets leaves = record {
   statuses = omega arith;
-  done = λ is. (sets.0, sets.1, sets.2, keeps_same err.bytes);
+  done = λ is. (sets.0, sets.1, sets.2, Keeps-refl err.bytes);
   refused = λ is. absurd (omega (arith, is));
   leaves = leaves;
 }

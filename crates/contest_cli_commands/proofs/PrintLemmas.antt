@@ -2,31 +2,37 @@
 use Rattle.std.proofs.Common.{◌≡◌, ◌∙◌, ap, sym, refl, subst, inl, inr, ℕ, List, Option, Some, None, Result, Ok, Err, arith, true}
 use Rattle.std.specs.Prelude.{◌⊎◌, IfErr}
 use Rattle.std.specs.Result.{IsErrAnd}
+use Rattle.std.proofs.KnownBytes.{Keeps-refl}
 use Rattle.sqlite.specs.State.{HasCleanDisk, State}
+use Rattle.contest_types.specs.Masks.{is_audience}
 use Rattle.contest_types.specs.Setup.{Setup}
 use Rattle.contest_types.specs.State.{ContestState}
+use Rattle.contest_types.proofs.PlaceLemmas.{and_left}
 use Rattle.contest_streams.specs.Streams.{Stream, Tells}
 use Rattle.contest_types.specs.declared.marks.Marks.{Marks}
 use Rattle.contest_types.specs.declared.refusal.Refusal.{Refusal}
 use Rattle.contest_types.specs.declared.refusal.Refusal.TheVariants.{NotFound, OldSchema}
 use Rattle.contest_score.specs.Ranking.{Scoreboard}
+use Rattle.contest_score.specs.Awards.{shown_awards}
+use Rattle.contest_score.specs.Contest.{seen_board}
+use Rattle.contest_score.specs.declared.award.Award.{Award}
+use Rattle.contest_view.specs.Awards.{audience_awards}
 use Rattle.contest_view.specs.Scoreboards.{board_found}
-use Rattle.contest_desk.specs.Boards.{board_told}
+use Rattle.contest_desk.specs.Boards.{found_told}
 use Rattle.contest_desk.specs.Serving.{OnlyReads, refused_as}
 use Rattle.contest_store.specs.Keeping.{Kept, LeavesNoMore}
 use Rattle.contest_store.specs.StoreErrors.{refusal_of}
 use Rattle.contest_store.specs.declared.store_error.StoreError.{StoreError}
 use Rattle.contest_store.specs.declared.store_error.StoreError.TheVariants as error
-use Rattle.contest_store_sqlite.specs.Contests.{listed_in_trees, may_leave_of}
+use Rattle.contest_store_sqlite.specs.Contests.{may_leave_of}
 use Rattle.contest_store_sqlite.specs.Creation.{KeepsLists, open_refusal}
-use Rattle.contest_store_sqlite.specs.Opening.{FindsFirst, Opened, may_leave_filled}
+use Rattle.contest_store_sqlite.specs.Opening.{FindsContest, FindsFirst, Opened, may_leave_filled}
 use Rattle.contest_store_sqlite.specs.declared.open_error.OpenError.{OpenError}
 use Rattle.contest_store_sqlite.specs.declared.open_error.OpenError.TheVariants as open_error
 use Rattle.contest_cli_words.specs.CommandErrors.{IsMemory, IsWords, exit_status_of, line_of}
 use Rattle.contest_cli_words.specs.Endings.{Shows}
 use Rattle.contest_cli_words.specs.declared.command_error.CommandError.{CommandError}
 use Rattle.contest_cli_words.specs.declared.command_error.CommandError.TheVariants.{Clock, File, Net, Refused, Usage}
-use Rattle.contest_cli_words.proofs.StreamLemmas.{keeps_same}
 use Rattle.contest_cli_commands.specs.Looking.{is_there, look_of}
 use Rattle.contest_cli_commands.specs.Printing.{Prints, Gives, HasNone, IsStoreStop, PrintsKept, StopsOpening, StopsText, TellsText}
 use Rattle.contest_cli_commands.specs.declared.look.Look.{Look}
@@ -62,14 +68,24 @@ pub no_words_opened : (old new : State) (text : CommandError) → IsWords text �
 no_words_opened old new text words (inl is) = no_words text words is
 no_words_opened old new text words (inr is) = no_words_refused text OldSchema words is.0
 
--- a board that there is was refused by the store
-pub board_refused : (r : Result (Option Scoreboard) StoreError) (l : Look) (now : ℕ) (x : ContestState) (refusal : Refusal) → Err refusal ≡ board_told r
-    → (◌≡◌ {A = Result Scoreboard Refusal} (Err refusal) (Err NotFound) → board_found l.audience now l.group x ≡ None) → is_there x.fixed.settings l ≡ true → IsStoreStop (Refused refusal)
-board_refused (Ok (Some b)) l now x refusal is missing there = cc
-board_refused (Ok None) l now x refusal is missing there =
+-- what is there was refused by the store
+found_refused : {A : Type 0} (r : Result (Option A) StoreError) (found : Option A) (it : A) (refusal : Refusal) → Err refusal ≡ found_told r → (◌≡◌ {A = Result A Refusal} (Err refusal) (Err NotFound) → found ≡ None) → found ≡ Some it
+    → IsStoreStop (Refused refusal)
+found_refused (Ok (Some a)) found it refusal is missing there = cc
+found_refused (Ok None) found it refusal is missing there =
     let none = missing is in cc
-board_refused (Err error.Fault) l now x refusal is missing there = inl cc
-board_refused (Err error.Memory) l now x refusal is missing there = inr cc
+found_refused (Err error.Fault) found it refusal is missing there = inl cc
+found_refused (Err error.Memory) found it refusal is missing there = inr cc
+
+pub board_refused : (r : Result (Option Scoreboard) StoreError) (l : Look) (now : ℕ) (x : ContestState) (refusal : Refusal) → Err refusal ≡ found_told r
+    → (◌≡◌ {A = Result Scoreboard Refusal} (Err refusal) (Err NotFound) → board_found l.audience now l.group x ≡ None) → is_there x.fixed.settings l ≡ true → IsStoreStop (Refused refusal)
+board_refused r l now x refusal is missing there =
+    found_refused r (board_found l.audience now l.group x) (seen_board l.audience now l.group x) refusal is missing (rw there refl)
+
+pub awards_refused : (r : Result (Option (List Award)) StoreError) (l : Look) (now : ℕ) (x : ContestState) (refusal : Refusal) → Err refusal ≡ found_told r
+    → (◌≡◌ {A = Result (List Award) Refusal} (Err refusal) (Err NotFound) → audience_awards l.audience now x ≡ None) → is_there x.fixed.settings l ≡ true → IsStoreStop (Refused refusal)
+awards_refused r l now x refusal is missing there =
+    found_refused r (audience_awards l.audience now x) (shown_awards l.audience now x) refusal is missing (rw (and_left (is_audience x.fixed.settings l.audience) _ there) refl)
 
 -- a look that went well leaves the contest
 pub same_contest : {T : Type 0} (v : T) (r : Result T StoreError) (old new : Kept) → Ok v ≡ refused_as r → OnlyReads r old new → new.is_clean → new.contest ≡ old.contest
@@ -105,7 +121,7 @@ module _ (clean : Type 0) (Is : ContestState → Type 0) (Stops : CommandError �
   refused_one out stop no_words one why is told = record {
     statuses = omega (arith, one, is);
     done = λ e. absurd (omega (arith, one, is, e));
-    refused = λ e. (stop, told, inl (λ c. elim (why c) [ inl failed ↦ failed | inr unknown ↦ absurd (no_words unknown.0) ], keeps_same out.bytes));
+    refused = λ e. (stop, told, inl (λ c. elim (why c) [ inl failed ↦ failed | inr unknown ↦ absurd (no_words unknown.0) ], Keeps-refl out.bytes));
     unknown = λ e. absurd (omega (arith, one, is, e));
   }
 
@@ -115,7 +131,7 @@ module _ (clean : Type 0) (Is : ContestState → Type 0) (Stops : CommandError �
     statuses = omega (arith, is);
     done = λ e. absurd (omega (arith, is, e));
     refused = λ e. absurd (omega (arith, is, e));
-    unknown = λ e. (λ c. elim (why c) [ inl failed ↦ absurd (wordless (Usage text) tt failed) | inr unknown ↦ unknown.1 ], keeps_same out.bytes, _, told);
+    unknown = λ e. (λ c. elim (why c) [ inl failed ↦ absurd (wordless (Usage text) tt failed) | inr unknown ↦ unknown.1 ], Keeps-refl out.bytes, _, told);
   }
   stopped wordless out (Refused r) why is told = refused_one out (Refused r) (λ w. w) refl why is told
   stopped wordless out File why is told = refused_one out File (λ w. w) refl why is told
@@ -153,7 +169,7 @@ pub shown_by_desk : (now : ℕ) (asked : AskedText) (out_old out_new err_old err
     → (HasCleanDisk new → last.is_clean) → (HasCleanDisk new → Opened old first) → (HasCleanDisk new → LeavesNoMore last.may_leave (may_leave_of new))
     → Prints now asked out_old out_new err_old err_new old new status
 shown_by_desk now asked out_old out_new err_old err_new status old new first last shows as_clean opened kept = record {
-  told = told_of last.is_clean (HasCleanDisk new) (λ x. x ≡ first.contest) (λ x. listed_in_trees old.now.trees ≡ Some x) IsStoreStop (StopsOpening old new) now asked out_old out_new err_old err_new status as_clean
-      (λ clean x is. let o = opened clean in o.found ∙ ap Some (sym (is ∙ o.shows.now_is))) (λ stop is. inl is) shows.told;
+  told = told_of last.is_clean (HasCleanDisk new) (λ x. x ≡ first.contest) (FindsContest old) IsStoreStop (StopsOpening old new) now asked out_old out_new err_old err_new status as_clean
+      (λ clean x is. let o = opened clean in subst (FindsContest old) (sym (is ∙ o.shows.now_is)) o.found) (λ stop is. inl is) shows.told;
   leaves = λ clean d left. (opened clean).crash d (shows.crash (as_clean clean) d (kept clean d left));
 }

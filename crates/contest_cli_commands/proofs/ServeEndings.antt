@@ -2,6 +2,7 @@
 use Rattle.std.proofs.Common.{◌≡◌, ap, refl, inl, inr, ℕ, arith}
 use Rattle.std.specs.Prelude.{◌⊎◌}
 use Rattle.std.specs.Io.KnownBytes.{Appends, Keeps}
+use Rattle.std.proofs.KnownBytes.{Keeps-refl}
 use Rattle.sqlite.specs.State.{HasCleanDisk, State}
 use Rattle.contest_streams.specs.Streams.{AppendsFront, Fails, Stream, Tells}
 use Rattle.contest_types.specs.declared.refusal.Refusal.{Refusal}
@@ -9,7 +10,6 @@ use Rattle.contest_store_sqlite.specs.Creation.{KeepsLists}
 use Rattle.contest_cli_words.specs.CommandErrors.{exit_status_of, line_of}
 use Rattle.contest_cli_words.specs.declared.command_error.CommandError.{CommandError}
 use Rattle.contest_cli_words.specs.declared.command_error.CommandError.TheVariants.{File, Net, Refused}
-use Rattle.contest_cli_words.proofs.StreamLemmas.{keeps_same}
 use Rattle.contest_cli_machine.specs.Ports.{IsPort}
 use Rattle.contest_cli_commands.specs.Printing.{StopsOpening}
 use Rattle.contest_cli_commands.specs.Serve.{Serves, ServesTables, StopsAfter, StopsBefore, StopsNone, TellsPort, TellsServing, listening_line}
@@ -45,7 +45,7 @@ stops_cut asked port out_old out_new err_old err_new status at same told fails f
 pub all : (asked port : ℕ) (out_old out_new err : Stream) → IsPort asked port → Appends out_old.bytes out_new.bytes (listening_line port) → TellsServing StopsNone asked out_old out_new err err 0
 all asked port out_old out_new err at told = record {
   statuses = omega arith;
-  done = λ _. (port, at, told, keeps_same err.bytes);
+  done = λ _. (port, at, told, Keeps-refl err.bytes);
   refused = λ one. absurd (omega (arith, one));
 }
 
@@ -53,7 +53,7 @@ all asked port out_old out_new err at told = record {
 pub unopened : (asked requests : ℕ) (out err_old err_new : Stream) (old new : State) (status : ℕ) (r : Refusal) → StopsOpening old new (Refused r) → status ≡ exit_status_of (Refused r) → Tells err_old err_new (line_of (Refused r))
     → KeepsLists old new → Serves asked requests out out err_old err_new old new status
 unopened asked requests out err_old err_new old new status r why same told keeps = record {
-  told = stops (StopsOpening old new) asked out out err_old err_new status (Refused r) same refl told (inl (inl why, keeps_same out.bytes));
+  told = stops (StopsOpening old new) asked out out err_old err_new status (Refused r) same refl told (inl (inl why, Keeps-refl out.bytes));
   done = λ zero. absurd (omega (arith, same, zero));
   leaves = λ clean. inl keeps;
 }

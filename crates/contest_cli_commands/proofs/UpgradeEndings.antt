@@ -1,5 +1,6 @@
 -- What is told of an upgrade.
 use Rattle.std.proofs.Common.{◌≡◌, Bool, true, false, List, ℕ, inl, inr, refl, subst, sym, arith}
+use Rattle.std.proofs.KnownBytes.{Keeps-refl}
 use Rattle.sqlite.specs.State.{HasCleanDisk, State}
 use Rattle.contest_types.specs.State.{ContestState}
 use Rattle.contest_types.specs.declared.refusal.Refusal.{Refusal}
@@ -10,7 +11,6 @@ use Rattle.contest_store_sqlite.specs.Upgrading.{IsUpgraded, KeepsUpgraded}
 use Rattle.contest_cli_words.specs.CommandErrors.{exit_status_of, line_of}
 use Rattle.contest_cli_words.specs.Endings.{Shows}
 use Rattle.contest_cli_words.specs.declared.command_error.CommandError.TheVariants.{File, Refused}
-use Rattle.contest_cli_words.proofs.StreamLemmas.{keeps_same}
 use Rattle.contest_cli_commands.specs.Printing.{IsStoreStop}
 use Rattle.contest_cli_commands.specs.Upgrade.{StandsToday, Upgrades, schema_line}
 use Rattle.contest_cli_commands.proofs.PrintLemmas.{by_error}
@@ -38,6 +38,6 @@ module _ (err_old err_new : Stream) (old new : State) (status : ℕ) (leaves : K
   stopped out r kind is told = record {
     statuses = omega (arith, is);
     done = λ e. absurd (omega (arith, is, e));
-    refused = λ e. (Refused r, told, inl (subst (λ (q : Refusal). IsStoreStop (Refused q)) (sym kind.1) (by_error kind.0), keeps_same out.bytes));
+    refused = λ e. (Refused r, told, inl (subst (λ (q : Refusal). IsStoreStop (Refused q)) (sym kind.1) (by_error kind.0), Keeps-refl out.bytes));
     leaves = leaves;
   }

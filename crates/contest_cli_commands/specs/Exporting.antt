@@ -3,15 +3,16 @@ use Rattle.std.specs.Prelude.{◌≡◌, ◌≤◌, ◌⊎◌, ℕ, Some}
 use Rattle.std.specs.Io.KnownBytes.{Appends, Keeps}
 use Rattle.sqlite.specs.State.{HasCleanDisk, State}
 use Rattle.contest_types.specs.State.{ContestState}
-use Rattle.contest_streams.specs.Streams.{AppendsFront, Fails, Stream, Tells}
+use Rattle.contest_streams.specs.Streams.{AppendsFront, Failed, Fails, Stream, Tells}
 use Rattle.contest_store.specs.Keeping.{Kept, LeavesNoMore}
-use Rattle.contest_store_sqlite.specs.Contests.{listed_in_trees, may_leave_of}
-use Rattle.contest_store_sqlite.specs.Opening.{may_leave_filled}
+use Rattle.contest_store_sqlite.specs.Contests.{may_leave_of}
+use Rattle.contest_store_sqlite.specs.Opening.{FindsContest, may_leave_filled}
 use Rattle.contest_export.specs.SubmissionsCsv.{submissions_csv}
+use Rattle.contest_types.specs.declared.refusal.Refusal.TheVariants.{Memory, StoreFault}
 use Rattle.contest_cli_words.specs.CommandErrors.{line_of}
 use Rattle.contest_cli_words.specs.declared.command_error.CommandError.{CommandError}
-use Rattle.contest_cli_words.specs.declared.command_error.CommandError.TheVariants.{File}
-use Rattle.contest_cli_commands.specs.Printing.{IsStoreStop, StopsOpening}
+use Rattle.contest_cli_words.specs.declared.command_error.CommandError.TheVariants.{File, Refused}
+use Rattle.contest_cli_commands.specs.Printing.{StopsOpening}
 
 -- `out` has the submissions of some contest which is this one, or a front of their text
 abbrev pub PutsOut : (Is : ContestState → Type 0) → (old new : Stream) → Type 0
@@ -32,11 +33,15 @@ pub record TellsExport (clean : Type 0) (Is : ContestState → Type 0) (Stops : 
 -- how it ends: what is told is of the valid contest whose lists the tables showed, and a crash leaves no more than it
 -- could before, or that contest with its cells
 pub record Exports (out_old out_new err_old err_new : Stream) (old new : State) (status : ℕ) : Type 0 where
-  pub told : TellsExport (HasCleanDisk new) (λ x. listed_in_trees old.now.trees ≡ Some x) (StopsOpening old new) out_old out_new err_old err_new status
+  pub told : TellsExport (HasCleanDisk new) (FindsContest old) (StopsOpening old new) out_old out_new err_old err_new status
   pub leaves : HasCleanDisk new → LeavesNoMore (may_leave_filled old) (may_leave_of new)
+
+-- the store failed, by its own count, or memory was refused
+abbrev pub StopsKept : (old new : Kept) → CommandError → Type 0
+StopsKept old new stop = ((stop ≡ Refused StoreFault) × Failed old.faults new.faults) ⊎ (stop ≡ Refused Memory)
 
 -- the same of a contest that a store keeps
 pub record ExportsKept (out_old out_new err_old err_new : Stream) (old new : Kept) (status : ℕ) : Type 0 where
-  pub told : TellsExport new.is_clean (λ x. x ≡ old.contest) IsStoreStop out_old out_new err_old err_new status
+  pub told : TellsExport new.is_clean (λ x. x ≡ old.contest) (StopsKept old new) out_old out_new err_old err_new status
   pub crash : new.is_clean → LeavesNoMore old.may_leave new.may_leave
   pub clean : new.is_clean → old.is_clean

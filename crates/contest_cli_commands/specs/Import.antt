@@ -1,5 +1,5 @@
 -- How `import` ends, and what it leaves (own).
-use Rattle.std.specs.Prelude.{◌≡◌, ◌≤◌, ◌⊎◌, ◌++◌, ℕ, List, Option, Some, Result, Ok, Err, codes}
+use Rattle.std.specs.Prelude.{◌≡◌, ◌≤◌, ◌⊎◌, ◌++◌, ℕ, List, Option, Some, Result, Ok, Err, IsTrue, codes}
 use Rattle.std.specs.Fmt.{decimal}
 use Rattle.std.specs.Io.KnownBytes.{Appends, Keeps}
 use Rattle.sqlite.specs.State.{HasCleanDisk, State}
@@ -7,12 +7,12 @@ use Rattle.contest_types.specs.State.{ContestState}
 use Rattle.contest_streams.specs.Streams.{AppendsFront, Fails, Stream, Tells}
 use Rattle.contest_types.specs.declared.refusal.Refusal.{Refusal}
 use Rattle.contest_types.specs.declared.refusal.Refusal.TheVariants.{BodyTooLarge, Memory, OldSchema, StoreFault}
-use Rattle.contest_store.specs.Keeping.{LeavesOnly}
+use Rattle.contest_store.specs.Keeping.{LeavesNoMore, LeavesOnly}
 use Rattle.contest_types.specs.declared.import_kind.ImportKind.{ImportKind}
 use Rattle.contest_desk.specs.Imports.{import_step}
-use Rattle.contest_store_sqlite.specs.Contests.{listed_in_trees, may_leave_of}
+use Rattle.contest_store_sqlite.specs.Contests.{may_leave_of}
 use Rattle.contest_store_sqlite.specs.Creation.{KeepsLists}
-use Rattle.contest_store_sqlite.specs.Opening.{FindsFirst, may_leave_filled}
+use Rattle.contest_store_sqlite.specs.Opening.{FindsContest, FindsFirst, may_leave_filled}
 use Rattle.contest_cli_commands.specs.Inputs.{IsTooLarge, WasRead}
 use Rattle.contest_cli_words.specs.CommandErrors.{line_of}
 use Rattle.contest_cli_words.specs.declared.command_error.CommandError.{CommandError}
@@ -28,7 +28,7 @@ pub record Steps (now : ℕ) (kind : ImportKind) (input : Stream) (old new : Sta
   pub bytes : List ℕ
   pub read : WasRead input bytes
   pub contest : ContestState
-  pub found : listed_in_trees old.now.trees ≡ Some contest
+  pub found : FindsContest old contest
   pub answered : (import_step contest now kind bytes).0 ≡ answer
   pub leaves : LeavesOnly (may_leave_of new) (import_step contest now kind bytes).1
 
@@ -36,10 +36,15 @@ pub record Steps (now : ℕ) (kind : ImportKind) (input : Stream) (old new : Sta
 abbrev pub StepsOrFinds : (now : ℕ) → ImportKind → Stream → (old new : State) → Result ℕ Refusal → Type 0
 StepsOrFinds now kind input old new answer = ((answer ≡ Err OldSchema) × FindsFirst old new) ⊎ (HasCleanDisk new → Steps now kind input old new answer)
 
--- why it refuses: the store, want of memory, tables of the first schema, the size of the file, or what the step says
+-- nothing was kept: while the connection is open a crash leaves what it could leave before, or the contest that stood with its cells
+abbrev pub KeepsNothing : (old new : State) → Type 0
+KeepsNothing old new = HasCleanDisk new → IsTrue new.is_open → LeavesNoMore (may_leave_filled old) (may_leave_of new)
+
+-- why it refuses: the store or want of memory, by which nothing is kept; tables of the first schema, the size of the file, or
+-- what the step says
 abbrev pub RefusesImport : (now : ℕ) → ImportKind → Stream → State → State → Refusal → Type 0
 RefusesImport now kind input old new r =
-    ((r ≡ StoreFault) ⊎ (r ≡ Memory))
+    (((r ≡ StoreFault) ⊎ (r ≡ Memory)) × KeepsNothing old new)
     ⊎ (((r ≡ OldSchema) × FindsFirst old new)
     ⊎ (((r ≡ BodyTooLarge) × IsTooLarge input × KeepsLists old new)
     ⊎ (HasCleanDisk new → Steps now kind input old new (Err r))))
@@ -56,7 +61,7 @@ StopsImport now kind in_old in_new old new Net = ⊥
 abbrev pub LeavesStep : (now : ℕ) → ImportKind → Stream → State → State → Type 0
 LeavesStep now kind input old new =
     (c : Option ContestState) → may_leave_of new c → may_leave_filled old c
-    ⊎ ((bytes : List ℕ) × WasRead input bytes × (x : ContestState) × (listed_in_trees old.now.trees ≡ Some x) × (c ≡ Some (import_step x now kind bytes).1))
+    ⊎ ((bytes : List ℕ) × WasRead input bytes × (x : ContestState) × FindsContest old x × (c ≡ Some (import_step x now kind bytes).1))
 
 -- all rows are kept, but `out` failed, so a front of their number is out
 pub record CutsOff (now : ℕ) (kind : ImportKind) (input out_old out_new : Stream) (old new : State) (stop : CommandError) : Type 0 where

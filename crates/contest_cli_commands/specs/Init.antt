@@ -10,9 +10,9 @@ use Rattle.contest_types.specs.declared.refusal.Refusal.TheVariants.{BodyTooLarg
 use Rattle.contest_store.specs.Keeping.{LeavesOnly}
 use Rattle.contest_import.specs.ContestFile.{IsContestFile}
 use Rattle.contest_store_tables.specs.Connected.{IsBare}
-use Rattle.contest_store_sqlite.specs.Contests.{contest_in_trees, listed_in_trees, may_leave_of}
+use Rattle.contest_store_sqlite.specs.Contests.{contest_in_trees, may_leave_of}
 use Rattle.contest_store_sqlite.specs.Creation.{IsFilled, KeepsLists, StoodOther}
-use Rattle.contest_store_sqlite.specs.Opening.{FindsFirst}
+use Rattle.contest_store_sqlite.specs.Opening.{FindsContest, FindsFirst}
 use Rattle.contest_cli_commands.specs.Inputs.{IsTooLarge, WasRead}
 use Rattle.contest_cli_words.specs.CommandErrors.{line_of}
 use Rattle.contest_cli_words.specs.declared.command_error.CommandError.{CommandError}
@@ -42,7 +42,7 @@ StopsFile in_old in_new _ = ⊥
 -- its head, and a crash leaves that and no other
 pub record Sets (c : Contest) (old new : State) : Type 0 where
   pub made : IsBare old → LeavesOnly (may_leave_of new) (new_contest c)
-  pub stood : ¬ IsBare old → (x : ContestState) × (listed_in_trees old.now.trees ≡ Some x) × (x.fixed.settings.head ≡ c.head)
+  pub stood : ¬ IsBare old → (x : ContestState) × FindsContest old x × (x.fixed.settings.head ≡ c.head)
       × LeavesOnly (may_leave_of new) x
 
 -- a file's contest stands

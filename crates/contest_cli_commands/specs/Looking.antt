@@ -1,6 +1,6 @@
 -- Who looks at a text of a contest, and at the board of which group (own).
-use Rattle.std.specs.Prelude.{ℕ, Bool, true, ◌&&◌, List, Option, Some, None, map}
-use Rattle.std.specs.Option.{option_and_then, option_map}
+use Rattle.std.specs.Prelude.{ℕ, Bool, ◌&&◌, ◌++◌, List, Option, Some, None, codes, map}
+use Rattle.std.specs.Option.{option_map}
 use Rattle.contest_types.specs.Masks.{audience_at, is_audience}
 use Rattle.contest_types.specs.Places.{place_of}
 use Rattle.contest_types.specs.Setup.{Setup}
@@ -41,6 +41,13 @@ look_by (Some a) group = option_map (λ g. record { audience = a; group = g }) g
 -- who looks, and at which group's board, where it is a group's; none where no team or no group has the id
 abbrev pub look_of : Setup → AskedText → Option Look
 look_of s asked = look_by (audience_of s (who_of asked)) (group_of s (group_id_of asked))
+
+-- what is said of an id that no team, or no group, has
+abbrev pub no_team : (id : List ℕ) → List ℕ
+no_team id = codes "error: '" ++ id ++ codes "' of '--audience' is no team's id\n"
+
+abbrev pub no_group : (id : List ℕ) → List ℕ
+no_group id = codes "error: '" ++ id ++ codes "' of '--group' is no group's id\n"
 
 -- they are there
 abbrev pub is_there : Setup → Look → Bool

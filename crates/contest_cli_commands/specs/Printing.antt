@@ -1,5 +1,5 @@
 -- How the commands end that print a text of a contest, `board` and `awards` (own).
-use Rattle.std.specs.Prelude.{◌≡◌, ◌≤◌, ◌⊎◌, ℕ, List, Option, Some, None, map}
+use Rattle.std.specs.Prelude.{◌≡◌, ◌≤◌, ◌⊎◌, ℕ, List, Option, Some, None}
 use Rattle.std.specs.Io.KnownBytes.{Appends, Keeps}
 use Rattle.std.specs.Option.{option_and_then, option_map}
 use Rattle.sqlite.specs.State.{HasCleanDisk, State}
@@ -9,11 +9,11 @@ use Rattle.contest_streams.specs.Streams.{AppendsFront, Fails, Stream, Tells}
 use Rattle.contest_types.specs.declared.marks.Marks.{Marks}
 use Rattle.contest_types.specs.declared.refusal.Refusal.TheVariants.{Memory, OldSchema, StoreFault}
 use Rattle.contest_score.specs.Ranking.{Scoreboard}
+use Rattle.contest_view.specs.Awards.{audience_awards}
 use Rattle.contest_view.specs.Scoreboards.{board_found}
 use Rattle.contest_store.specs.Keeping.{Kept, LeavesNoMore}
-use Rattle.contest_store_sqlite.specs.Contests.{listed_in_trees, may_leave_of}
-use Rattle.contest_store_sqlite.specs.Opening.{FindsFirst, may_leave_filled}
-use Rattle.contest_score.specs.Awards.{shown_awards}
+use Rattle.contest_store_sqlite.specs.Contests.{may_leave_of}
+use Rattle.contest_store_sqlite.specs.Opening.{FindsContest, FindsFirst, may_leave_filled}
 use Rattle.contest_text.specs.AwardsText.{awards_text}
 use Rattle.contest_text.specs.BoardCsv.{board_csv}
 use Rattle.contest_text.specs.BoardText.{board_text}
@@ -36,7 +36,7 @@ written Csv s marks now l b = board_csv s b
 -- are shown
 abbrev pub text_seen : (now : ℕ) → AskedText → ContestState → Look → Option (List ℕ)
 text_seen now (Board asked) x l = option_map (written asked.format x.fixed.settings x.fixed.marks now l) (board_found l.audience now l.group x)
-text_seen now (Awards who) x l = Some (awards_text x.fixed.settings (shown_awards l.audience now x))
+text_seen now (Awards who) x l = option_map (awards_text x.fixed.settings) (audience_awards l.audience now x)
 
 -- what is written of what is asked for; nothing where no team or no group has the id
 abbrev pub asked_text : (now : ℕ) → AskedText → ContestState → Option (List ℕ)
@@ -82,7 +82,7 @@ pub record TellsText (clean : Type 0) (Is : ContestState → Type 0) (Stops : Co
 -- how it ends: what is told is of the valid contest whose lists the tables showed, and a crash leaves no more than it
 -- could before, or that contest with its cells
 pub record Prints (now : ℕ) (asked : AskedText) (out_old out_new err_old err_new : Stream) (old new : State) (status : ℕ) : Type 0 where
-  pub told : TellsText (HasCleanDisk new) (λ x. listed_in_trees old.now.trees ≡ Some x) (StopsOpening old new) now asked out_old out_new err_old err_new status
+  pub told : TellsText (HasCleanDisk new) (FindsContest old) (StopsOpening old new) now asked out_old out_new err_old err_new status
   pub leaves : HasCleanDisk new → LeavesNoMore (may_leave_filled old) (may_leave_of new)
 
 -- the same of a contest that a desk keeps

@@ -1,5 +1,5 @@
 -- How `serve` ends (own).
-use Rattle.std.specs.Prelude.{◌≡◌, ◌≤◌, ◌⊎◌, ◌++◌, ℕ, List, Option, Some, codes, length}
+use Rattle.std.specs.Prelude.{◌≡◌, ◌≤◌, ◌⊎◌, ◌++◌, ℕ, List, Option, Result, Some, codes, length}
 use Rattle.std.specs.Fmt.{decimal}
 use Rattle.std.specs.Io.KnownBytes.{Appends, Keeps}
 use Rattle.sqlite_trees.specs.declared.store.Store.{Ghosts}
@@ -10,9 +10,9 @@ use Rattle.contest_streams.specs.Streams.{AppendsFront, Counting, Fails, Stream,
 use Rattle.contest_desk.specs.Runs.{IsRun, LeavesAfter}
 use Rattle.contest_desk.specs.declared.item.Answer.{Answer}
 use Rattle.contest_desk.specs.declared.item.Item.{Item}
-use Rattle.contest_store_sqlite.specs.Contests.{listed_in_trees, may_leave_of}
+use Rattle.contest_store_sqlite.specs.Contests.{may_leave_of}
 use Rattle.contest_store_sqlite.specs.Creation.{KeepsLists}
-use Rattle.contest_store_sqlite.specs.Opening.{Opened, may_leave_filled}
+use Rattle.contest_store_sqlite.specs.Opening.{FindsContest, Opened, may_leave_filled}
 use Rattle.contest_store_sqlite.specs.Value.{StoreValue, shown_in, stored}
 use Rattle.contest_cli_words.specs.CommandErrors.{line_of}
 use Rattle.contest_cli_words.specs.declared.command_error.CommandError.{CommandError}
@@ -54,7 +54,7 @@ pub record TellsServing (Opening : CommandError → Type 0) (asked : ℕ) (out_o
 -- clients; a crash leaves what it may leave after that run
 pub record ServesTables (clients : ℕ) (old new : State) : Type 0 where
   pub contest : ContestState
-  pub found : listed_in_trees old.now.trees ≡ Some contest
+  pub found : FindsContest old contest
   pub items : List Item
   pub answers : List Answer
   pub each : length items ≤ clients
@@ -87,8 +87,8 @@ pub record ServesAll {S L : Type 0} (g : Ghosts S) (port_of : L → ℕ) (Client
   pub here : ServesHere port_of Clients asked requests out_old out_new before after
   pub kept : new ≡ after.conn
 
--- the same at the moments that the clock of some network shows
-abbrev pub ServesOn : {S L N R W : Type 0} → Ghosts S → (L → ℕ) → (L → Option (R × W) → L → Type 0) → (L → Counting R → Counting W → Type 0) → (N → ℕ → Type 0)
-    → (R → Option (List ℕ)) → (W → Option (List ℕ)) → (asked requests : ℕ) → (out_old out_new : Stream) → (old new : Held S) → Type 0
-ServesOn {N = N} g port_of gives parts shows remaining contents asked requests out_old out_new old new =
-    (network : N) × ServesAll g port_of (ServesClients gives parts (shows network) remaining contents (stored g)) asked requests out_old out_new old new
+-- the same on a network, at the moments that its clock shows
+abbrev pub ServesOn : {S L N R W : Type 0} → Ghosts S → (L → ℕ) → (L → Option (R × W) → L → Type 0) → (L → Counting R → Counting W → Type 0) → (N → L → Result ℕ CommandError → Type 0)
+    → (R → Option (List ℕ)) → (W → Option (List ℕ)) → (network : N) → (asked requests : ℕ) → (out_old out_new : Stream) → (old new : Held S) → Type 0
+ServesOn g port_of gives parts shows remaining contents network asked requests out_old out_new old new =
+    ServesAll g port_of (ServesClients gives parts (shows network) remaining contents (stored g)) asked requests out_old out_new old new

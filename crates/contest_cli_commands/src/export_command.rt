@@ -14,9 +14,10 @@ use sqlite::{Alter, Connection};
 use std::alloc::Global;
 use std::io::Write;
 
-/// Runs `export`: opens the desk of a contest, and writes its submissions as CSV, one after the other.
-/// Answers the exit status: 0 where all of them are on `out`, 1 where something was refused or `out` failed;
-/// then `err` is told why, and a front of them may be out. And the connection, on which nothing was changed.
+/// Runs `export`: opens the desk of a contest, and writes its submissions as CSV, one after the
+/// other. Answers the exit status: 0 where all of them are on `out`, 1 where something was refused
+/// or `out` failed; then `err` is told why, and a front of them may be out. And the connection, on
+/// which nothing was changed.
 pub fn run_export<S: Alter, O: Write, E: Write>(
     alloc: Global,
     conn: Connection<S>,

@@ -5,7 +5,8 @@ ghost use Rattle.sqlite.specs.State.{HasCleanDisk};
 ghost use Rattle.contest_streams.specs.Streams.{Stream, stream};
 ghost use Rattle.contest_store_tables.specs.Numbered.{IsNumbered};
 ghost use Rattle.contest_desk.specs.Items.{HasStoreError};
-ghost use Rattle.contest_cli_commands.specs.Import.{Imports, LeavesStep, Steps, StepsOrFinds, StopsImport};
+ghost use Rattle.contest_cli_commands.specs.Import.{Imports, KeepsNothing, LeavesStep, Steps};
+ghost use Rattle.contest_cli_commands.specs.Import.{StepsOrFinds, StopsImport};
 ghost use Rattle.contest_cli_commands.specs.Inputs.{WasRead};
 
 use crate::added_line::added_line;
@@ -18,9 +19,9 @@ use sqlite::{Alter, Connection};
 use std::alloc::Global;
 use std::io::{Read, Write};
 
-/// Runs `import`: reads a file of some kind and keeps all of its rows, at a moment, in one commit, or
-/// none. Answers the exit status, 0 where that was done and `out` is told how many rows were added, 1
-/// where `err` is told why not or that `out` failed; and the connection.
+/// Runs `import`: reads a file of some kind and keeps all of its rows, at a moment, in one commit,
+/// or none. Answers the exit status, 0 where that was done and `out` is told how many rows were
+/// added, 1 where `err` is told why not or that `out` failed; and the connection.
 pub fn run_import<S: Alter, R: Read, O: Write, E: Write>(
     alloc: Global,
     conn: Connection<S>,
@@ -78,6 +79,7 @@ fn import_bytes<S: Alter>(
     requires { IsNumbered (state S.Store conn) }
     ensures steps { (input : Stream) → WasRead input bytes.now → ¬ HasStoreError result.0
         → StepsOrFinds now kind input (state S.Store conn) (state S.Store result.1) result.0 }
+    ensures fails { HasStoreError result.0 → KeepsNothing (state S.Store conn) (state S.Store result.1) }
     ensures leaves { (input : Stream) → WasRead input bytes.now → HasCleanDisk (state S.Store result.1)
         → LeavesStep now kind input (state S.Store conn) (state S.Store result.1) }
 {

@@ -6,7 +6,9 @@ ghost use Rattle.contest_types.specs.State.{new_contest};
 ghost use Rattle.contest_streams.specs.Streams.{stream};
 ghost use Rattle.contest_types.specs.Valid.{is_valid};
 ghost use Rattle.contest_store_tables.specs.Numbered.{IsNumbered};
-ghost use Rattle.contest_cli_commands.specs.Init.{Inits, LeavesContest, LeavesNew, ReadsContest, Sets, SetsFile, StopsContest, StopsFile, StopsInit};
+ghost use Rattle.contest_cli_commands.specs.Init.{Inits, LeavesContest, LeavesNew, ReadsContest};
+ghost use Rattle.contest_cli_commands.specs.Init.{Sets, SetsFile, StopsContest, StopsFile};
+ghost use Rattle.contest_cli_commands.specs.Init.{StopsInit};
 
 use contest_cli_words::CommandError;
 use contest_import::read_contest_json;
@@ -18,9 +20,10 @@ use sqlite::{Alter, Connection};
 use std::alloc::Global;
 use std::io::{Read, Write};
 
-/// Runs `init`: reads a contest as JSON and sets it up where no table stands, in one commit. Where a
-/// contest with an equal head stands nothing is changed; its start isn't compared. Answers the exit
-/// status, 0 where the contest stands and 1 where `err` is told why it doesn't, and the connection.
+/// Runs `init`: reads a contest as JSON and sets it up where no table stands, in one commit. Where
+/// a contest with an equal head stands nothing is changed; its start isn't compared. Answers the
+/// exit status, 0 where the contest stands and 1 where `err` is told why it doesn't, and the
+/// connection.
 pub fn run_init<S: Alter, R: Read, E: Write>(
     alloc: Global,
     conn: Connection<S>,

@@ -1,4 +1,5 @@
-//! The commands that keep a contest in an SQLite file, on any connection, network, reader and writers.
+//! The commands that keep a contest in an SQLite file, on any connection, network, reader and
+//! writers.
 #![tactic(auto)]
 
 mod added_line;

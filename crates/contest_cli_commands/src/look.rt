@@ -4,7 +4,9 @@ ghost use Rattle.std.specs.Option.{option_map};
 ghost use Rattle.contest_types.specs.Masks.{is_audience};
 ghost use Rattle.contest_view.specs.Scoreboards.{has_group};
 ghost use Rattle.contest_cli_words.specs.CommandErrors.{IsMemory, IsWords, IsWordsOrMemory};
-ghost use Rattle.contest_cli_commands.specs.Looking.{audience_of, group_id_of, group_of, is_there, look_of, who_of};
+ghost use Rattle.contest_cli_words.specs.CommandErrors.{SaysOrMemory};
+ghost use Rattle.contest_cli_commands.specs.Looking.{audience_of, group_id_of, group_of, is_there};
+ghost use Rattle.contest_cli_commands.specs.Looking.{look_of, no_group, no_team, who_of};
 
 use contest_cli_words::{AskedText, CommandError, Who};
 use contest_types::{Audience, Settings};
@@ -19,8 +21,8 @@ pub struct Look {
     pub group: Option<usize>,
 }
 
-/// Who looks, and at which group's board. The error is that no team or no group has the id, or want of
-/// memory.
+/// Who looks, and at which group's board. The error is that no team or no group has the id, or want
+/// of memory.
 pub(crate) fn look_of(
     alloc: Global,
     settings: &Settings,
@@ -62,7 +64,8 @@ fn audience_of(alloc: Global, settings: &Settings, who: Who<'_>) -> Result<Audie
 
 // What is said of an id that no team has.
 fn no_team(alloc: Global, id: &str) -> CommandError
-    ensures { IsWordsOrMemory result }
+    ensures words { IsWordsOrMemory result }
+    ensures said { SaysOrMemory (no_team id.now) result }
 {
     match format!(in alloc; "error: '{id}' of '--audience' is no team's id\n") {
         Ok(message) => CommandError::Usage(message),
@@ -79,8 +82,8 @@ fn group_id_of(asked: AskedText<'_>) -> Option<&str>
     }
 }
 
-// The place of the group with an id, where one is given. The error is that no group has it, or want of
-// memory.
+// The place of the group with an id, where one is given. The error is that no group has it, or want
+// of memory.
 fn group_of(
     alloc: Global,
     settings: &Settings,
@@ -101,7 +104,8 @@ fn group_of(
 
 // What is said of an id that no group has.
 fn no_group(alloc: Global, id: &str) -> CommandError
-    ensures { IsWordsOrMemory result }
+    ensures words { IsWordsOrMemory result }
+    ensures said { SaysOrMemory (no_group id.now) result }
 {
     match format!(in alloc; "error: '{id}' of '--group' is no group's id\n") {
         Ok(message) => CommandError::Usage(message),

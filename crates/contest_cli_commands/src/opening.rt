@@ -14,13 +14,13 @@ use contest_store_sqlite::{OpenError, Store};
 use sqlite::{Alter, Connection};
 use std::alloc::Global;
 
-/// The desk of the contest that the tables of a connection show, which are read at once, outside of a
-/// transaction. What is committed is as it was, and no change stands that isn't.
+/// The desk of the contest that the tables of a connection show, which are read at once, outside of
+/// a transaction. What is committed is as it was, and no change stands that isn't.
 ///
 /// # Errors
 ///
-/// `OpenError` says when each comes; its `Memory` comes also where a growth was refused for the desk. The
-/// connection is handed back, and what is committed is as it was.
+/// `OpenError` says when each comes; its `Memory` comes also where a growth was refused for the
+/// desk. The connection is handed back, and what is committed is as it was.
 pub fn open_desk<S: Alter>(
     alloc: Global,
     conn: Connection<S>,

@@ -1,19 +1,21 @@
-//! The commands `board` and `awards`: a text of the contest that a connection holds, as somebody sees it.
+//! The commands `board` and `awards`: a text of the contest that a connection holds, as somebody
+//! sees it.
 ghost use Rattle.std.specs.Prelude.{◌≡◌, Option, Result, Some, None, Err, IfErr, IfOk, true};
 ghost use Rattle.std.specs.Option.{option_map};
 ghost use Rattle.sqlite.specs.Held.{state};
-ghost use Rattle.contest_score.specs.Awards.{shown_awards};
 ghost use Rattle.contest_text.specs.AwardsText.{awards_text};
+ghost use Rattle.contest_view.specs.Awards.{audience_awards};
 ghost use Rattle.contest_view.specs.Scoreboards.{board_found};
 ghost use Rattle.contest_streams.specs.Streams.{stream};
 ghost use Rattle.contest_score.specs.Ranking.{Scoreboard};
-ghost use Rattle.contest_desk.specs.Boards.{board_told};
+ghost use Rattle.contest_desk.specs.Boards.{found_told};
 ghost use Rattle.contest_desk.specs.Serving.{OnlyReads};
 ghost use Rattle.contest_store.specs.Keeping.{LeavesNoMore};
 ghost use Rattle.contest_store.specs.declared.store_error.StoreError.{StoreError};
 ghost use Rattle.contest_store_tables.specs.Numbered.{IsNumbered};
 ghost use Rattle.contest_cli_commands.specs.Looking.{is_there};
-ghost use Rattle.contest_cli_commands.specs.Printing.{AreOf, IsStoreStop, Prints, PrintsKept, StopsText, asked_text, text_seen, written};
+ghost use Rattle.contest_cli_commands.specs.Printing.{AreOf, IsStoreStop, Prints, PrintsKept};
+ghost use Rattle.contest_cli_commands.specs.Printing.{StopsText, asked_text, text_seen, written};
 
 use crate::look::{Look, look_of};
 use crate::opening::open_desk;
@@ -28,10 +30,10 @@ use sqlite::{Alter, Connection};
 use std::alloc::{AllocError, Global};
 use std::io::Write;
 
-/// Runs `board` or `awards`: opens the desk of a contest, and writes what somebody sees at a moment. Answers
-/// the exit status: 0 where all of it is on `out`, 2 where no team or no group has the id that is asked for, 1 where
-/// something else was refused or `out` failed; where it isn't 0, `err` is told why. And the connection, on
-/// which nothing was changed.
+/// Runs `board` or `awards`: opens the desk of a contest, and writes what somebody sees at a
+/// moment. Answers the exit status: 0 where all of it is on `out`, 2 where no team or no group has
+/// the id that is asked for, 1 where something else was refused or `out` failed; where it isn't 0,
+/// `err` is told why. And the connection, on which nothing was changed.
 pub fn run_print<S: Alter, O: Write, E: Write>(
     alloc: Global,
     conn: Connection<S>,
@@ -125,7 +127,7 @@ fn text_seen<S: ContestStore>(
         AskedText::Board(asked) => {
             board_seen(alloc, desk, settings, marks, now, look, asked.format)
         }
-        AskedText::Awards(_) => awards_seen(alloc, desk, settings, now, look.audience),
+        AskedText::Awards(_) => awards_seen(alloc, desk, settings, now, look),
     }
 }
 
@@ -156,7 +158,7 @@ fn board_of<S: ContestStore>(
 ) -> Result<Board, Refusal>
     ensures board { (S.kept desk.new).is_clean → IfOk result (λ b. board_found look.audience now look.group (S.kept desk.old).contest ≡ Some b) }
     ensures missing { (S.kept desk.new).is_clean → result ≡ Err Refusal.NotFound → board_found look.audience now look.group (S.kept desk.old).contest ≡ None }
-    ensures leaves { (r : Result (Option Scoreboard) StoreError) × (result ≡ board_told r) × OnlyReads r (S.kept desk.old) (S.kept desk.new) }
+    ensures leaves { (r : Result (Option Scoreboard) StoreError) × (result ≡ found_told r) × OnlyReads r (S.kept desk.old) (S.kept desk.new) }
 {
     match look.group {
         Some(group) => desk.group_board(alloc, now, look.audience, group),
@@ -169,14 +171,14 @@ fn awards_seen<S: ContestStore>(
     desk: &mut Desk<S>,
     settings: &Settings,
     now: Moment,
-    audience: Audience,
+    look: Look,
 ) -> Result<Vec<u8>, Refusal>
-    ensures text { (S.kept desk.new).is_clean → IfOk result (λ text. awards_text settings.now (shown_awards audience now (S.kept desk.old).contest) ≡ text.items) }
-    ensures stops { (S.kept desk.new).is_clean → IfErr result (λ refusal. IsStoreStop (CommandError.Refused refusal)) }
+    ensures text { (S.kept desk.new).is_clean → IfOk result (λ text. option_map (awards_text settings.now) (audience_awards look.audience now (S.kept desk.old).contest) ≡ Some text.items) }
+    ensures stops { (S.kept desk.new).is_clean → is_there (S.kept desk.old).contest.fixed.settings look ≡ true → IfErr result (λ refusal. IsStoreStop (CommandError.Refused refusal)) }
     ensures crash { (S.kept desk.new).is_clean → LeavesNoMore (S.kept desk.old).may_leave (S.kept desk.new).may_leave }
     ensures clean { (S.kept desk.new).is_clean → (S.kept desk.old).is_clean }
 {
-    let awards = desk.awards(alloc, now, audience)?;
+    let awards = desk.awards(alloc, now, look.audience)?;
     awards_written(alloc, settings, awards.as_slice())
 }
 

@@ -7,7 +7,8 @@ ghost use Rattle.contest_store_tables.specs.Numbered.{IsNumbered};
 ghost use Rattle.contest_store_sqlite.specs.Value.{stored};
 ghost use Rattle.contest_cli_commands.specs.Clients.{ServesClients};
 ghost use Rattle.contest_cli_machine.specs.Ports.{IsPort};
-ghost use Rattle.contest_cli_commands.specs.Serve.{Serves, ServesAll, ServesHere, StopsNone, TellsServing, listening_line};
+ghost use Rattle.contest_cli_commands.specs.Serve.{Serves, ServesAll, ServesHere, StopsNone};
+ghost use Rattle.contest_cli_commands.specs.Serve.{TellsServing, listening_line};
 ghost use Rattle.contest_cli_commands.specs.Served.{ServesSome};
 
 use crate::listening_line::listening_line;
@@ -22,9 +23,9 @@ use sqlite::{Alter, Connection};
 use std::alloc::Global;
 use std::io::Write;
 
-/// Runs `serve`: opens the desk of a contest, listens on a port of this machine, tells `out` which, and
-/// serves so many clients. Answers the exit status: 0 where all were served, 1 where `err` is told why
-/// not; and the connection.
+/// Runs `serve`: opens the desk of a contest, listens on a port of this machine, tells `out` which,
+/// and serves so many clients. Answers the exit status: 0 where all were served, 1 where `err` is
+/// told why not; and the connection.
 pub fn run_serve<S: Alter, N: Network, O: Write, E: Write>(
     alloc: Global,
     conn: Connection<S>,

@@ -14,9 +14,9 @@ use std::io::Write;
 /// What is told of the schema of today.
 const SCHEMA: &[u8] = b"schema 2\n";
 
-/// Runs `upgrade`: tables of the first schema are made those of today, in one commit; those of today stay.
-/// Answers the exit status: 0 where the tables are of today's schema, and `out` is told so, 1 where something
-/// was refused or `out` failed; then `err` is told why. And the connection.
+/// Runs `upgrade`: tables of the first schema are made those of today, in one commit; those of
+/// today stay. Answers the exit status: 0 where the tables are of today's schema, and `out` is told
+/// so, 1 where something was refused or `out` failed; then `err` is told why. And the connection.
 pub fn run_upgrade<S: Alter, O: Write, E: Write>(
     alloc: Global,
     conn: Connection<S>,

@@ -1,5 +1,5 @@
 //! The machine that the program runs on.
-ghost use Rattle.std.specs.Prelude.{◌≡◌, ◌≢◌, ◌≤◌, ◌/◌, IfOk, IfErr, SomeIff};
+ghost use Rattle.std.specs.Prelude.{◌≡◌, ◌≢◌, ◌≤◌, ◌/◌, ◌↔◌, IfOk, IfErr, IsOk, IsOkAnd, SomeIff};
 ghost use Rattle.std.specs.Time.{system_time_nanos};
 ghost use Rattle.std.specs.IoError.{error_kind};
 ghost use Rattle.sqlite.specs.Files.{AreFoundIn, file_state};
@@ -29,6 +29,8 @@ pub struct Host<'a, D: Start> {
 }
 
 impl<D: Start> MachineClock for Host<'_, D> {
+    ghost shows = { λ machine answer. Unit {0} };
+
     fn now(&self) -> Result<Moment, CommandError> {
         moment_now(self.rt)
     }
@@ -38,12 +40,17 @@ impl<'a, D: Start> Machine for Host<'a, D> {
     ghost use Rattle.sqlite.specs.Files.{AreFoundIn, file_state};
     ghost use Rattle.sqlite.specs.State.{HasCleanDisk};
     ghost use Rattle.sqlite.specs.WalFiles.{image_at};
+    ghost use Rattle.std.specs.Prelude.{IfOk};
 
     type Disk = FileStore<FileFrom<D>>;
 
     type Outside = HostNetwork<'a>;
 
-    ghost found = { λ opening conn. HasCleanDisk (file_state conn) → AreFoundIn (image_at D.Start) (file_state conn).now.trees };
+    ghost there = { λ machine path answer. Unit {0} };
+
+    ghost found = { λ opening path answer. IfOk answer (λ conn. HasCleanDisk (file_state conn) → AreFoundIn (image_at D.Start) (file_state conn).now.trees) };
+
+    ghost left = { λ store. Unit {0} };
 
     fn outside(&self) -> HostNetwork<'a> {
         HostNetwork { rt: self.rt }
@@ -64,7 +71,9 @@ impl<'a, D: Start> Machine for Host<'a, D> {
         }
     }
 
-    fn close(mut store: FileStore<FileFrom<D>>) {
+    fn close(mut store: FileStore<FileFrom<D>>)
+        ensures { Unit {0} }
+    {
         let _ = store.checkpoint();
         drop(store.close());
     }
@@ -74,7 +83,16 @@ impl<'a, D: Start> Machine for Host<'a, D> {
 pub(crate) fn moment_now(clock: &impl Clock) -> Result<Moment, CommandError>
     ensures { IfErr result (λ stop. stop ≡ CommandError.Clock) }
 {
-    match SystemTime::now(clock) {
+    moment_shown(SystemTime::now(clock))
+}
+
+// The same, where the clock shows this time, or fails.
+fn moment_shown(time: io::Result<SystemTime>) -> Result<Moment, CommandError>
+    ensures ok { IfOk result (λ moment. IfOk time (λ now. moment ≡ system_time_nanos now / 1_000_000)) }
+    ensures some { IsOk result ↔ IsOkAnd time (λ now. system_time_nanos now / 1_000_000 ≤ latest) }
+    ensures err { IfErr result (λ stop. stop ≡ CommandError.Clock) }
+{
+    match time {
         Ok(now) => match moment_of(now) {
             Some(moment) => Ok(moment),
             None => Err(CommandError::Clock),
@@ -132,8 +150,8 @@ fn find<F: Files>(files: &F, path: &str, opening: Opening) -> Result<(), Command
     }
 }
 
-// A connection to the SQLite file at a path, which is made where there is none. In a desk's database the
-// rows rise by their numbers.
+// A connection to the SQLite file at a path, which is made where there is none. In a desk's
+// database the rows rise by their numbers.
 fn open_store<D: Start>(
     rt: &HostRuntime,
     path: &str,

@@ -1,9 +1,10 @@
-//! What is outside of the file that keeps a contest, on the program's machine: its clock, its other files,
-//! and its loopback address alone.
-ghost use Rattle.std.specs.Prelude.{◌≡◌, IfErr, IfOk};
+//! What is outside of the file that keeps a contest, on the program's machine: its clock, its other
+//! files, and its loopback address alone.
+ghost use Rattle.std.specs.Prelude.{◌≡◌, ◌⊎◌, ◌↔◌, IfErr, IfOk, IsTrue};
 ghost use Rattle.contest_cli_machine.specs.Ports.{IsPort};
 ghost use Rattle.contest_streams.specs.Streams.{one_more};
 
+use crate::client_stream::{ClientReader, ClientWriter, directions, part_from};
 use crate::host::{moment_now, open_file};
 use crate::machine::Outside;
 use crate::network::{Connected, Listen, Network};
@@ -11,21 +12,8 @@ use contest_cli_words::CommandError;
 use contest_streams::Counted;
 use contest_types::Moment;
 use std::fs::File;
-use std::io::{self, ErrorKind, Read};
-use std::net::{Ipv4Addr, Shutdown, TcpListener, TcpStream};
-use std::time::Duration;
-
-/// How long one read or one write of a client may take, in seconds.
-const PATIENCE: u64 = 10;
-
-/// How long a client that was answered may take to close its side, in seconds.
-const FAREWELL: u64 = 1;
-
-/// How many pieces of what such a client still sends are taken, so that its reply isn't lost, and the
-/// bytes of one.
-const LEFTOVERS: u32 = 64;
-
-const PIECE: usize = 65_536;
+use std::io::{self, ErrorKind};
+use std::net::{Ipv4Addr, TcpListener};
 
 /// The clock, the files that are read, and the loopback address.
 #[derive(Drop)]
@@ -36,42 +24,47 @@ pub struct HostNetwork<'a> {
 impl Outside for HostNetwork<'_> {
     type File = File;
 
+    ghost reads = { λ path answer. Unit {0} };
+
     fn read(&self, path: &str) -> Result<Counted<File>, CommandError> {
         open_file(self.rt, path)
     }
 }
 
-impl Network for HostNetwork<'_> {
-    type Listener = HostListener;
+impl<'a> Network for HostNetwork<'a> {
+    type Listener = HostListener<'a>;
 
-    ghost shows = { λ network now. Unit {0} };
+    ghost shows = { λ network listener answer. Unit {0} };
 
-    fn now(&self) -> Result<Moment, CommandError> {
+    fn now(&self, _: &HostListener<'a>) -> Result<Moment, CommandError> {
         moment_now(self.rt)
     }
 
-    fn listen(&self, port: u16) -> Result<HostListener, CommandError> {
+    fn listen(&self, port: u16) -> Result<HostListener<'a>, CommandError> {
         listen_on(self.rt, port)
     }
 }
 
-/// A port of the loopback address, and how many clients were waited for. The count stays at `u64::MAX`
-/// once it is there.
+/// A port of the loopback address, and how many clients were waited for. The count stays at
+/// `u64::MAX` once it is there.
 #[derive(Drop)]
-pub struct HostListener {
+pub struct HostListener<'a> {
+    rt: &'a HostRuntime,
     listener: TcpListener,
     port: u16,
     clients: u64,
 }
 
-impl Listen for HostListener {
-    type Reader = TcpStream;
+impl<'a> Listen for HostListener<'a> {
+    type Reader = ClientReader<'a>;
 
-    type Writer = TcpStream;
+    type Writer = ClientWriter<'a>;
 
     ghost port_of = { λ listener. listener.port };
 
     ghost gives = { λ old client new. new.clients ≡ one_more old.clients };
+
+    ghost breaks = { λ old new. Unit {0} };
 
     ghost parts = { λ listener reader writer. Unit {0} };
 
@@ -79,27 +72,21 @@ impl Listen for HostListener {
         self.port
     }
 
-    fn accept(&mut self) -> Result<Option<Connected<TcpStream, TcpStream>>, CommandError> {
+    fn accept(
+        &mut self,
+    ) -> Result<Option<Connected<ClientReader<'a>, ClientWriter<'a>>>, CommandError> {
         self.clients = self.clients.saturating_add(1);
-        accept_from(&self.listener)
+        accept_from(self.rt, &self.listener)
     }
 
-    fn part(&self, reader: Counted<TcpStream>, writer: Counted<TcpStream>)
+    fn part(&self, reader: Counted<ClientReader<'a>>, writer: Counted<ClientWriter<'a>>)
         ensures { Unit {0} }
     {
-        let mut reader = reader.into_inner();
-        let writer = writer.into_inner();
-        if writer.shutdown(Shutdown::Write).is_ok()
-            && reader
-                .set_read_timeout(Some(Duration::from_secs(FAREWELL)))
-                .is_ok()
-        {
-            take_leftovers(&mut reader);
-        }
+        part_from(reader.into_inner(), writer.into_inner());
     }
 }
 
-fn listen_on(rt: &HostRuntime, port: u16) -> Result<HostListener, CommandError>
+fn listen_on(rt: &HostRuntime, port: u16) -> Result<HostListener<'_>, CommandError>
     ensures ok { IfOk result (λ listener. IsPort port listener.port) }
     ensures err { IfErr result (λ stop. stop ≡ CommandError.Net) }
 {
@@ -109,7 +96,7 @@ fn listen_on(rt: &HostRuntime, port: u16) -> Result<HostListener, CommandError>
     }
 }
 
-fn bound_to(rt: &HostRuntime, port: u16) -> io::Result<HostListener>
+fn bound_to(rt: &HostRuntime, port: u16) -> io::Result<HostListener<'_>>
     ensures { IfOk result (λ listener. IsPort port listener.port) }
 {
     let listener = TcpListener::bind(rt, (Ipv4Addr::LOCALHOST, port))?;
@@ -119,19 +106,24 @@ fn bound_to(rt: &HostRuntime, port: u16) -> io::Result<HostListener>
         port
     };
     Ok(HostListener {
+        rt,
         listener,
         port,
         clients: 0,
     })
 }
 
-fn accept_from(
+fn accept_from<'a>(
+    rt: &'a HostRuntime,
     listener: &TcpListener,
-) -> Result<Option<Connected<TcpStream, TcpStream>>, CommandError>
+) -> Result<Option<Connected<ClientReader<'a>, ClientWriter<'a>>>, CommandError>
     ensures { IfErr result (λ stop. stop ≡ CommandError.Net) }
 {
     match listener.accept() {
-        Ok((stream, _)) => Ok(connected(stream).ok()),
+        Ok((stream, _)) => match directions(rt, stream) {
+            Ok((reader, writer)) => Ok(Some(Connected { reader, writer })),
+            Err(_) => Ok(None),
+        },
         Err(error) => {
             if is_of_client(error.kind()) {
                 Ok(None)
@@ -143,29 +135,8 @@ fn accept_from(
 }
 
 // A client that went before it was had, or a signal: the listener itself is well.
-fn is_of_client(kind: ErrorKind) -> bool {
+fn is_of_client(kind: ErrorKind) -> bool
+    ensures { IsTrue result ↔ ((kind ≡ ErrorKind.ConnectionAborted) ⊎ (kind ≡ ErrorKind.Interrupted)) }
+{
     kind == ErrorKind::ConnectionAborted || kind == ErrorKind::Interrupted
-}
-
-// A client whose silence ends after a while.
-fn connected(stream: TcpStream) -> io::Result<Connected<TcpStream, TcpStream>> {
-    stream.set_read_timeout(Some(Duration::from_secs(PATIENCE)))?;
-    stream.set_write_timeout(Some(Duration::from_secs(PATIENCE)))?;
-    let writer = stream.try_clone()?;
-    Ok(Connected {
-        reader: stream,
-        writer,
-    })
-}
-
-// A connection that is closed while bytes of the client are unread takes back what it was sent.
-fn take_leftovers(reader: &mut TcpStream) {
-    let mut piece = [0u8; PIECE];
-    for _ in 0..LEFTOVERS {
-        match reader.read(&mut piece) {
-            Ok(0) => return,
-            Ok(_) => {}
-            Err(_) => return,
-        }
-    }
 }

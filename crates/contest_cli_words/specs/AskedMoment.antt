@@ -1,5 +1,5 @@
 -- The moment that a command is asked for.
-use Rattle.std.specs.Prelude.{ℕ, Option, Some, None}
+use Rattle.std.specs.Prelude.{◌++◌, ℕ, List, Option, Some, None, codes}
 use Rattle.clap.specs.Walk.{Text}
 use Rattle.contest_types.specs.MomentText.{IsMomentText}
 
@@ -13,3 +13,7 @@ NamesMoment (Some text) (Some moment) = IsMomentText text moment
 -- none is named rightly
 abbrev pub NamesNoMoment : Option Text → Type 0
 NamesNoMoment text = (at : Option ℕ) → NamesMoment text at → ⊥
+
+-- what is said of a text that shows no moment
+abbrev pub no_moment : Text → List ℕ
+no_moment text = codes "error: '" ++ text ++ codes "' of '--at' is no moment, as 2024-03-02T10:30:00Z\n"

@@ -1,5 +1,5 @@
 -- What the words of `board` name.
-use Rattle.std.specs.Prelude.{◌≡◌, ◌≢◌, ◌⊎◌, ◌∷◌, List, [], Option, Some, None, codes}
+use Rattle.std.specs.Prelude.{◌≡◌, ◌≢◌, ◌⊎◌, ◌∷◌, ℕ, List, [], Option, Some, None, codes}
 use Rattle.std.specs.Option.{option_map}
 use Rattle.clap.specs.Simple.{App}
 use Rattle.clap.specs.Walk.{Row, Text, first_of}
@@ -27,6 +27,10 @@ NamesWho text (who.Team id) = (text ≡ Some id.now) × (id.now ≢ codes "publi
 abbrev pub NamesFormat : Option Text → BoardFormat → Type 0
 NamesFormat text format.Text = (text ≡ None) ⊎ (text ≡ Some (codes "text"))
 NamesFormat text format.Csv = text ≡ Some (codes "csv")
+
+-- what is said of a form that there isn't
+abbrev pub no_format : List ℕ
+no_format = codes "error: '--format <FORMAT>' is text or csv\n"
 
 -- the file that keeps the contest, a board and, if they do, its moment
 pub record NamesBoard (values : List Row) (named : BoardWords) : Type 0 where

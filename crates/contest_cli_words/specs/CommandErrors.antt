@@ -40,6 +40,18 @@ IsWords Net = ⊥
 abbrev pub IsWordsOrMemory : CommandError → Type 0
 IsWordsOrMemory stop = IsMemory stop ⊎ IsWords stop
 
+-- the words are refused with this text
+abbrev pub Says : List ℕ → CommandError → Type 0
+Says text (Usage said) = string_bytes said ≡ text
+Says text (Refused r) = ⊥
+Says text File = ⊥
+Says text Clock = ⊥
+Says text Net = ⊥
+
+-- or memory was refused while that was told
+abbrev pub SaysOrMemory : List ℕ → CommandError → Type 0
+SaysOrMemory text stop = IsMemory stop ⊎ Says text stop
+
 -- the words are refused, for they have such a fault, or memory was
 abbrev pub RefusesWords : Kinds → CommandError → Type 0
 RefusesWords faults stop = IsMemory stop ⊎ (IsWords stop × (faults ≢ []))

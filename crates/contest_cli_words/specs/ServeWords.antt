@@ -1,5 +1,5 @@
 -- What the words of `serve` name.
-use Rattle.std.specs.Prelude.{◌≡◌, ◌&&◌, ◌∷◌, ℕ, List, [], Option, Some, None, codes, nat_le, if◌then◌else◌}
+use Rattle.std.specs.Prelude.{◌≡◌, ◌&&◌, ◌∷◌, ◌++◌, ℕ, List, [], Option, Some, None, codes, nat_le, if◌then◌else◌}
 use Rattle.std.specs.Option.{option_and_then}
 use Rattle.std.specs.Str.Parse.{digits_value}
 use Rattle.clap.specs.Simple.{App}
@@ -25,6 +25,10 @@ requests_of text = option_and_then (number_to 4_294_967_295) text
 abbrev pub port_of : Option Text → Option ℕ
 port_of None = Some 0
 port_of (Some text) = number_to 65_535 text
+
+-- what is said of an option that isn't a number up to a limit, or isn't there
+abbrev pub no_number : (name most : Text) → List ℕ
+no_number name most = codes "error: '" ++ name ++ codes "' wants a decimal number up to " ++ most ++ codes "\n"
 
 -- the file that keeps the contest, how many requests are served, and a port
 pub record NamesServe (values : List Row) (named : ServeWords) : Type 0 where

@@ -1,11 +1,13 @@
 //! What clap finds in the words of a command.
-ghost use Rattle.std.specs.Prelude.{◌≡◌, ◌≢◌, ◌↔◌, IsTrue, true, false, IfOk, IfErr, IsOkAnd, Some, codes, is_some, map, option_map, []};
+ghost use Rattle.std.specs.Prelude.{◌≡◌, ◌≢◌, ◌↔◌, IsTrue, true, false, IfOk, IfErr, IsOkAnd, Some};
+ghost use Rattle.std.specs.Prelude.{codes, is_some, map, option_map, []};
 ghost use Rattle.clap.specs.Faults.{is_simple_and_free};
 ghost use Rattle.clap.specs.Kinds.{FailsBy};
 ghost use Rattle.clap.specs.Matches.{found_of};
 ghost use Rattle.clap.specs.Simple.{app_of, new_app, with_rule};
 ghost use Rattle.clap.specs.Walk.{Text, first_of, rows_of, rule_of};
-ghost use Rattle.contest_cli_words.specs.Arguments.{faults_in, flag, option, rows_in, wants_word, word};
+ghost use Rattle.contest_cli_words.specs.Arguments.{faults_in, flag, option, rows_in, wants_word};
+ghost use Rattle.contest_cli_words.specs.Arguments.{word};
 ghost use Rattle.contest_cli_words.specs.CommandErrors.{RefusesWords};
 
 use crate::command_error::CommandError;
@@ -63,8 +65,9 @@ pub(crate) fn option<'a>(
         .help(help)
 }
 
-/// A command with one more word, flag or option, where there was memory for what it has so far. The error
-/// is want of memory. So a command is put together in a straight line, and each part is moved but once.
+/// A command with one more word, flag or option, where there was memory for what it has so far. The
+/// error is want of memory. So a command is put together in a straight line, and each part is moved
+/// but once.
 pub(crate) fn with_arg<'a>(
     command: Result<Command<'a>, AllocError>,
     arg: Arg<'a>,
@@ -75,8 +78,8 @@ pub(crate) fn with_arg<'a>(
     command?.arg(arg)
 }
 
-/// What clap finds in the words of a command; the first word is the command's own. The error is what
-/// clap says of words that have a fault, or want of memory. A call for help counts as a fault.
+/// What clap finds in the words of a command; the first word is the command's own. The error is
+/// what clap says of words that have a fault, or want of memory. A call for help counts as a fault.
 pub(crate) fn matches_in<'a>(
     alloc: Global,
     command: Command<'a>,

@@ -1,8 +1,8 @@
 //! The words of `board`.
 ghost use Rattle.std.specs.Prelude.{◌≡◌, IfNone, IfSome, true};
 ghost use Rattle.std.specs.Option.{option_map};
-ghost use Rattle.contest_cli_words.specs.BoardWords.{NamesFormat, NamesWho, board_app};
-ghost use Rattle.contest_cli_words.specs.CommandErrors.{IsWordsOrMemory};
+ghost use Rattle.contest_cli_words.specs.BoardWords.{NamesFormat, NamesWho, board_app, no_format};
+ghost use Rattle.contest_cli_words.specs.CommandErrors.{IsWordsOrMemory, SaysOrMemory};
 ghost use Rattle.contest_cli_words.specs.CommandTable.{app_in, only_file, wants_words};
 ghost use Rattle.contest_cli_words.specs.declared.asked_board.BoardFormat.{BoardFormat as TheFormat};
 
@@ -119,7 +119,8 @@ fn format_in(text: Option<&str>) -> Option<BoardFormat>
 
 // What is said of a form that there isn't.
 fn no_format(alloc: Global) -> CommandError
-    ensures { IsWordsOrMemory result }
+    ensures words { IsWordsOrMemory result }
+    ensures said { SaysOrMemory no_format result }
 {
     match format!(in alloc; "error: '--format <FORMAT>' is text or csv\n") {
         Ok(message) => CommandError::Usage(message),

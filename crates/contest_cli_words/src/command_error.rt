@@ -3,7 +3,8 @@ ghost use Rattle.std.specs.Prelude.{◌≡◌, OnOk, OnErr};
 ghost use Rattle.std.specs.Io.KnownBytes.{Appends};
 ghost use Rattle.clap.specs.Values.{kind_of};
 ghost use Rattle.contest_streams.specs.Streams.{AppendsFront, Fails, Tells, stream};
-ghost use Rattle.contest_cli_words.specs.CommandErrors.{line_of, exit_status_of, IsMemory, IsWordsOrMemory};
+ghost use Rattle.contest_cli_words.specs.CommandErrors.{line_of, exit_status_of, IsMemory};
+ghost use Rattle.contest_cli_words.specs.CommandErrors.{IsWordsOrMemory};
 
 use crate::refusal_line::refusal_line;
 use clap::error::ErrorKind;

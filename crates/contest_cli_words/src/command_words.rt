@@ -4,7 +4,8 @@ ghost use Rattle.clap.specs.Matches.{found_of};
 ghost use Rattle.clap.specs.Simple.{App};
 ghost use Rattle.clap.specs.Walk.{Row, Text, rows_of};
 ghost use Rattle.contest_cli_words.specs.CommandErrors.{IsMemory, IsWords};
-ghost use Rattle.contest_cli_words.specs.CommandTable.{HasFault, HasWords, Names, StopsNaming, app_in, wants_words};
+ghost use Rattle.contest_cli_words.specs.CommandTable.{HasFault, HasWords, Names, StopsNaming};
+ghost use Rattle.contest_cli_words.specs.CommandTable.{app_in, wants_words};
 
 use crate::arguments::matches_in;
 use crate::command_error::CommandError;
@@ -39,8 +40,8 @@ pub trait CommandWords<'a>: Drop {
         ensures stops { IfErr result (StopsNaming names (rows_of (found_of values.now))) };
 }
 
-/// What the words of a command name; the first word is the command's own. The error is what is said of
-/// words that have a fault, or want of memory. A call for help counts as a fault.
+/// What the words of a command name; the first word is the command's own. The error is what is said
+/// of words that have a fault, or want of memory. A call for help counts as a fault.
 pub fn read_words<'a, W: CommandWords<'a>>(
     alloc: Global,
     words: &'a [&'a str],

@@ -21,8 +21,8 @@ pub fn borrowed(alloc: Global, words: &[String]) -> Result<Vec<&str>, AllocError
     Ok(found)
 }
 
-/// Tells `err` of a program's arguments that can't be read: want of memory, or bytes that are no text.
-/// Answers the exit status, 1 or 2.
+/// Tells `err` of a program's arguments that can't be read: want of memory, or bytes that are no
+/// text. Answers the exit status, 1 or 2.
 pub fn refuse_arguments<E: Write>(error: &io::Error, err: &mut Counted<E>) -> u8
     ensures told { TellsWords (codes "error: an argument isn't UTF-8\n") (stream E.contents err.old) (stream E.contents err.new) result }
     ensures refused { 1 ≤ result }

@@ -27,8 +27,8 @@ pub fn is_help(option: &str) -> bool
     option == "--help" || option == "-h"
 }
 
-/// Writes the help of a command, as clap lays it out, to `out`, or tells `err` that `out` failed or memory
-/// was refused. Answers the exit status, 0 or 1.
+/// Writes the help of a command, as clap lays it out, to `out`, or tells `err` that `out` failed or
+/// memory was refused. Answers the exit status, 0 or 1.
 pub fn show_help<O: Write, E: Write>(
     command: Command<'_>,
     out: &mut Counted<O>,

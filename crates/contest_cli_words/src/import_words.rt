@@ -1,15 +1,13 @@
 //! The words of `import`.
 ghost use Rattle.std.specs.Prelude.{◌≡◌, true};
-ghost use Rattle.contest_types.specs.declared.import_kind.FixedKind.TheVariants.{Settings};
-ghost use Rattle.contest_types.specs.declared.import_kind.ImportKind.TheVariants.{Fixed};
-ghost use Rattle.contest_cli_words.specs.CommandErrors.{IsWordsOrMemory};
+ghost use Rattle.contest_cli_words.specs.CommandErrors.{IsWordsOrMemory, SaysOrMemory};
 ghost use Rattle.contest_cli_words.specs.CommandTable.{app_in, wants_words};
-ghost use Rattle.contest_cli_words.specs.ImportWords.{import_app, import_wanted, kind_named};
+ghost use Rattle.contest_cli_words.specs.ImportWords.{import_app, import_wanted, no_kind};
 
 use crate::command_table::{CommandTable, WordKind, WordRow};
 use crate::{CommandError, CommandWords, word_in};
 use clap::ArgMatches;
-use contest_types::{FixedKind, ImportKind, SettingsKind};
+use contest_types::ImportKind;
 use std::alloc::{AllocError, Global};
 
 /// What the words of `import` name.
@@ -66,7 +64,7 @@ impl<'a> CommandWords<'a> for ImportWords<'a> {
 
     fn named(alloc: Global, values: &ArgMatches<'a>) -> Result<ImportWords<'a>, CommandError> {
         let name = word_in(values, "KIND");
-        match kind_named(name) {
+        match ImportKind::named(name) {
             Some(kind) => Ok(ImportWords {
                 file: word_in(values, "FILE"),
                 kind,
@@ -77,33 +75,10 @@ impl<'a> CommandWords<'a> for ImportWords<'a> {
     }
 }
 
-// The kind of file that a word names.
-fn kind_named(name: &str) -> Option<ImportKind>
-    ensures { result ≡ kind_named name.now }
-{
-    match name {
-        "judgement-types" => Some(settings(SettingsKind::JudgementTypes)),
-        "languages" => Some(settings(SettingsKind::Languages)),
-        "problems" => Some(settings(SettingsKind::Problems)),
-        "groups" => Some(settings(SettingsKind::Groups)),
-        "teams" => Some(settings(SettingsKind::Teams)),
-        "teams-csv" => Some(ImportKind::Fixed(FixedKind::TeamsCsv)),
-        "accounts-csv" => Some(ImportKind::Fixed(FixedKind::AccountsCsv)),
-        "verdicts-csv" => Some(ImportKind::VerdictsCsv),
-        _ => None,
-    }
-}
-
-// A JSON file of settings.
-fn settings(kind: SettingsKind) -> ImportKind
-    ensures { result ≡ Fixed (Settings kind) }
-{
-    ImportKind::Fixed(FixedKind::Settings(kind))
-}
-
 // What is said of a word that names no kind.
 fn no_kind(alloc: Global, name: &str) -> CommandError
-    ensures { IsWordsOrMemory result }
+    ensures words { IsWordsOrMemory result }
+    ensures said { SaysOrMemory (no_kind name.now) result }
 {
     match format!(in alloc;
         "error: '{name}' of '<KIND>' is no kind of file: judgement-types, languages, problems, groups, \

@@ -6,8 +6,8 @@ use crate::command_error::CommandError;
 use contest_streams::{Counted, write_all};
 use std::io::Write;
 
-/// Writes a text that was asked for to `out`, or tells `err` that `out` failed. Answers the exit status, 0
-/// or 1.
+/// Writes a text that was asked for to `out`, or tells `err` that `out` failed. Answers the exit
+/// status, 0 or 1.
 pub fn show<O: Write, E: Write>(text: &[u8], out: &mut Counted<O>, err: &mut Counted<E>) -> u8
     ensures { Shows text.now
         (stream O.contents out.old) (stream O.contents out.new)

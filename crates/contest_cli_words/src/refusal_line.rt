@@ -11,8 +11,8 @@ use itoa::{Buffer, Integer};
 /// Room for the longest line.
 pub const LINE: usize = 160;
 
-/// The line of a refusal: `refused: E<number> <name>`, for a record of a file with its number and the
-/// cause.
+/// The line of a refusal: `refused: E<number> <name>`, for a record of a file with its number and
+/// the cause.
 #[tactic(auto, using(contest_types::proofs::RefusalLemmas::number_told, contest_types::proofs::RefusalLemmas::name_told, crate::proofs::RefusalNames::name_is_short))]
 pub(crate) fn refusal_line(refusal: Refusal) -> ArrayString<LINE>
     ensures { result.bytes ≡ refusal_line refusal }

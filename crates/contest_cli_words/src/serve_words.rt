@@ -1,9 +1,10 @@
 //! The words of `serve`.
 ghost use Rattle.std.specs.Prelude.{◌≡◌, ◌<◌, ◌≤◌, IfSome, true};
 ghost use Rattle.std.specs.Option.{option_map};
-ghost use Rattle.contest_cli_words.specs.CommandErrors.{IsWordsOrMemory};
+ghost use Rattle.contest_cli_words.specs.CommandErrors.{IsWordsOrMemory, SaysOrMemory};
 ghost use Rattle.contest_cli_words.specs.CommandTable.{app_in, only_file, wants_words};
-ghost use Rattle.contest_cli_words.specs.ServeWords.{number_to, port_of, requests_of, serve_app};
+ghost use Rattle.contest_cli_words.specs.ServeWords.{no_number, number_to, port_of, requests_of};
+ghost use Rattle.contest_cli_words.specs.ServeWords.{serve_app};
 
 use crate::command_table::{CommandTable, WordKind, WordRow};
 use crate::{CommandError, CommandWords, value_in, word_in};
@@ -115,7 +116,8 @@ fn number_to(text: &str, most: u64) -> Option<u64>
 
 // What is said of an option that isn't a number up to a limit, or isn't there.
 fn no_number(alloc: Global, option: &str, most: &str) -> CommandError
-    ensures { IsWordsOrMemory result }
+    ensures words { IsWordsOrMemory result }
+    ensures said { SaysOrMemory (no_number option.now most.now) result }
 {
     match format!(in alloc; "error: '{option}' wants a decimal number up to {most}\n") {
         Ok(message) => CommandError::Usage(message),

@@ -1,12 +1,13 @@
-use Rattle.std.proofs.Common.{◌≡◌, Some, inl, refl, subst}
+use Rattle.std.proofs.Common.{inl, refl, subst}
+use Rattle.std.proofs.KnownBytes.{Keeps-refl}
 use Rattle.sqlite.specs.Held.{state}
 use Rattle.sqlite.specs.State.{HasCleanDisk}
 use Rattle.contest_streams.specs.Streams.{stream}
-use Rattle.contest_store_sqlite.specs.Contests.{listed_in_trees, may_leave_of}
+use Rattle.contest_store_sqlite.specs.Opening.{FindsContest}
+use Rattle.contest_store_sqlite.specs.Contests.{may_leave_of}
 use Rattle.contest_store_sqlite.specs.Keeping.{IsTrusted}
 use Rattle.contest_store_sqlite.specs.Value.{stored}
 use Rattle.contest_cli_words.specs.declared.command_error.CommandError.TheVariants.{Refused}
-use Rattle.contest_cli_words.proofs.StreamLemmas.{keeps_same}
 use Rattle.contest_cli_commands.proofs.ExportLemmas.{cut_off, shown_by_store}
 use Rattle.contest_cli_commands.proofs.PrintLemmas.{leaves_no_more, stops_opening}
 use Rattle.contest_cli_commands.specs.Printing.{StopsOpening}
@@ -26,8 +27,8 @@ pub returns-in-Err : goal.returns-in-Err
 returns-in-Err g c =
     let old = state g.S.Store c.args.conn in
     record {
-      told = cut_off _ (λ x. listed_in_trees old.now.trees ≡ Some x) (StopsOpening old (state g.S.Store c.in-Err.conn)) _ _ _ _ (Refused c.refusal.result) c.refuse.result
+      told = cut_off _ (FindsContest old) (StopsOpening old (state g.S.Store c.in-Err.conn)) _ _ _ _ (Refused c.refusal.result) c.refuse.result
           (inl (stops_opening old (state g.S.Store c.in-Err.conn) c.in-Err.error c.refusal.result c.refusal.ensures.value (λ is clean up. c.in-Err.ensures.first clean is up))) refl
-          (inl (keeps_same (stream g.O.Write.contents c.args.out.now).bytes)) c.refuse.ensures.status c.refuse.ensures.told;
+          (inl (Keeps-refl (stream g.O.Write.contents c.args.out.now).bytes)) c.refuse.ensures.status c.refuse.ensures.told;
       leaves = leaves_no_more old (state g.S.Store c.in-Err.conn) c.in-Err.ensures.refused;
     }

@@ -2,7 +2,7 @@ use Rattle.std.proofs.Common.{Err, ap, subst}
 use Rattle.sqlite.specs.Held.{state}
 use Rattle.contest_streams.specs.Streams.{stream}
 use Rattle.contest_desk.specs.Items.{HasStoreError}
-use Rattle.contest_cli_commands.specs.Import.{StepsOrFinds}
+use Rattle.contest_cli_commands.specs.Import.{KeepsNothing, StepsOrFinds}
 use Rattle.contest_cli_commands.proofs.ImportLemmas.{added_steps, fault_stops, no_error, refuses}
 use Rattle.contest_cli_commands.proofs.InputLemmas.{was_read}
 use Rattle.contest_cli_commands.proofs.import_command.import.Goals as goal
@@ -25,6 +25,7 @@ returns-clause-err g c =
     let steps = c.import_bytes-added.ensures.steps input (was_read input c.in-Ok.ensures.ok c.deref.ensures.value) in
     refuses c.args.now c.args.kind input old new c.in-Err-added.refusal
     (subst (λ answer. ¬ HasStoreError answer → StepsOrFinds c.args.now c.args.kind input old new answer) c.in-Err-added.is steps)
+    (subst (λ answer. HasStoreError answer → KeepsNothing old new) c.in-Err-added.is c.import_bytes-added.ensures.fails)
 
 pub returns-in-Ok-added-clause-ok : goal.returns-in-Ok-added-clause-ok
 returns-in-Ok-added-clause-ok g c =

@@ -1,5 +1,3 @@
-use Rattle.std.proofs.Common.{◌≡◌, IfOk, None, Option, Some, subst, sym, ℕ}
-use Rattle.contest_view.specs.Scoreboards.{board_found}
 use Rattle.contest_cli_commands.proofs.print_command.board_of.Goals as goal
 
 pub returns-in-Some-clause-board : goal.returns-in-Some-clause-board

@@ -1,7 +1,8 @@
 use Rattle.std.proofs.Common.{◌≡◌, Some, inl, subst}
 use Rattle.sqlite.specs.Held.{state}
 use Rattle.sqlite.specs.State.{HasCleanDisk}
-use Rattle.contest_store_sqlite.specs.Contests.{listed_in_trees, may_leave_of}
+use Rattle.contest_store_sqlite.specs.Opening.{FindsContest}
+use Rattle.contest_store_sqlite.specs.Contests.{may_leave_of}
 use Rattle.contest_store_sqlite.specs.Keeping.{IsTrusted}
 use Rattle.contest_store_sqlite.specs.Value.{stored}
 use Rattle.contest_cli_commands.proofs.PrintLemmas.{no_words_opened, leaves_no_more, shown_by_desk, stopped, stops_opening}
@@ -24,7 +25,7 @@ returns-in-Err g c =
     let old = state g.S.Store c.args.conn in
     let new = state g.S.Store c.in-Err.conn in
     record {
-      told = stopped _ (λ x. listed_in_trees old.now.trees ≡ Some x) (StopsOpening old new) c.args.now c.args.asked _ _ _ (no_words_opened old new) _ _
+      told = stopped _ (FindsContest old) (StopsOpening old new) c.args.now c.args.asked _ _ _ (no_words_opened old new) _ _
           (λ _. inl (stops_opening old new c.in-Err.error c.refusal.result c.refusal.ensures.value (λ is clean up. c.in-Err.ensures.first clean is up))) c.refuse.ensures.status c.refuse.ensures.told;
       leaves = leaves_no_more old (state g.S.Store c.in-Err.conn) c.in-Err.ensures.refused;
     }
