@@ -1,6 +1,8 @@
 // The board as a table, and the line above it that says where the contest is.
 
-import { at, element, fill, freeText } from "./desk.js";
+import { at, element, fill, freeText } from "./elements.js";
+import { nameIn } from "./settings.js";
+import { cell, columnHead, row, rowHead, tableParts } from "./tables.js";
 
 const RELTIME = /^(-?)(\d+):(\d\d):(\d\d)/;
 
@@ -26,13 +28,13 @@ function cellParts(cell) {
   return ["untried", "", ""];
 }
 
-function cellElement(cell, label, isFirst) {
-  const [kind, line, small] = cellParts(cell);
+function cellElement(problem, label, isFirst) {
+  const [kind, line, small] = cellParts(problem);
   const more = isFirst ? " first" : "";
-  const parts = [element("span", { class: "label", "aria-hidden": "true", dir: "auto" }, label)];
+  const parts = [element("span", { class: "label", dir: "auto" }, label)];
   if (line) parts.push(element("b", {}, isFirst ? `★ ${line}` : line));
   if (small) parts.push(element("small", {}, small));
-  return element("td", { class: `cell ${kind}${more}` }, ...parts);
+  return cell({ class: `cell ${kind}${more}` }, ...parts);
 }
 
 // Who solved each problem first: the award's teams once awards are shown; before that the one team whose minute no
@@ -52,54 +54,50 @@ export function firsts(board, awards) {
   return found;
 }
 
-function rowElement(row, teams, labels, first) {
-  const cells = row.problems.map((cell) => {
-    const isFirst = cell.solved && (first.get(cell.problem_id) ?? []).includes(row.team_id);
-    return cellElement(cell, labels.get(cell.problem_id), isFirst);
+function rowElement(one, settings, first, isOwn) {
+  const cells = one.problems.map((problem) => {
+    const isFirst = problem.solved && (first.get(problem.problem_id) ?? []).includes(one.team_id);
+    return cellElement(problem, settings.problems.get(problem.problem_id)?.label, isFirst);
   });
-  return element(
-    "tr", {},
-    element("td", { class: "rank" }, row.rank),
-    element("th", { class: "team", scope: "row" }, freeText(teams.get(row.team_id)?.name ?? row.team_id)),
-    element("td", { class: "count" }, row.score.num_solved),
-    element("td", { class: "time" }, row.score.total_time),
+  return row(
+    isOwn ? { class: "own", "aria-current": "true" } : {},
+    cell({ class: "rank" }, one.rank),
+    rowHead(freeText(nameIn(settings.teams, one.team_id)), { class: "team" }),
+    cell({ class: "count" }, one.score.num_solved),
+    cell({ class: "time" }, one.score.total_time),
     ...cells,
   );
 }
 
-// Shows a board in a table. The contest's problems and teams give labels and names; the whole board tells who was first,
-// also if this one has a group's teams alone.
-export function showBoard(table, board, problems, teams, awards, whole = board) {
-  const labels = new Map(problems.map((problem) => [problem.id, problem.label]));
-  const names = new Map(teams.map((team) => [team.id, team]));
-  const headOf = ({ name, label }) => element("th", { class: "cell", scope: "col", title: name, dir: "auto" }, label);
+// Shows a board in a table. The contest's problems and teams give labels and names; the whole board tells who was
+// first, also if this one has a group's teams alone. The row of a team whose page it is stands out.
+export function showBoard(table, settings, { board, awards, whole = board, team = null }) {
+  const headOf = ({ name, label }) => columnHead(label, { class: "cell", title: name, dir: "auto" });
+  const words = ["Rank", "Team", "Solved", "Time"], kinds = ["rank", "team", "count", "time"];
+  const heads = words.map((word, place) => columnHead(word, { class: kinds[place] }));
   const first = firsts(whole, awards);
-  fill(table, [
-    element("thead", {}, element(
-      "tr", {},
-      element("th", { class: "rank", scope: "col" }, "Rank"), element("th", { class: "team", scope: "col" }, "Team"),
-      element("th", { class: "count", scope: "col" }, "Solved"), element("th", { class: "time", scope: "col" }, "Time"),
-      ...problems.map(headOf),
-    )),
-    element("tbody", {}, ...board.rows.map((row) => rowElement(row, names, labels, first))),
-  ]);
+  const rows = board.rows.map((one) => rowElement(one, settings, first, one.team_id === team));
+  fill(table, tableParts([...heads, ...[...settings.problems.values()].map(headOf)], rows));
 }
 
 // An award, with the teams that have it.
 export function awardItem(award, teams) {
-  const winners = award.team_ids.flatMap((id, place) => [place ? ", " : "", freeText(teams.get(id)?.name ?? id)]);
+  const winners = award.team_ids.flatMap((id, place) => [place ? ", " : "", freeText(nameIn(teams, id))]);
   return element("li", {}, `${award.citation}: `, ...winners);
 }
+
+const FROZEN = "verdicts since the freeze are shown to their own team and the jury alone.";
 
 // Where the contest is, in a word, and what people should know of it.
 function stateWords(state, contest) {
   if (contest.start_time === null) return ["before", "The start isn't set yet."];
   if (state.started === null) return ["before", "The contest hasn't started yet."];
   if (state.end_of_updates !== null) return ["final", "These are the final results."];
-  if (state.frozen !== null && state.thawed === null) {
-    return ["frozen", "The board is frozen: verdicts since then are shown to their own team and the jury alone."];
-  }
-  if (state.ended !== null) return ["ended", "The contest has ended. The results aren't final yet."];
+  const isFrozen = state.frozen !== null && state.thawed === null;
+  const ended = "The contest has ended.";
+  if (isFrozen && state.ended !== null) return ["frozen", `${ended} The board is still frozen: ${FROZEN}`];
+  if (isFrozen) return ["frozen", `The board is frozen: ${FROZEN}`];
+  if (state.ended !== null) return ["ended", `${ended} The results aren't final yet.`];
   return ["running", ""];
 }
 
@@ -130,3 +128,8 @@ export function showState(contest, board) {
 }
 
 setInterval(tick, 500);
+
+// The head of a page stays where it is while a long board goes by, and the head of the board below it.
+const header = document.querySelector("header");
+const showHeight = () => document.documentElement.style.setProperty("--top", `${header.offsetHeight}px`);
+new ResizeObserver(showHeight).observe(header);

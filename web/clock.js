@@ -1,32 +1,52 @@
 // What an administrator sets: the start, the thaw and final results.
 
-import { at, change, doing, element, fill } from "./desk.js";
+import { at, element, fill } from "./elements.js";
+import { onSubmit } from "./forms.js";
+import { post } from "./posts.js";
+import { isSure } from "./telling.js";
 
+export const CLOCK = {
+  name: "clock", buttons: "#times button",
+  words: (_, { method }) => (method === "PATCH" ? "The clock is set." : "The results are final."),
+};
 const MOMENTS = [
   ["started", "Started"], ["frozen", "Frozen"], ["ended", "Ended"], ["finalized", "Final results"],
   ["thawed", "Thawed"], ["end_of_updates", "Nothing changes any more"],
 ];
+const FINAL = "Make the results final? That can't be taken back.";
 
-const timeText = (time) => (time === null ? "not yet" : new Date(time).toLocaleString());
+// A moment by this machine's clock, with the name of its time zone at that moment.
+const timeText = (time) => new Date(time).toLocaleString(undefined, { dateStyle: "medium", timeStyle: "long" });
 
 export function showMoments(contest, state) {
   const rows = [["Start that is set", contest.start_time], ["Thaw that is set", contest.scoreboard_thaw_time]];
   const all = [...rows, ...MOMENTS.map(([name, text]) => [text, state[name]])];
-  fill(at("moments"), all.flatMap(([text, time]) => [element("dt", {}, text), element("dd", {}, timeText(time))]));
+  const parts = ([text, time]) => [
+    element("dt", {}, text), element("dd", {}, time === null ? "not yet" : timeText(time)),
+  ];
+  fill(at("moments"), all.flatMap(parts));
+}
+
+async function set(jury, member, field) {
+  await post(CLOCK, jury.path, { [member]: new Date(at(field).value).toISOString() }, "PATCH");
+  jury.renew();
+}
+
+async function thaw(jury) {
+  const moment = timeText(at("thaw-time").value);
+  const question = `Lift the freeze at ${moment}? Everybody sees everything then, and that can't be taken back.`;
+  if (await isSure("Set the thaw", question)) await set(jury, "scoreboard_thaw_time", "thaw-time");
+}
+
+async function finalize(jury) {
+  if (!(await isSure("Make them final", FINAL))) return;
+  await post(CLOCK, "jury/finalize");
+  jury.renew();
 }
 
 export function beginClock(jury) {
-  const set = (form, member, field) => at(form).addEventListener("submit", async (event) => {
-    event.preventDefault();
-    const time = new Date(at(field).value).toISOString();
-    await doing(() => change("PATCH", jury.path, { [member]: time }), "The clock is set.");
-    await jury.renew();
-  });
-  set("start", "start_time", "start-time");
-  set("thaw", "scoreboard_thaw_time", "thaw-time");
-  at("finalize").addEventListener("submit", async (event) => {
-    event.preventDefault();
-    await doing(() => change("POST", "jury/finalize"), "The results are final.");
-    await jury.renew();
-  });
+  at("zone").textContent = Intl.DateTimeFormat().resolvedOptions().timeZone;
+  onSubmit("start", () => set(jury, "start_time", "start-time"));
+  onSubmit("thaw", () => thaw(jury));
+  onSubmit("finalize", () => finalize(jury));
 }

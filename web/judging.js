@@ -1,26 +1,21 @@
-// Verdicts: what waits, one submission that is current at, and what is judged.
+// Verdicts: what waits, one submission that is looked at, and what is judged.
 
-import { askBytes, at, button, byId, change, doing, element, fill, freeText } from "./desk.js";
-import { verdictText } from "./rows.js";
+import { askBytes, persistently } from "./desk.js";
+import { at, button, byId, element, fill, freeText } from "./elements.js";
+import { choicesOfNone, onSubmit } from "./forms.js";
+import { post } from "./posts.js";
+import { submissionCells, verdictCell } from "./rows.js";
+import { labelIn, nameIn } from "./settings.js";
+import { cell, listParts, row } from "./tables.js";
+import { doing, tell } from "./telling.js";
 
+export const VERDICT = {
+  name: "verdict", buttons: "#propose, #verify",
+  words: (reply, { path, value: { submission_id: id, judgement_type_id: type } }) =>
+    `${id}: ${type} is ${path.endsWith("proposals") ? "proposed" : "verified"}.`,
+};
 const SHOWN = 60_000;
 let current = null;
-
-const cells = (...texts) => texts.map((text) => element("td", {}, text));
-
-function submissionCells({ settings }, submission) {
-  return cells(
-    submission.id, submission.contest_time.replace(/\.\d+$/, ""),
-    freeText(settings.teams.get(submission.team_id)?.name ?? submission.team_id),
-    freeText(settings.problems.get(submission.problem_id)?.label ?? submission.problem_id),
-    freeText(settings.languages.get(submission.language_id)?.name ?? submission.language_id),
-  );
-}
-
-function tableOf(heads, rows) {
-  const head = element("tr", {}, ...heads.map((text) => element("th", {}, text)));
-  return [element("thead", {}, head), element("tbody", {}, ...rows)];
-}
 
 // The submissions without a verdict, and how many they are.
 export function showWaiting(jury, submissions, judgements, proposals) {
@@ -31,9 +26,10 @@ export function showWaiting(jury, submissions, judgements, proposals) {
     const proposal = proposed.get(one.id);
     const said = proposal ? `${proposal.judgement_type_id} by ${proposal.account_id}` : "";
     const look = button("Look", () => lookAt(jury, one, proposal), { "data-look": one.id });
-    return element("tr", { "data-id": one.id, "data-said": said }, ...submissionCells(jury, one), ...cells(said, look));
+    const cells = submissionCells(jury.settings, one, true);
+    return row({ "data-id": one.id, "data-said": said }, ...cells, cell({}, said), cell({}, look));
   });
-  fill(at("waiting"), tableOf(["Id", "Time", "Team", "Problem", "Language", "Proposed", ""], rows));
+  fill(at("waiting"), listParts(["Id", "Time", "Team", "Problem", "Language", "Proposed", ""], rows));
   return waiting.length;
 }
 
@@ -41,12 +37,11 @@ export function showJudged(jury, submissions, judgements) {
   const known = byId(submissions);
   const visible = judgements.filter((judgement) => known.has(judgement.submission_id)).reverse();
   const rows = visible.map(({ submission_id: id, judgement_type_id: type }) => {
-    const [kind, text] = verdictText(jury.settings, type);
     const add = button("Rejudge", () => addToRejudging(id), { "data-rejudge": id });
-    const verdict = element("td", { class: kind }, freeText(text));
-    return element("tr", { "data-id": id }, ...submissionCells(jury, known.get(id)), verdict, ...cells(add));
+    const cells = submissionCells(jury.settings, known.get(id), true);
+    return row({ "data-id": id }, ...cells, verdictCell(jury.settings, type), cell({}, add));
   });
-  fill(at("judgements"), tableOf(["Id", "Time", "Team", "Problem", "Language", "Verdict", ""], rows));
+  fill(at("judgements"), listParts(["Id", "Time", "Team", "Problem", "Language", "Verdict", ""], rows));
 }
 
 function addToRejudging(id) {
@@ -55,21 +50,24 @@ function addToRejudging(id) {
   at("tab-Rejudgings").click();
 }
 
+// Shows a submission, and no verdict: neither the last one that was given nor the one that is proposed is chosen by
+// itself.
 async function lookAt(jury, submission, proposal) {
   const { settings } = jury;
-  const team = settings.teams.get(submission.team_id)?.name ?? submission.team_id;
   current = { submission, bytes: null };
-  const label = settings.problems.get(submission.problem_id)?.label ?? "";
-  fill(at("verdict-title"), [`${submission.id}, problem `, freeText(label), ", ", freeText(team)]);
+  const label = freeText(labelIn(settings.problems, submission.problem_id));
+  const team = freeText(nameIn(settings.teams, submission.team_id));
+  fill(at("verdict-title"), [`${submission.id}, problem `, label, ", ", team]);
   const entry = submission.entry_point === undefined ? "" : `Entry point ${submission.entry_point}. `;
   const said = proposal ? `${proposal.account_id} proposes ${proposal.judgement_type_id}.` : "Nothing is proposed yet.";
   at("verdict-proposal").textContent = entry + said;
-  if (proposal) at("verdict-type").value = proposal.judgement_type_id;
+  at("verdict-type").value = "";
   at("program").textContent = "";
   at("verdict").hidden = false;
   at("verdict").scrollIntoView({ block: "nearest" });
+  tell("");
   const path = `${jury.path}/submissions/${submission.id}/files`;
-  await doing(async () => showProgram(await askBytes(path), submission), "");
+  await doing(async () => showProgram(await persistently(() => askBytes(path)), submission));
 }
 
 function showProgram(bytes, submission) {
@@ -88,16 +86,20 @@ function download() {
   setTimeout(() => URL.revokeObjectURL(link.href), 60_000);
 }
 
+// Proposes or verifies the verdict that is chosen, as the button says that was pressed.
+async function giveVerdict(jury, pressed) {
+  const { submission } = current;
+  const value = { submission_id: submission.id, judgement_type_id: at("verdict-type").value };
+  const reply = await post(VERDICT, `jury/${pressed.value}`, value);
+  if (reply !== null && current.submission === submission) at("verdict").hidden = true;
+  jury.renew();
+}
+
+export function showVerdictChoices({ settings }) {
+  choicesOfNone(at("verdict-type"), [...settings.types.values()], (type) => `${type.id}: ${type.name}`);
+}
+
 export function beginJudging(jury) {
   at("download").addEventListener("click", download);
-  at("verdict").addEventListener("submit", async (event) => {
-    event.preventDefault();
-    const said = { submission_id: current.submission.id, judgement_type_id: at("verdict-type").value };
-    const what = event.submitter.value;
-    await doing(async () => {
-      await change("POST", `jury/${what}`, said);
-      at("verdict").hidden = true;
-    }, `${said.submission_id}: ${said.judgement_type_id} is ${what === "proposals" ? "proposed" : "verified"}.`);
-    await jury.renew();
-  });
+  onSubmit("verdict", (pressed) => giveVerdict(jury, pressed));
 }

@@ -1,17 +1,20 @@
 // The jury's page. What each part of it does stands in a file of its own; this one reads the contest and shows the
 // parts.
 
-import { ask, at, button, byId, choices, contestPath, fill, renewing, signIn } from "./desk.js";
+import { ANSWER, beginAnswers, showAnswerChoices, showClarifications } from "./answers.js";
 import { awardItem, showBoard, showState } from "./board.js";
-import { beginJudging, showJudged, showWaiting } from "./judging.js";
-import { beginAnswers, showClarifications } from "./answers.js";
-import { beginRejudgings, showRejudgings } from "./rejudgings.js";
-import { beginClock, showMoments } from "./clock.js";
-import { ABOUT_ALL, problemText } from "./rows.js";
+import { beginClock, CLOCK, showMoments } from "./clock.js";
+import { ask } from "./desk.js";
+import { at, button, fill } from "./elements.js";
+import { beginJudging, showJudged, showVerdictChoices, showWaiting, VERDICT } from "./judging.js";
+import { sendKept } from "./posts.js";
+import { beginRejudgings, REJUDGING, showRejudgings } from "./rejudgings.js";
+import { contestPath, renewing } from "./renewing.js";
+import { readSettings } from "./settings.js";
+import { signIn } from "./sign_in.js";
 
 const SECONDS = 3;
-const path = await contestPath();
-const jury = { path, settings: null, renew: null };
+const jury = { path: await contestPath(), settings: null, renew: null };
 
 function showTabs() {
   const sections = [...document.querySelectorAll("section[data-tab]")];
@@ -24,23 +27,20 @@ function showTabs() {
   show(sections[0].dataset.tab);
 }
 
-async function readSettings() {
-  const names = ["problems", "languages", "teams", "judgement-types"];
-  const [problems, languages, teams, types] = await Promise.all(names.map((name) => ask(`${path}/${name}`)));
-  jury.settings = { problems: byId(problems), languages: byId(languages), teams: byId(teams), types: byId(types) };
-  choices(at("verdict-type"), types, (type) => `${type.id}: ${type.name}`);
-  choices(at("answer-to"), [{ id: "", name: "all" }, ...teams], (team) => team.name);
-  choices(at("answer-problem"), [ABOUT_ALL, ...problems], problemText);
+async function showSettings() {
+  jury.settings = await readSettings(jury.path);
+  showVerdictChoices(jury);
+  showAnswerChoices(jury);
 }
 
 async function renew() {
   const names = ["", "/state", "/scoreboard", "/submissions", "/judgements", "/clarifications", "/awards"];
-  const paths = [...names.map((name) => path + name), "jury/proposals", "jury/rejudgings"];
+  const paths = [...names.map((name) => jury.path + name), "jury/proposals", "jury/rejudgings"];
   const replies = await Promise.all(paths.map((name) => ask(name)));
   const [contest, state, board, submissions, judgements, clarifications, awards, proposals, rejudgings] = replies;
-  if (jury.settings === null) await readSettings();
+  if (jury.settings === null) await showSettings();
   showState(contest, board);
-  showBoard(at("board"), board, [...jury.settings.problems.values()], [...jury.settings.teams.values()], awards);
+  showBoard(at("board"), jury.settings, { board, awards });
   fill(at("award-list"), awards.map((award) => awardItem(award, jury.settings.teams)));
   const waiting = showWaiting(jury, submissions, judgements, proposals);
   showJudged(jury, submissions, judgements);
@@ -51,15 +51,15 @@ async function renew() {
   at("tab-Questions").textContent = `Questions (${unanswered})`;
 }
 
-async function enter() {
-  await ask("jury/proposals");
-  if (jury.renew !== null) return;
+async function begin() {
   showTabs();
   beginJudging(jury);
   beginAnswers(jury);
   beginRejudgings(jury);
   beginClock(jury);
   jury.renew = renewing(renew, SECONDS);
+  await sendKept([ANSWER, VERDICT, REJUDGING, CLOCK]);
+  await jury.renew();
 }
 
-signIn(enter);
+signIn(() => ask("jury/proposals"), begin);

@@ -1,32 +1,53 @@
-// What a team and the jury are both shown: verdicts and clarifications, in words.
+// What a team and the jury are both shown: submissions, verdicts and clarifications, in words.
 
-import { element, freeText } from "./desk.js";
+import { element, freeText } from "./elements.js";
+import { labelIn, nameIn } from "./settings.js";
+import { cell } from "./tables.js";
 
-// What a question may be about: a problem, or none.
-export const ABOUT_ALL = { id: "", label: "", name: "the contest" };
-export const problemText = (problem) => (problem.id ? `${problem.label}: ${problem.name}` : problem.name);
+// A time without its milliseconds.
+const shortTime = (time) => time.replace(/\.\d+$/, "");
 
 // A verdict's class and its words; none is a submission that waits.
-export function verdictText(settings, typeId) {
+function verdictText(settings, typeId) {
   if (typeId === undefined || typeId === null) return ["pending", "waits"];
   const type = settings.types.get(typeId);
   return [type?.solved ? "solved" : "tried", type ? `${type.id}: ${type.name}` : typeId];
 }
 
+export function verdictCell(settings, typeId) {
+  const [kind, text] = verdictText(settings, typeId);
+  return cell({ class: kind }, freeText(text));
+}
+
+// A submission's cells, with its team if the table has that.
+export function submissionCells(settings, submission, hasTeam) {
+  const team = cell({ class: "name" }, freeText(nameIn(settings.teams, submission.team_id)));
+  return [
+    cell({}, submission.id), cell({}, shortTime(submission.contest_time)), ...(hasTeam ? [team] : []),
+    cell({}, freeText(labelIn(settings.problems, submission.problem_id))),
+    cell({}, freeText(nameIn(settings.languages, submission.language_id))),
+  ];
+}
+
+// To whom the jury writes.
+function heardText(settings, { to_team_id: team, to_group_id: group }) {
+  if (group) return ["the group ", freeText(nameIn(settings.groups, group))];
+  return [team === null ? "all" : freeText(nameIn(settings.teams, team))];
+}
+
 // From whom, to whom, about what.
 function addressText(settings, clarification) {
-  const named = (id) => settings.teams.get(id)?.name ?? id;
-  const { from_team_id: from, to_team_id: to, problem_id: problem } = clarification;
-  const heard = to === null ? "all" : freeText(named(to));
-  const who = from !== null ? [freeText(named(from)), " asks"] : ["The jury to ", heard];
-  const about = problem === null ? [] : [", about ", freeText(settings.problems.get(problem)?.label ?? problem)];
+  const { from_team_id: from, problem_id: problem } = clarification;
+  const asks = () => [freeText(nameIn(settings.teams, from)), " asks"];
+  const who = from !== null ? asks() : ["The jury to ", ...heardText(settings, clarification)];
+  const about = problem === null ? [] : [", about ", freeText(labelIn(settings.problems, problem))];
   return [...who, ...about];
 }
 
 // A clarification, above it the question that it answers if that is among those that are shown.
 export function clarificationItem(settings, clarification, all, ...more) {
   const asked = all.find((one) => one.id === clarification.reply_to_id);
-  const time = clarification.contest_time.replace(/\.\d+$/, "");
+  const time = shortTime(clarification.contest_time);
   return element(
     "li", { class: clarification.from_team_id === null ? "jury" : "asked", "data-id": clarification.id },
     element("p", { class: "address" }, `${time}  `, ...addressText(settings, clarification)),

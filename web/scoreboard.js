@@ -1,14 +1,14 @@
 // The board for the hall and the public, of what anybody may read. `scoreboard.html#hall` goes down a long board by
 // itself; `scoreboard.html?group=north` shows the teams of the group with that id, ranked among each other.
 
-import { ask, at, byId, contestPath, element, fill, forgetToken, freeText, renewing } from "./desk.js";
 import { awardItem, showBoard, showState } from "./board.js";
+import { askAsPublic } from "./desk.js";
+import { at, byId, element, fill, freeText } from "./elements.js";
+import { contestPath, renewing } from "./renewing.js";
 
 const SECONDS = 5;
 const HALL_SECONDS = 8;
 
-// This page is the public's, also in a tab in which somebody signed in before.
-forgetToken();
 const path = await contestPath();
 const group = new URLSearchParams(location.search).get("group");
 
@@ -24,25 +24,29 @@ function showGroups(groups) {
 }
 
 function showAwards(awards, teams) {
-  const names = byId(teams);
   at("awards").hidden = awards.length === 0;
-  fill(at("award-list"), awards.map((award) => awardItem(award, names)));
+  fill(at("award-list"), awards.map((award) => awardItem(award, teams)));
 }
 
+// All is asked as the public asks it, also in a tab in which somebody is signed in, who stays so: what hangs in a hall
+// shows nothing that its team or the jury alone may see.
 async function renew() {
   const names = ["", "/scoreboard", "/problems", "/teams", "/awards", "/groups"];
-  const [contest, whole, problems, teams, awards, groups] = await Promise.all(names.map((name) => ask(path + name)));
+  const replies = await Promise.all(names.map((name) => askAsPublic(path + name)));
+  const [contest, whole, problems, teams, awards, groups] = replies;
   showGroups(groups);
-  const board = group === null ? whole : await ask(`${path}/groups/${encodeURIComponent(group)}/scoreboard`);
+  const board = group === null ? whole : await askAsPublic(`${path}/groups/${encodeURIComponent(group)}/scoreboard`);
+  const settings = { problems: byId(problems), teams: byId(teams) };
   showState(contest, board);
-  showBoard(at("board"), board, problems, teams, awards, whole);
-  showAwards(awards, teams);
+  showBoard(at("board"), settings, { board, awards, whole });
+  showAwards(awards, settings.teams);
 }
 
 function goDown() {
   if (location.hash !== "#hall") return;
   const isAtEnd = scrollY + innerHeight >= document.documentElement.scrollHeight - 2;
-  scrollTo({ top: isAtEnd ? 0 : scrollY + innerHeight * 0.8, behavior: "smooth" });
+  const page = (innerHeight - document.querySelector("header").offsetHeight) * 0.8;
+  scrollTo({ top: isAtEnd ? 0 : scrollY + page, behavior: "smooth" });
 }
 
 renewing(renew, SECONDS);

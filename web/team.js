@@ -1,65 +1,87 @@
 // A team's page: it submits, reads its verdicts and asks the jury.
 
-import {
-  ask, at, byId, choices, contestPath, element, fill, isKept, post, postKept, renewing, sending, signIn, freeText,
-} from "./desk.js";
 import { showBoard, showState } from "./board.js";
-import { ABOUT_ALL, clarificationItem, problemText, verdictText } from "./rows.js";
+import { ask, Refusal } from "./desk.js";
+import { at, fill, freeText } from "./elements.js";
+import { choice, choicesOfNone, isWithin, onSubmit } from "./forms.js";
+import { post, sendKept } from "./posts.js";
+import { contestPath, renewing } from "./renewing.js";
+import { clarificationItem, submissionCells, verdictCell } from "./rows.js";
+import { ABOUT_ALL, nameIn, problemText, readSettings } from "./settings.js";
+import { signIn } from "./sign_in.js";
+import { listParts, row } from "./tables.js";
+import { isSure, tell } from "./telling.js";
 
 const SECONDS = 5;
-const SUBMISSION = "submission", QUESTION = "question";
+const FILE_LIMIT = 1_048_576, TEXT_LIMIT = 4_096, NAME_LIMIT = 200;
+const UNREADABLE = "This file can't be read: it has changed since you chose it, or it is gone. Nothing was sent. " +
+  "Choose the file again.";
+const EMPTY = "This file is empty. Submit it nevertheless?";
+
+const SUBMISSION = {
+  name: "submission", buttons: "#submit-button",
+  words: (submission) => `The desk has your submission ${submission.id}.`,
+};
+const QUESTION = { name: "question", buttons: "#question-button", words: () => "The jury has your question." };
+
 const path = await contestPath();
 let settings = null;
 let renewNow = null;
 
-// What is told of a post that has come in.
-const submissionWords = (submission) => `The desk has your submission ${submission.id}.`;
-const questionWords = () => "The jury has your question.";
-
-async function fileText(file) {
-  const bytes = new Uint8Array(await file.arrayBuffer());
-  return btoa(Array.from(bytes, (byte) => String.fromCharCode(byte)).join(""));
+// The bytes of the file that was chosen, in base64; or null if it isn't to be sent, which is told.
+async function chosenFile() {
+  const [file] = at("file").files;
+  if (file.size > FILE_LIMIT) {
+    tell(`This file has ${file.size.toLocaleString("en")} bytes, and may have 1,048,576. Nothing was sent.`, true);
+    return null;
+  }
+  if (file.size === 0 && !(await isSure("Submit it", EMPTY))) return null;
+  try {
+    const bytes = new Uint8Array(await file.arrayBuffer());
+    return btoa(Array.from(bytes, (byte) => String.fromCharCode(byte)).join(""));
+  } catch {
+    at("file").value = "";
+    tell(UNREADABLE, true);
+    return null;
+  }
 }
 
-async function submit(event) {
-  event.preventDefault();
+async function submit() {
   const value = { problem_id: at("problem").value, language_id: at("language").value };
   if (!at("entry-label").hidden && at("entry").value) value.entry_point = at("entry").value;
-  value.files = [{ data: await fileText(at("file").files[0]) }];
-  await sending(at("submit-button"), () => post(SUBMISSION, `${path}/submissions`, value), submissionWords);
-  at("file").value = "";
-  await renewNow();
+  if (!isWithin(value.entry_point ?? "", NAME_LIMIT)) return;
+  const data = await chosenFile();
+  if (data === null) return;
+  const submission = await post(SUBMISSION, `${path}/submissions`, { ...value, files: [{ data }] });
+  // Nothing of a submission goes over to the next one.
+  if (submission !== null) at("submit").reset();
+  showEntry();
+  renewNow();
 }
 
-async function askJury(event) {
-  event.preventDefault();
+async function askJury() {
   const value = { text: at("question-text").value };
   if (at("question-problem").value) value.problem_id = at("question-problem").value;
-  const send = () => post(QUESTION, `${path}/clarifications`, value);
-  const question = await sending(at("question-button"), send, questionWords);
-  if (question !== null) at("question-text").value = "";
-  await renewNow();
+  if (!isWithin(value.text, TEXT_LIMIT)) return;
+  const question = await post(QUESTION, `${path}/clarifications`, value);
+  if (question !== null && at("question-text").value === value.text) at("question-text").value = "";
+  renewNow();
 }
 
 function showSubmissions(submissions, judgements) {
   const verdicts = new Map(judgements.map((judgement) => [judgement.submission_id, judgement.judgement_type_id]));
-  const head = ["Id", "Time", "Problem", "Language", "Verdict"].map((text) => element("th", {}, text));
   const rows = submissions.map((one) => {
-    const [kind, text] = verdictText(settings, verdicts.get(one.id));
-    return element(
-      "tr", { "data-id": one.id },
-      element("td", {}, one.id), element("td", {}, one.contest_time.replace(/\.\d+$/, "")),
-      element("td", {}, freeText(settings.problems.get(one.problem_id)?.label ?? one.problem_id)),
-      element("td", {}, freeText(settings.languages.get(one.language_id)?.name ?? one.language_id)),
-      element("td", { class: kind }, freeText(text)),
-    );
+    const verdict = verdictCell(settings, verdicts.get(one.id));
+    return row({ "data-id": one.id }, ...submissionCells(settings, one, false), verdict);
   });
-  fill(at("submissions"), [element("thead", {}, element("tr", {}, ...head)), element("tbody", {}, ...rows.reverse())]);
+  fill(at("submissions"), listParts(["Id", "Time", "Problem", "Language", "Verdict"], rows.reverse()));
 }
 
-function showWho(own) {
-  const team = own.length ? settings.teams.get(own[0].team_id) : null;
-  fill(at("who"), [freeText(team ? team.name : "")]);
+// The team whose page this is, once anything of its own tells that: a submission of which it is shown the file, or a
+// clarification that isn't for all, since it hears those of no other team.
+function ownTeam(own, clarifications) {
+  const heard = clarifications.map((one) => one.from_team_id ?? one.to_team_id);
+  return [...own.map((one) => one.team_id), ...heard].find((id) => id !== null) ?? null;
 }
 
 async function renew() {
@@ -67,22 +89,22 @@ async function renew() {
   const replies = await Promise.all(names.map((name) => ask(path + name)));
   const [contest, board, submissions, judgements, clarifications, awards] = replies;
   showState(contest, board);
-  if (settings === null) await readSettings();
+  if (settings === null) await showSettings();
   // The desk shows the files of a team's own submissions alone.
   const own = submissions.filter((one) => "files" in one);
-  showWho(own);
+  const team = ownTeam(own, clarifications);
+  fill(at("who"), [freeText(team === null ? "" : nameIn(settings.teams, team))]);
   showSubmissions(own, judgements);
   fill(at("clarifications"), clarifications.map((one) => clarificationItem(settings, one, clarifications)).reverse());
-  showBoard(at("board"), board, [...settings.problems.values()], [...settings.teams.values()], awards);
+  showBoard(at("board"), settings, { board, awards, team });
 }
 
-async function readSettings() {
-  const names = ["problems", "languages", "teams", "judgement-types"];
-  const [problems, languages, teams, types] = await Promise.all(names.map((name) => ask(`${path}/${name}`)));
-  settings = { problems: byId(problems), languages: byId(languages), teams: byId(teams), types: byId(types) };
-  choices(at("problem"), problems, problemText);
-  choices(at("language"), languages, (one) => one.name);
-  choices(at("question-problem"), [ABOUT_ALL, ...problems], problemText);
+async function showSettings() {
+  settings = await readSettings(path);
+  const problems = [...settings.problems.values()];
+  choicesOfNone(at("problem"), problems, problemText);
+  choicesOfNone(at("language"), [...settings.languages.values()], (language) => language.name);
+  fill(at("question-problem"), [ABOUT_ALL, ...problems].map((problem) => choice(problem, problemText)));
   showEntry();
 }
 
@@ -90,21 +112,23 @@ function showEntry() {
   at("entry-label").hidden = !settings.languages.get(at("language").value)?.entry_point_required;
 }
 
-// What was sent before the page was loaded anew, and not answered.
-async function sendKept() {
-  if (isKept(SUBMISSION)) await sending(at("submit-button"), () => postKept(SUBMISSION), submissionWords);
-  if (isKept(QUESTION)) await sending(at("question-button"), () => postKept(QUESTION), questionWords);
+async function begin() {
+  renewNow = renewing(renew, SECONDS);
+  onSubmit("submit", submit);
+  onSubmit("question", askJury);
+  at("language").addEventListener("change", showEntry);
+  await sendKept([SUBMISSION, QUESTION]);
+  await renewNow();
 }
 
-async function enter() {
+// The jury is shown the files of all teams, so this page would take it for one of them.
+async function check() {
   await ask(`${path}/submissions`);
-  if (renewNow === null) {
-    renewNow = renewing(renew, SECONDS);
-    at("submit").addEventListener("submit", submit);
-    at("question").addEventListener("submit", askJury);
-    at("language").addEventListener("change", showEntry);
-  }
-  sendKept();
+  const isOfJury = await ask("jury/proposals").then(() => true, (refusal) => {
+    if (!(refusal instanceof Refusal) || refusal.isAway) throw refusal;
+    return false;
+  });
+  if (isOfJury) throw new Refusal(403, "NoTeam");
 }
 
-signIn(enter);
+signIn(check, begin);

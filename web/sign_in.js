@@ -1,0 +1,44 @@
+// The form for a token, and what is behind it once the desk takes one.
+
+import { persistently, Refusal } from "./desk.js";
+import { at } from "./elements.js";
+import { forgetToken, keepToken, token } from "./tab.js";
+import { tell } from "./telling.js";
+
+function show(isIn) {
+  at("sign-in").hidden = isIn;
+  at("inside").hidden = !isIn;
+  at("sign-out").hidden = !isIn;
+}
+
+// Each load of a page is for one account, or for nobody.
+function enterAs(text) {
+  if (text === null) forgetToken();
+  else keepToken(text);
+  location.reload();
+}
+
+// Shows the form or what is behind it. `check` asks something of the desk by the token; once that is answered, `begin`
+// begins the page.
+export async function signIn(check, begin) {
+  const first = token();
+  at("sign-in").addEventListener("submit", (event) => {
+    event.preventDefault();
+    enterAs(at("token").value.trim());
+  });
+  at("sign-out").addEventListener("click", () => enterAs(null));
+  // A page that the browser kept as it was, and shows again, may be of somebody who has signed out since.
+  addEventListener("pageshow", () => { if (token() !== first) location.reload(); });
+  if (first === null) return show(false);
+  try {
+    await persistently(check, (refusal) => tell(refusal.message, true));
+  } catch (refusal) {
+    if (!(refusal instanceof Refusal)) throw refusal;
+    forgetToken();
+    tell(refusal.message, true);
+    return show(false);
+  }
+  tell("");
+  show(true);
+  return begin();
+}
