@@ -17,7 +17,8 @@ pub const MEDALS: Medals = Medals {
     bronze: 4,
 };
 
-/// Five hours, the last of them frozen, with twenty minutes for a penalty. Nobody verifies verdicts.
+/// Five hours, the last of them frozen, with twenty minutes for a penalty. Nobody verifies
+/// verdicts.
 pub fn rehearsal_head(alloc: Global, medals: Medals) -> Result<ContestHead, Fail> {
     Ok(ContestHead {
         id: id(alloc, "rehearsal")?,

@@ -43,36 +43,23 @@ fn judgement_type(
     solved: bool,
     penalty: bool,
 ) -> Result<JudgementType, RowFault> {
-    Ok(JudgementType {
-        id: row_id(alloc, id)?,
-        name: row_name(alloc, id)?,
-        solved,
-        penalty,
-    })
+    let name = row_name(alloc, id)?;
+    Ok(JudgementType::new(row_id(alloc, id)?, name, solved, penalty))
 }
 
 fn language(alloc: Global, id: &str, entry_point_required: bool) -> Result<Language, RowFault> {
-    Ok(Language {
-        id: row_id(alloc, id)?,
-        name: row_name(alloc, id)?,
-        entry_point_required,
-    })
+    let mut language = Language::new(row_id(alloc, id)?, row_name(alloc, id)?);
+    language.entry_point_required = entry_point_required;
+    Ok(language)
 }
 
 fn problem(alloc: Global, id: &str, label: &str, ordinal: u16) -> Result<Problem, RowFault> {
-    Ok(Problem {
-        id: row_id(alloc, id)?,
-        label: row_name(alloc, label)?,
-        name: row_name(alloc, label)?,
-        ordinal,
-    })
+    let name = row_name(alloc, label)?;
+    Ok(Problem::new(row_id(alloc, id)?, row_name(alloc, label)?, name, ordinal))
 }
 
 fn group(alloc: Global, id: &str, name: &str) -> Result<Group, RowFault> {
-    Ok(Group {
-        id: row_id(alloc, id)?,
-        name: row_name(alloc, name)?,
-    })
+    Ok(Group::new(row_id(alloc, id)?, row_name(alloc, name)?))
 }
 
 fn groups(alloc: Global, group: Option<usize>) -> Result<Rows<usize>, RowFault> {
@@ -90,12 +77,10 @@ fn team(
     group: Option<usize>,
     hidden: bool,
 ) -> Result<Team, RowFault> {
-    Ok(Team {
-        id: row_id(alloc, id)?,
-        name: row_name(alloc, name)?,
-        groups: groups(alloc, group)?,
-        hidden,
-    })
+    let mut team = Team::new(alloc, row_id(alloc, id)?, row_name(alloc, name)?);
+    team.groups = groups(alloc, group)?;
+    team.hidden = hidden;
+    Ok(team)
 }
 
 fn add_row(alloc: Global, settings: &mut Settings, row: SettingRow) -> Result<bool, RowFault> {

@@ -34,8 +34,8 @@ fn is_contest_time(text: &str, shown: Option<&str>) -> bool {
     }
 }
 
-/// The text of a moment, and its milliseconds since 1970; none where it isn't read. Those of 1985 and
-/// 1990 are examples of RFC 3339, section 5.8; a leap second is read as the second before it.
+/// The text of a moment, and its milliseconds since 1970; none where it isn't read. Those of 1985
+/// and 1990 are examples of RFC 3339, section 5.8; a leap second is read as the second before it.
 static MOMENTS: [(&str, Option<u64>); 27] = [
     ("2024-03-02T09:00:00Z", Some(1_709_370_000_000)),
     ("2024-03-02t09:00:00z", Some(1_709_370_000_000)),

@@ -1,8 +1,7 @@
 -- What a store is opened over.
-use Rattle.std.specs.Prelude.{◌≡◌, Some}
 use Rattle.sqlite_trees.specs.declared.store.Store.{Ghosts}
 use Rattle.sqlite.specs.Held.{Held, state}
-use Rattle.contest_store_sqlite.specs.Contests.{listed_in_trees}
+use Rattle.contest_store_sqlite.specs.Opening.{FindsContest}
 use Rattle.contest_store.specs.Keeping.{Kept, Shows}
 use Rattle.contest_types.specs.State.{ContestState}
 
@@ -11,5 +10,5 @@ pub record OpensOver {S : Type 0} (g : Ghosts S) (Found : Held S → Type 0) (ke
   pub conn : Held S
   pub found : Found conn
   pub contest : ContestState
-  pub spelled : listed_in_trees (state g conn).now.trees ≡ Some contest
+  pub spelled : FindsContest (state g conn) contest
   pub shows : Shows kept contest contest

@@ -21,14 +21,14 @@ use std::alloc::Global;
 ///
 /// # Errors
 ///
-/// `StoreFault` where the file holds no valid contest or can't be read; `OldSchema` where it has the
-/// tables of the first schema; `Memory` where a growth was refused.
+/// `StoreFault` where the file holds no valid contest or can't be read; `OldSchema` where it has
+/// the tables of the first schema; `Memory` where a growth was refused.
 pub(crate) fn open_store<M: Machine>(
     alloc: Global,
     machine: M,
     path: &str,
 ) -> Result<Store<M::Disk>, Refusal>
-    ensures found { IfOk result (λ store. HasCleanDisk (shown_in M.Disk.Store store) → OpensOver M.Disk.Store (M.found Opening.Existing) (stored M.Disk.Store store)) }
+    ensures found { IfOk result (λ store. HasCleanDisk (shown_in M.Disk.Store store) → OpensOver M.Disk.Store (λ conn. M.found Opening.Existing path.now (Ok conn)) (stored M.Disk.Store store)) }
     ensures new { IfOk result IsNew }
 {
     let conn = open_file(machine, path, Opening::Existing)?;
@@ -57,7 +57,9 @@ fn bare<S: Alter + Drop>(conn: Connection<S>) -> Result<Connection<S>, Refusal>
     let tables = Tables::new(conn);
     match tables.standing() {
         Standing::Bare => Ok(tables.into_connection()),
-        Standing::Desk | Standing::Lacking(_) | Standing::Foreign => Err(Refusal::KeyReused),
+        Standing::Desk | Standing::Lacking(_) | Standing::Celless | Standing::Foreign => {
+            Err(Refusal::KeyReused)
+        }
     }
 }
 
@@ -66,7 +68,7 @@ fn open_file<M: Machine>(
     path: &str,
     opening: Opening,
 ) -> Result<Connection<M::Disk>, Refusal>
-    ensures found { IfOk result (M.found opening) }
+    ensures found { IfOk result (λ conn. M.found opening path.now (Ok conn)) }
     ensures numbered { IfOk result (λ conn. IsNumbered (state M.Disk.Store conn)) }
 {
     match machine.open(path, opening) {

@@ -1,5 +1,5 @@
-//! The command `replay` of `desk` as a program of its own, whose words are the command's. It stands on few
-//! crates, so that `./desk replay` soon has it proved, and `./desk --quick` compiled.
+//! The command `replay` of `desk` as a program of its own, whose words are the command's. It stands
+//! on few crates, so that `./desk replay` soon has it proved, and `./desk --quick` compiled.
 #![tactic(auto)]
 
 ghost use Rattle.std.specs.Prelude.{◌≡◌, map, true, false};

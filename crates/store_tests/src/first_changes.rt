@@ -47,24 +47,10 @@ fn first_row(alloc: Global, kind: usize, id: Id, name: Name) -> Result<Entry, Fa
     ensures { IfOk result (λ e. MayBeFirst e) }
 {
     match kind {
-        5 => Ok(Entry::NewType(JudgementType {
-            id,
-            name,
-            solved: true,
-            penalty: false,
-        })),
-        6 => Ok(Entry::NewLanguage(Language {
-            id,
-            name,
-            entry_point_required: false,
-        })),
-        7 => Ok(Entry::NewGroup(Group { id, name })),
-        8 => Ok(Entry::NewTeam(Team {
-            id,
-            name,
-            groups: Rows::new(alloc),
-            hidden: false,
-        })),
+        5 => Ok(Entry::NewType(JudgementType::new(id, name, true, false))),
+        6 => Ok(Entry::NewLanguage(Language::new(id, name))),
+        7 => Ok(Entry::NewGroup(Group::new(id, name))),
+        8 => Ok(Entry::NewTeam(Team::new(alloc, id, name))),
         9 => Ok(Entry::NewRejudging(Rejudging {
             reason: name,
             state: RejudgingState::Applied,
@@ -79,12 +65,7 @@ fn first_row(alloc: Global, kind: usize, id: Id, name: Name) -> Result<Entry, Fa
 fn first_problem(id: Id, name: Name) -> Result<Entry, Fail>
     ensures { IfOk result (λ e. MayBeFirst e) }
 {
-    Ok(Entry::NewProblem(Problem {
-        id,
-        label: name.clone()?,
-        name,
-        ordinal: 1,
-    }))
+    Ok(Entry::NewProblem(Problem::new(id, name.clone()?, name, 1)))
 }
 
 #[tactic(auto, using(crate::proofs::FirstLemmas::first_judge))]

@@ -1,5 +1,5 @@
-//! Tests of the stores of a contest, in memory and in tables: which changes they make, that a fault takes
-//! them away, and what stands after a store was closed and opened again.
+//! Tests of the stores of a contest, in memory and in tables: which changes they make, that a fault
+//! takes them away, and what stands after a store was closed and opened again.
 #![tactic(auto)]
 
 #[cfg(test)]

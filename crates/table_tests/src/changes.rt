@@ -4,7 +4,7 @@ use crate::sixteen::{CHANGES, change};
 use contest_fixtures::rehearsal;
 use contest_lists::Lists;
 use contest_store::StoreError;
-use contest_store_changes::append;
+use contest_store_changes::write_entry;
 use contest_store_fixed_rows::{contest_cells, desk_cells};
 use contest_store_rows::{VERSION, is_row};
 use contest_store_tables::{Counts, TableName, Tables};
@@ -49,7 +49,7 @@ fn make_change(
     lists: &mut Lists,
     entry: &Entry,
 ) -> Result<(), Fail> {
-    append(tables, alloc, lists, entry)?;
+    write_entry(tables, alloc, lists, entry)?;
     lists.add(alloc, entry)?;
     Ok(())
 }
@@ -85,7 +85,8 @@ fn count_shown(tables: &mut Tables<MemStore>) -> Result<usize, StoreError> {
     Ok(count)
 }
 
-/// Makes all changes in the tables and in the lists, commits them, and looks how many tables show them.
+/// Makes all changes in the tables and in the lists, commits them, and looks how many tables show
+/// them.
 fn commit_all(
     alloc: Global,
     tables: &mut Tables<MemStore>,

@@ -1,5 +1,5 @@
-//! Tests of the tables of a contest, and of its changes in them, over a database in memory: that the calls
-//! succeed, and what the tables show after them.
+//! Tests of the tables of a contest, and of its changes in them, over a database in memory: that
+//! the calls succeed, and what the tables show after them.
 #![tactic(auto)]
 
 #[cfg(test)]

@@ -18,45 +18,27 @@ fn only<T: Drop>(alloc: Global, row: T) -> Result<Rows<T>, Fail> {
 }
 
 fn judgement_type(alloc: Global) -> Result<JudgementType, Fail> {
-    Ok(JudgementType {
-        id: id(alloc, "AC")?,
-        name: name(alloc, "correct")?,
-        solved: true,
-        penalty: false,
-    })
+    let name = name(alloc, "correct")?;
+    Ok(JudgementType::new(id(alloc, "AC")?, name, true, false))
 }
 
 fn language(alloc: Global) -> Result<Language, Fail> {
-    Ok(Language {
-        id: id(alloc, "cpp")?,
-        name: name(alloc, "C++")?,
-        entry_point_required: false,
-    })
+    Ok(Language::new(id(alloc, "cpp")?, name(alloc, "C++")?))
 }
 
 fn problem(alloc: Global) -> Result<Problem, Fail> {
-    Ok(Problem {
-        id: id(alloc, "a")?,
-        label: name(alloc, "A")?,
-        name: name(alloc, "Ants")?,
-        ordinal: 1,
-    })
+    let label = name(alloc, "A")?;
+    Ok(Problem::new(id(alloc, "a")?, label, name(alloc, "Ants")?, 1))
 }
 
 fn group(alloc: Global) -> Result<Group, Fail> {
-    Ok(Group {
-        id: id(alloc, "north")?,
-        name: name(alloc, "North")?,
-    })
+    Ok(Group::new(id(alloc, "north")?, name(alloc, "North")?))
 }
 
 fn team(alloc: Global) -> Result<Team, Fail> {
-    Ok(Team {
-        id: id(alloc, "t1")?,
-        name: name(alloc, "One")?,
-        groups: only(alloc, 0)?,
-        hidden: false,
-    })
+    let mut team = Team::new(alloc, id(alloc, "t1")?, name(alloc, "One")?);
+    team.groups = only(alloc, 0)?;
+    Ok(team)
 }
 
 fn account(alloc: Global, own_id: &str, role: Role, byte: u8) -> Result<Account, Fail> {

@@ -13,7 +13,7 @@ struct Case {
 
 const DROP: &str = "DROP TABLE notices";
 
-static CASES: [Case; 13] = [
+static CASES: [Case; 15] = [
     Case {
         is_made: false,
         statements: &[],
@@ -62,7 +62,23 @@ static CASES: [Case; 13] = [
     Case {
         is_made: true,
         statements: &["DROP TABLE cells"],
+        standing: Standing::Celless,
+    },
+    // and without another that was made before
+    Case {
+        is_made: true,
+        statements: &["DROP TABLE members", "DROP TABLE cells"],
         standing: Standing::Foreign,
+    },
+    // without the cells, and with the notices in their place
+    Case {
+        is_made: true,
+        statements: &[
+            DROP,
+            "DROP TABLE cells",
+            "CREATE TABLE notices (seq INTEGER PRIMARY KEY, kind INTEGER NOT NULL, number INTEGER NOT NULL, k INTEGER NOT NULL, from_jury INTEGER NOT NULL, account TEXT NOT NULL, problem TEXT, reply TEXT, text TEXT NOT NULL, time INTEGER NOT NULL, key TEXT, UNIQUE (kind, number, k)) STRICT",
+        ],
+        standing: Standing::Celless,
     },
     // and without the clarifications of the first schema
     Case {

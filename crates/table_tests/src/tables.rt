@@ -1,4 +1,8 @@
 //! One contest's tables: each is made, takes a row and shows it, and a row that may change changes.
+ghost use Rattle.std.specs.Prelude.{◌≡◌};
+ghost use Rattle.contest_store_tables.specs.Changes.{change_width};
+ghost use Rattle.contest_store_tables.specs.Statements.{insert_width};
+
 use contest_store::StoreError;
 use contest_store_tables::{Counts, RowChange, TableName, Tables};
 use sqlite::types::ValueRef;
@@ -147,7 +151,28 @@ fn insert(
     table: TableName,
     row: &[ValueRef<'_>],
 ) -> Result<(), StoreError> {
-    tables.insert(table, row)
+    if row.len() == insert_width(table) {
+        tables.insert(table, row)
+    } else {
+        Err(StoreError::Fault)
+    }
+}
+
+/// How many cells a row of a table has.
+fn insert_width(table: TableName) -> usize
+    ensures { result ≡ insert_width table }
+{
+    match table {
+        TableName::Desk => 2,
+        TableName::Contest => 13,
+        TableName::Items | TableName::Submissions => 9,
+        TableName::Accounts => 4,
+        TableName::Proposals | TableName::Releases => 6,
+        TableName::Rejudgings => 3,
+        TableName::Members | TableName::Cells => 7,
+        TableName::Clarifications => 10,
+        TableName::Notices => 11,
+    }
 }
 
 fn load(tables: &mut Tables<MemStore>, table: TableName) -> Result<Vec<Row>, StoreError> {
@@ -159,7 +184,23 @@ fn change(
     change: RowChange,
     given: &[ValueRef<'_>],
 ) -> Result<(), StoreError> {
-    tables.change(change, given)
+    if given.len() == change_width(change) {
+        tables.change(change, given)
+    } else {
+        Err(StoreError::Fault)
+    }
+}
+
+/// How many values a change of a row takes.
+fn change_width(change: RowChange) -> usize
+    ensures { result ≡ change_width change }
+{
+    match change {
+        RowChange::Version | RowChange::RejudgingState => 2,
+        RowChange::Marks => 4,
+        RowChange::MemberState => 5,
+        RowChange::Cell => 7,
+    }
 }
 
 fn files(tables: &mut Tables<MemStore>, number: i64) -> Result<usize, StoreError> {

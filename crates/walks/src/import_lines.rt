@@ -1,8 +1,9 @@
-//! Imports as walks show them: `at 2024-03-02T08:00:00Z import`, and below it the kind and the file, as in
-//! `teams-csv id,name,group_ids,hidden | t1,Alpha,,`, where ` | ` ends a line of the file.
+//! Imports as walks show them: `at 2024-03-02T08:00:00Z import`, and below it the kind and the
+//! file, as in `teams-csv id,name,group_ids,hidden | t1,Alpha,,`, where ` | ` ends a line of the
+//! file.
 
 use contest_desk::{ImportItem, Item};
-use contest_types::{FixedKind, ImportKind, Moment, Refusal, Rows, SettingsKind};
+use contest_types::{ImportKind, Moment, Refusal, Rows};
 use std::alloc::{AllocError, Global};
 use std::test::Fail;
 
@@ -11,27 +12,9 @@ pub fn import_at(alloc: Global, now: Moment, line: &str) -> Result<Item, Fail> {
     let (kind, file) = line.split_once(' ').unwrap_or((line, ""));
     Ok(Item::Import(ImportItem {
         now,
-        kind: kind_named(kind).ok_or("no kind of import")?,
+        kind: ImportKind::named(kind).ok_or("no kind of import")?,
         file: file_of(alloc, file)?,
     }))
-}
-
-fn kind_named(name: &str) -> Option<ImportKind> {
-    match name {
-        "judgement-types" => Some(settings(SettingsKind::JudgementTypes)),
-        "languages" => Some(settings(SettingsKind::Languages)),
-        "problems" => Some(settings(SettingsKind::Problems)),
-        "groups" => Some(settings(SettingsKind::Groups)),
-        "teams" => Some(settings(SettingsKind::Teams)),
-        "teams-csv" => Some(ImportKind::Fixed(FixedKind::TeamsCsv)),
-        "accounts-csv" => Some(ImportKind::Fixed(FixedKind::AccountsCsv)),
-        "verdicts-csv" => Some(ImportKind::VerdictsCsv),
-        _ => None,
-    }
-}
-
-fn settings(kind: SettingsKind) -> ImportKind {
-    ImportKind::Fixed(FixedKind::Settings(kind))
 }
 
 /// The file, in which `<500 teams>` stands for the records of so many teams.

@@ -7,7 +7,8 @@ use std::alloc::{AllocError, Global};
 /// Who looks: the public, a team and the jury.
 static AUDIENCES: [Audience; 3] = [Audience::Public, Audience::Team(1), Audience::Jury];
 
-/// Whether each audience sees the cells that the store keeps as they are counted anew, before any thaw.
+/// Whether each audience sees the cells that the store keeps as they are counted anew, before any
+/// thaw.
 ///
 /// # Errors
 ///

@@ -24,8 +24,8 @@ static ACCOUNTS: [(&str, Role); 6] = [
     ("j1", Role::Judge),
 ];
 
-/// Two judgement types, two languages, three problems, a group and four teams. The problems come out of
-/// order, and two have one ordinal. The third team is hidden, and its id is the last.
+/// Two judgement types, two languages, three problems, a group and four teams. The problems come
+/// out of order, and two have one ordinal. The third team is hidden, and its id is the last.
 static ROWS: [SettingRow; 12] = [
     SettingRow::Type("AC", true, false),
     SettingRow::Type("WA", false, true),
@@ -125,7 +125,8 @@ pub fn number_after(text: &str, words: &str) -> Option<u32> {
     number.parse().ok()
 }
 
-/// A store in which nothing was submitted yet. It fails once, at the call after so many, if it is to.
+/// A store in which nothing was submitted yet. It fails once, at the call after so many, if it is
+/// to.
 fn store(alloc: Global, walk: &str) -> Result<MemoryStore, Fail>
     ensures { IfOk result (λ store. IsSettled (kept_of store)) }
 {

@@ -1,5 +1,5 @@
-//! Answers as walks show them: `405 Allow: GET, HEAD {"code":405,"message":"Method"}`, and of imports `added 1`
-//! or `refused: E1 Malformed`.
+//! Answers as walks show them: `405 Allow: GET, HEAD {"code":405,"message":"Method"}`, and of
+//! imports `added 1` or `refused: E1 Malformed`.
 
 use crate::import_lines::answer_line;
 use contest_desk::{Answer, ContentType, ExtraField, Reply};

@@ -1,5 +1,5 @@
-//! Requests as walks show them: `at 2024-03-02T09:05:00Z token-a1 key k1`, the moment with who asks and
-//! the idempotency key, and below it `POST /contests/rehearsal/submissions {..}`.
+//! Requests as walks show them: `at 2024-03-02T09:05:00Z token-a1 key k1`, the moment with who asks
+//! and the idempotency key, and below it `POST /contests/rehearsal/submissions {..}`.
 
 use crate::import_lines::import_at;
 use base64::engine::general_purpose::STANDARD;
@@ -17,8 +17,8 @@ pub fn items_of(alloc: Global, step: &str) -> Result<Vec<Item>, Fail> {
     Ok(items)
 }
 
-/// A request or an import: its moment, who asks, and the line below it. What comes after that is no part
-/// of it.
+/// A request or an import: its moment, who asks, and the line below it. What comes after that is no
+/// part of it.
 fn item_of(alloc: Global, asked: &str) -> Result<Item, Fail> {
     let (head, rest) = asked.split_once('\n').ok_or("a moment without a request")?;
     let (now, caller) = head.split_once(' ').ok_or("a moment without a caller")?;

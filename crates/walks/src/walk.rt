@@ -1,5 +1,5 @@
-//! A walk: its name, and then steps at one desk, with an empty line before each. A step is requests and
-//! imports that come in one run, and then their answers.
+//! A walk: its name, and then steps at one desk, with an empty line before each. A step is requests
+//! and imports that come in one run, and then their answers.
 
 use crate::kept_cells::are_as_counted;
 use crate::rehearsal_desk::{desk_for, number_after};
@@ -11,7 +11,8 @@ use contest_types::{Marks, Moment, Refusal, Settings};
 use std::alloc::{AllocError, Global};
 use std::test::Fail;
 
-/// What came of a walk: each step that was answered otherwise than it says, and a line for the whole.
+/// What came of a walk: each step that was answered otherwise than it says, and a line for the
+/// whole.
 pub fn report_of(alloc: Global, walk: &str) -> Result<String, Fail> {
     let mut report = String::new(alloc);
     add_walk(alloc, &mut report, walk)?;
@@ -60,8 +61,8 @@ fn add_end(
     Ok(())
 }
 
-/// What stands at the end: how many teams, and the start in milliseconds, 0 where none is set; or why
-/// that isn't told.
+/// What stands at the end: how many teams, and the start in milliseconds, 0 where none is set; or
+/// why that isn't told.
 fn standing_text(alloc: Global, desk: &mut Desk<MemoryStore>) -> Result<String, AllocError> {
     let standing = desk.fixed(alloc);
     setup_text(alloc, &standing)

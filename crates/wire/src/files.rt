@@ -1,8 +1,9 @@
 //! What is done with the files of a contest, and what is told of it.
 //!
-//! That is `made`, `opened`, `upgraded`, `stands`, `ran` or `failed`, the line of a refusal, or `unopened`, where the
-//! files hold no database; after what comes of the steps at a desk it is what its store counted. Last comes
-//! `closed DATABASE LOG`: whether the file `stopped`, so that it answers no call any more, or `goes` on.
+//! That is `made`, `opened`, `upgraded`, `stands`, `ran` or `failed`, the line of a refusal, or
+//! `unopened`, where the files hold no database; after what comes of the steps at a desk it is what
+//! its store counted. Last comes `closed DATABASE LOG`: whether the file `stopped`, so that it
+//! answers no call any more, or `goes` on.
 
 ghost use Rattle.std.specs.Prelude.{◌≡◌, ◌&&◌, IfOk, IsTrue};
 ghost use Rattle.sqlite.specs.Files.{file_state};
@@ -54,7 +55,8 @@ fn state_of(has_stopped: bool) -> &'static str {
     if has_stopped { "stopped" } else { "goes" }
 }
 
-/// As the program does, what the log holds is copied into the database file at the end, where that can be done.
+/// As the program does, what the log holds is copied into the database file at the end, where that
+/// can be done.
 fn at_files<D: Disk + Drop>(
     rt: &HostRuntime,
     script: &mut Script<'_>,

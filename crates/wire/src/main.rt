@@ -1,6 +1,6 @@
-//! The program `wire`, for tests from outside: serves the requests and imports of a script over contests that
-//! are kept in memory, or in tables over files in memory that stop at a call, and prints what came of each.
-//! `script` says how they are written.
+//! The program `wire`, for tests from outside: serves the requests and imports of a script over
+//! contests that are kept in memory, or in tables over files in memory that stop at a call, and
+//! prints what came of each. `script` says how they are written.
 #![tactic(auto)]
 
 mod desk;

@@ -1,25 +1,29 @@
-//! The script: steps one after the other, each a line, so many bytes as its last word says, and a line end.
+//! The script: steps one after the other, each a line, so many bytes as its last word says, and a
+//! line end.
 //!
-//! - `contest SIZE`: the file of a new contest, as `desk init` takes it, which is kept in memory. All steps up to the
-//!   next beginning are at its desk.
-//! - `create FOUND DATABASE FOUND LOG SIZE`: the same of a contest that is kept in tables, over a database file and its
-//!   log. FOUND says of each what is found in it: `no` byte yet, the `base`, or what the last such beginning left: all that
-//!   was `written`, or what was `synced` of it. The database file answers DATABASE calls, its log LOG, and each one
-//!   after fails.
-//! - `open FOUND DATABASE FOUND LOG 0`: the contest that stands in these files, and `upgrade` one of the first schema.
-//! - `run FOUND DATABASE FOUND LOG SIZE`: SQL that is run over them. After it, as after `upgrade`, there is no desk.
+//! - `contest SIZE`: the file of a new contest, as `desk init` takes it, which is kept in memory.
+//!   All steps up to the next beginning are at its desk.
+//! - `create FOUND DATABASE FOUND LOG SIZE`: the same of a contest that is kept in tables, over a
+//!   database file and its log. FOUND says of each what is found in it: `no` byte yet, the `base`,
+//!   or what the last such beginning left: all that was `written`, or what was `synced` of it. The
+//!   database file answers DATABASE calls, its log LOG, and each one after fails.
+//! - `open FOUND DATABASE FOUND LOG 0`: the contest that stands in these files, and `upgrade` one
+//!   of the first schema.
+//! - `run FOUND DATABASE FOUND LOG SIZE`: SQL that is run over them. After it, as after `upgrade`,
+//!   there is no desk.
 //! - `base 0`: what was written last is the base from now on.
 //! - `import MOMENT KIND SIZE`: a file that is imported. A moment is in milliseconds since 1970.
-//! - `serve MOMENT PIECE INTERRUPTS FIRST APART END ROOM STOP SIZE`: a connection on which these bytes come. A read
-//!   gets and a write takes at most PIECE bytes; INTERRUPTS reads are interrupted, the first after FIRST that get
-//!   some, each other after APART more; after the last byte the reader `ends` or `fails`. ROOM bytes of the replies
-//!   are taken, and then a write `fails` or is `full`: it takes nothing.
+//! - `serve MOMENT PIECE INTERRUPTS FIRST APART END ROOM STOP SIZE`: a connection on which these
+//!   bytes come. A read gets and a write takes at most PIECE bytes; INTERRUPTS reads are
+//!   interrupted, the first after FIRST that get some, each other after APART more; after the last
+//!   byte the reader `ends` or `fails`. ROOM bytes of the replies are taken, and then a write
+//!   `fails` or is `full`: it takes nothing.
 //!
 //! What is no step ends the script.
 
 use crate::shelf::{Found, Fused};
 use crate::streams::Streams;
-use contest_types::{FixedKind, ImportKind, SettingsKind};
+use contest_types::ImportKind;
 
 /// What is left of the script, behind the next beginning once that was read.
 #[derive(Drop)]
@@ -153,7 +157,7 @@ fn found_named(name: &str) -> Option<Found> {
 fn import_of<'a>(words: &str, bytes: &'a [u8]) -> Option<Step<'a>> {
     let (moment, kind) = words.split_once(' ')?;
     let milliseconds = moment.parse().ok()?;
-    Some(Step::Import(milliseconds, kind_named(kind)?, bytes))
+    Some(Step::Import(milliseconds, ImportKind::named(kind)?, bytes))
 }
 
 fn serve_of<'a>(words: &str, bytes: &'a [u8]) -> Option<Step<'a>> {
@@ -178,22 +182,4 @@ fn streams_of(words: &str) -> Option<Streams> {
         room: room.parse().ok()?,
         writer_fails: stop == "fails",
     })
-}
-
-fn kind_named(name: &str) -> Option<ImportKind> {
-    match name {
-        "judgement-types" => Some(settings(SettingsKind::JudgementTypes)),
-        "languages" => Some(settings(SettingsKind::Languages)),
-        "problems" => Some(settings(SettingsKind::Problems)),
-        "groups" => Some(settings(SettingsKind::Groups)),
-        "teams" => Some(settings(SettingsKind::Teams)),
-        "teams-csv" => Some(ImportKind::Fixed(FixedKind::TeamsCsv)),
-        "accounts-csv" => Some(ImportKind::Fixed(FixedKind::AccountsCsv)),
-        "verdicts-csv" => Some(ImportKind::VerdictsCsv),
-        _ => None,
-    }
-}
-
-fn settings(kind: SettingsKind) -> ImportKind {
-    ImportKind::Fixed(FixedKind::Settings(kind))
 }

@@ -1,9 +1,10 @@
 //! The steps at the desk of a contest, and what is told of each.
 //!
-//! Of a connection that is a line `HOW STATUS READS LEFT SIZE`, the bytes that were taken, and a line end: HOW is
-//! `answered` (with a status), `nothing`, `read` or `write`, by the stream that failed; then come how often the
-//! reader was asked, how many of its bytes are left, and how many were taken. Of an import it is the line that
-//! `desk import` prints. At the end of a contest it is `ended FAULTS REFUSALS COMMITS`, as its store counted them.
+//! Of a connection that is a line `HOW STATUS READS LEFT SIZE`, the bytes that were taken, and a
+//! line end: HOW is `answered` (with a status), `nothing`, `read` or `write`, by the stream that
+//! failed; then come how often the reader was asked, how many of its bytes are left, and how many
+//! were taken. Of an import it is the line that `desk import` prints. At the end of a contest it is
+//! `ended FAULTS REFUSALS COMMITS`, as its store counted them.
 
 use crate::desk::desk_of;
 use crate::script::{Script, Step};

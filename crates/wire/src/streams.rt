@@ -17,8 +17,8 @@ pub struct Streams {
     pub writer_fails: bool,
 }
 
-/// Gives its input in pieces, and then ends or fails. So many of its reads are interrupted, the next one after
-/// `calm` others, and each further one after `apart`. It counts its calls.
+/// Gives its input in pieces, and then ends or fails. So many of its reads are interrupted, the
+/// next one after `calm` others, and each further one after `apart`. It counts its calls.
 #[derive(Drop)]
 pub struct Source<'a> {
     pub input: &'a [u8],
