@@ -55,7 +55,11 @@ class Crates:
         return noted.is_file() and stamp.is_file() and noted.read_text() == self.mark(crate) + stamp.read_text()
 
     def note_proved(self, crate):
-        (self.out(crate) / "proved").write_text(self.mark(crate) + (self.out(crate) / "rlib/stamp").read_text())
+        """Notes that a crate is proved, in a file that is there whole or not at all, whenever the build is killed."""
+        noted = self.out(crate) / "proved"
+        whole = noted.with_suffix(".new")
+        whole.write_text(self.mark(crate) + (self.out(crate) / "rlib/stamp").read_text())
+        whole.replace(noted)
 
     def copy(self, crate, below):
         """Makes the copy, in which rt goes on with what was kept of the crate. Returns the crate's folder in it."""
