@@ -6,13 +6,15 @@
 The cells are counted anew by lib/cells_opinion.py, under either mask, from what sqlite3 reads while the desk is stopped. First
 come two worked contests: attempts in the freeze, and a rejudging that takes a solved problem back. Then N days (4) of N stops
 each (60), made from a seed: between two stops some requests of every role are served, or verdicts are imported. Then cells that
-somebody changed: a wrong row, one too many, also of zeros, one missing among others and a missing table are all refused, and
-leave the file's bytes as they were; a file without rows of cells is filled when it is opened. At last servers
-that are killed while a team posts N times (40): what is left has right cells.
+somebody changed: a wrong row, one too many, also of zeros, one missing among others and another missing table are all refused,
+and leave the file's bytes as they were; a file without rows of cells, or vacuumed without their table, is filled when it is
+opened, by each command, and shows else what it did. At last servers that are killed while a team posts N times (40): what is
+left has right cells.
 
 Takes faketime. Ends with the line `N passed, M failed`; the exit status is 0 if M is 0.
 """
 
+import collections
 import shutil
 import sys
 import threading
@@ -27,9 +29,14 @@ from lib.program import FAULT, Program
 from lib.rehearsal import contest_of, files_of, judged, posted, sent
 from lib.requester import Requester
 from lib.server import Server
-from lib.sqlite import opened
+from lib.sqlite import dump, opened
 
 POSTS = f"{AT_REHEARSAL}/submissions"
+TALK = f"{AT_REHEARSAL}/clarifications"
+COMMANDS = [("init", "cup.db", "init"), ("import", "cup.db", "teams", "teams"), ("export", "cup.db"), ("awards", "cup.db"), ("upgrade", "cup.db")]
+OTHERS = ("desk", "contest", "items", "accounts", "submissions", "proposals", "releases", "rejudgings", "members", "clarifications", "notices")
+# The table of the notices keeps its number among the trees, or takes that of the cells.
+TAKEN_OUT = ("DROP TABLE cells", "DROP TABLE cells; VACUUM")
 AT_NOON = clock.at(text_of(START + 3 * 3_600_000))
 
 
@@ -88,6 +95,7 @@ def try_days(desk):
         chance = Requester(f"cells {desk.options.seed}/{day}")
         verification = bool(day % 2)
         contest, folder, now = contest_of(verification), made(desk, verification), START - 600_000
+        statuses = collections.Counter()
         for stop in range(desk.options.steps):
             if chance.random.random() < 0.15:
                 now = imported(desk, chance, contest, folder, now)
@@ -98,9 +106,17 @@ def try_days(desk):
                 server.at(text_of(now))
                 request = chance.request(contest)
                 _, contest = desk_opinion.handled(contest, now, *request)
-                server.ask(sent(*request))
+                statuses[server.ask(sent(*request))[9:12]] += 1
             server.ended()
             right(desk, folder, f"day {day}, stop {stop}")
+        desk.note(rows_in(folder) > 0, f"day {day}: no row of cells at its end")
+        desk.note(statuses[b"200"] > 0 and statuses[b"503"] == 0, f"day {day} is answered by {dict(statuses)}")
+
+
+def rows_in(folder):
+    """How many rows of cells there are."""
+    with cells_opinion.read(folder / "cup.db") as database:
+        return len(cells_opinion.kept(database))
 
 
 def imported(desk, chance, contest, folder, now):
@@ -111,17 +127,29 @@ def imported(desk, chance, contest, folder, now):
     waiting = [one for one in waiting if one not in judged_now][:3]
     rows = "".join(f"{one},{chance.one(['AC', 'WA', 'CE'])}\n" for one in waiting)
     (folder / "verdicts.csv").write_text(f"submission_id,judgement_type_id\n{rows}", encoding="utf-8")
-    desk.run(folder, "import", "cup.db", "verdicts-csv", "verdicts.csv", before=clock.at(text_of(now)))
+    given = desk.run(folder, "import", "cup.db", "verdicts-csv", "verdicts.csv", before=clock.at(text_of(now)))
+    desk.note(given[0] == 0 or "E22 ImportRow" in given[2], f"verdicts imported at {now}: {given}")
     right(desk, folder, f"verdicts imported at {now}")
     return now
 
 
-def spoiled(desk, base, what, sql, wanted):
-    """`board` of a copy whose cells were changed so: refused, with the file as it was, or done, with right cells afterwards."""
+def lines(folder):
+    """What sqlite3 shows of the contest, in whatever order its rows were written."""
+    return sorted(dump(folder / "cup.db").splitlines())
+
+
+def changed(desk, base, sql):
+    """A folder with a copy of a contest that was changed so."""
     folder = desk.new_folder()
-    shutil.copy(base / "cup.db", folder)
+    shutil.copytree(base, folder, dirs_exist_ok=True)
     with opened(folder / "cup.db") as database:
         database.executescript(sql)
+    return folder
+
+
+def spoiled(desk, base, what, sql, wanted):
+    """`board` of a copy whose cells were changed so: refused, with the file as it was, or done, with right cells afterwards."""
+    folder = changed(desk, base, sql)
     before = (folder / "cup.db").read_bytes()
     given = desk.run(folder, "board", "cup.db", before=AT_NOON)
     if wanted:
@@ -131,12 +159,23 @@ def spoiled(desk, base, what, sql, wanted):
         desk.note(given[0] == 0, f"{what}: {given}")
         right(desk, folder, what)
         desk.same(f"{what}, and again", desk.run(folder, "board", "cup.db", before=AT_NOON), given)
+        desk.same(f"{what}: all else", lines(folder), lines(base))
+
+
+def made_anew(desk, base, sql, what, *words):
+    """A command on a copy without the table of cells: it does what it does on the contest, and the table is back."""
+    folder = changed(desk, base, sql)
+    given = [desk.run(there, *words, before=AT_NOON) for there in (changed(desk, base, ""), folder)]
+    desk.same(f"{what} after {sql}", given[1], given[0])
+    right(desk, folder, f"{what} after {sql}")
+    desk.same(f"{what} after {sql}: all else", lines(folder), lines(base))
 
 
 def try_spoiled(desk):
     base = made(desk, False)
     after(desk, base, "three cells", [(10, "token-a1", POSTS, posted()), (11, "token-j1", "/jury/proposals", judged("s1-1", "AC")),
-          (12, "token-a2", POSTS, posted("b")), (13, "token-a1", POSTS, posted("c"))])  # fmt: skip
+          (12, "token-a2", POSTS, posted("b")), (13, "token-a1", POSTS, posted("c")), (14, "token-a1", TALK, compact({"text": "Why?"})),
+          (15, "token-j1", TALK, compact({"text": "So."})), (16, "token-j1", TALK, compact({"text": "Łódź", "to_team_id": "t2"}))])  # fmt: skip
     changes = [(f"{column} changed", f"UPDATE cells SET {column} = {column} + 1 WHERE team = 1 AND problem = 'a'")
                for column in ("judged", "pending", "solved", "penalties")]  # fmt: skip
     changes += [
@@ -153,12 +192,24 @@ def try_spoiled(desk):
     for what, sql in changes:
         spoiled(desk, base, what, sql, True)
     spoiled(desk, base, "no row", "DELETE FROM cells", False)
-    spoiled(desk, base, "no table", "DROP TABLE cells", True)
-    spoiled(desk, base, "no table, and another's", "DROP TABLE cells; CREATE TABLE other (n INTEGER) STRICT", True)
+    with opened(base / "cup.db") as database:
+        (text,), *_ = database.execute("SELECT sql FROM sqlite_master WHERE name = 'cells'")
+    spoiled(desk, base, "a table in another place", f"DROP TABLE cells; {text}", True)
+    for name in OTHERS:
+        spoiled(desk, base, f"no {name}", f"DROP TABLE {name}", True)
+    for sql in TAKEN_OUT:
+        spoiled(desk, base, sql, sql, False)
+        spoiled(desk, base, f"{sql}, and another's", f"{sql}; CREATE TABLE other (n INTEGER) STRICT", True)
+        spoiled(desk, base, f"{sql}, and a wrong reply", f"{sql}; UPDATE notices SET reply = 'g-9' WHERE from_jury = 1", True)
+        for name in OTHERS:
+            spoiled(desk, base, f"no {name}, and {sql}", f"DROP TABLE {name}; {sql}", True)
+        for words in COMMANDS:
+            made_anew(desk, base, sql, words[0], *words)
 
 
 def try_kills(desk):
     """A server is killed while a team posts and judges release."""
+    rows = 0
     for number in range(desk.options.kills):
         folder = made(desk, False)
         server = Server(desk, folder)
@@ -172,8 +223,10 @@ def try_kills(desk):
         server.process.wait()
         time.sleep(0.01)
         right(desk, folder, f"kill {number}")
+        rows += rows_in(folder)
         given = desk.run(folder, "board", "cup.db")
         desk.note(given[0] == 0, f"kill {number}: {given}")
+    desk.note(rows > 0, "no kill left a row of cells")
 
 
 if __name__ == "__main__":

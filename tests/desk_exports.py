@@ -181,14 +181,18 @@ def try_memory(desk):
             is_kept = (own / "cup.db").read_bytes() == contents or dump(own / "cup.db") in (before, filled)
             shutil.rmtree(own)
             is_front = words[0] == "export" and text.startswith(out)
-            is_right = (status, out, err) == (0, text, b"") or (status == 1 and err == b"refused: E25 Memory\n" and (out == b"" or is_front))
-            desk.note(is_right and is_kept, f"{words[0]}, call {call} refused: {status}, {out!r:.300}, {err!r}")
-            return refused
+            is_told = status == 1 and err == b"refused: E25 Memory\n" and (out == b"" or is_front)
+            desk.note(((status, out, err) == (0, text, b"") or is_told) and is_kept, f"{words[0]}, call {call} refused: {status}, {out!r:.300}, {err!r}")
+            return refused, is_told
 
-        call, step = 1, desk.options.every
+        call, step, told = 1, desk.options.every, 0
         with concurrent.futures.ThreadPoolExecutor(os.cpu_count() or 1) as pool:
-            while all(pool.map(one, range(call, call + 100 * step, step))):
+            is_over = False
+            while not is_over:
+                tried = list(pool.map(one, range(call, call + 100 * step, step)))
+                is_over, told = not all(refused for refused, _ in tried), told + sum(is_told for _, is_told in tried)
                 call += 100 * step
+        desk.note(told > 0, f"{words[0]}: no call that was refused came to E25")
 
 
 if __name__ == "__main__":

@@ -3,18 +3,19 @@
 
     desk_files.py [--program PATH] [--probe PATH] [--kills N]
 
-tables/desk_commands.txt has calls with their files and answers. Then come files that are too large, another's, no
-files or not there, a clock that is set back or shows no moment, the demo contest, whose rows are held beside those of
+tables/desk_commands.txt has calls with their files and answers. Then come the help, files that are too large, another's, no
+files or not there, reads that are interrupted or fail, a clock that is set back or shows no moment, the demo contest, whose rows are held beside those of
 tables/store_demo.sql, the calls of README.md, and N imports of 500 teams (200) that are killed at a random moment:
 whoever opens the file next finds all of them or none. What is in a file afterwards is asked of sqlite3, and of probe,
 which opens a file as the desk does. A call that is refused leaves what the file shows as it was, and one that is done
 leaves all of it in the file alone, without its log.
 
-Takes sqlite3, faketime and setpriv, and runs as root, which may be another user. Ends with the line `N passed, M
+Takes cc, sqlite3, faketime and setpriv, and runs as root, which may be another user. Ends with the line `N passed, M
 failed`; the exit status is 0 if M is 0.
 """
 
 import concurrent.futures
+import errno
 import os
 import pathlib
 import random
@@ -27,7 +28,7 @@ import time
 
 from lib import clock, demo, program, sqlite
 from lib.demo import CONTEST
-from lib.program import DONE, FAULT, FILE, ROOT, TESTS, Program, ran, refused
+from lib.program import DONE, FAULT, FILE, ROOT, TESTS, Program, compiled, ran, refused
 from lib.sqlite import dump
 
 TEAMS = "id,name,group_ids,hidden\n" + "".join(f"n{n},Team {n},,\n" for n in range(1, 501))
@@ -108,6 +109,20 @@ def try_commands(desk):
                 desk.note(right, f"{what}: {given}, wanted {rest}")
             else:
                 desk.answers(what, wanted_of(rest), folder, *head.split())
+
+
+def try_help(desk):
+    """The help of the program has a line for each command, and each command has its own. Without a word it is told as a fault."""
+    folder = desk.new_folder()
+    whole = desk.run(folder, "help")
+    begins, names = "Jury and scoreboard desk of a programming contest\n\nUsage: desk <COMMAND>\n", re.findall(r"(?m)^  (\w+)  +[A-Z]", whole[1])
+    desk.note(whole[0] == 0 and whole[2] == "" and whole[1].startswith(begins), f"help: {whole}")
+    desk.same("the commands of the help", " ".join(names), "replay init import board awards export serve upgrade help")
+    for words, wanted in ((("--help",), whole), (("-h",), whole), ((), (2, "", whole[1]))):
+        desk.answers(f"{words}", wanted, folder, *words)
+    for name in names[:-1]:
+        given = desk.run(folder, name, "--help")
+        desk.note(given[0] == 0 and given[2] == "" and f"Usage: desk {name}" in given[1], f"help of {name}: {given}")
 
 
 def try_limits(desk):
@@ -194,9 +209,10 @@ def try_absent(desk):
 
 
 def try_alone(desk):
-    """A file that is copied alone is the contest."""
+    """A file that is copied alone is the contest; no byte of a page is kept for sums, which sqlite3 wouldn't keep up."""
     folder, other = desk.new_folder(), desk.new_folder()
     desk.run(folder, "init", "cup.db", "contest.json")
+    desk.same("bytes of a page that are kept", (folder / "cup.db").read_bytes()[20], 0)
     desk.run(folder, "import", "cup.db", "teams-csv", "teams.csv")
     shutil.copy(folder / "cup.db", other)
     desk.answers("a copy", (0, "added 0\n", ""), other, "import", "cup.db", "teams-csv", "teams.csv")
@@ -211,6 +227,18 @@ def try_streams(desk):
         given = desk.run(folder, "import", "cup.db", "teams-csv", "teams.csv", stdout=full)
     desk.note(given == FILE, f"a full standard output: {given}")
     desk.opens("a full standard output", folder, "0 0 0 0 500 0 0 0 0 0 0")
+
+
+def try_reads(desk):
+    """A file whose reads are interrupted is read, up to a thousand times; another error ends it at once."""
+    library = compiled("fail_read", desk.folder)
+    added = (0, "added 500\n", "")
+    for times, error, wanted in ((1_000, errno.EINTR, added), (1_001, errno.EINTR, FILE), (1, errno.EIO, FILE), (1, errno.EAGAIN, FILE)):
+        folder = desk.new_folder()
+        desk.run(folder, "init", "cup.db", "contest.json")
+        how = {"LD_PRELOAD": library, "FAIL_PATH": str(folder / "teams.csv"), "FAIL_TIMES": str(times), "FAIL_ERROR": str(error)}
+        given = desk.run(folder, "import", "cup.db", "teams-csv", "teams.csv", env={**os.environ, **how})
+        desk.same(f"{times} reads that fail by {os.strerror(error)}", given, wanted)
 
 
 def try_clock(desk):
@@ -321,5 +349,5 @@ def try_kills(desk):
 
 
 if __name__ == "__main__":
-    PARTS = try_commands, try_limits, try_bytes, try_paths, try_absent, try_alone, try_streams, try_clock, try_rows, try_readme, try_kills
+    PARTS = try_commands, try_help, try_limits, try_bytes, try_paths, try_absent, try_alone, try_streams, try_reads, try_clock, try_rows, try_readme, try_kills
     sys.exit(program.main(__doc__, Desk, PARTS, program="desk", probe="probe", kills=200))

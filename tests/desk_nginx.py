@@ -8,7 +8,9 @@ clocks are stopped by faketime. 200 clients ask at once by wrk, N seconds each (
 for one that may not. Dozens of clients send and read slowly while others are answered. Bodies of every size and form
 reach the desk whole. Requests that two servers could read differently reach it as one request or not at all. N
 requests (2,000) of callers of every kind, side by side, are each answered as the desk answers that caller. Posts
-whose desk is killed and started underneath come once. Two contests stand side by side. The pages are served.
+whose desk is killed and started underneath come once. Two contests stand side by side. The guide's
+certificate holds for the machine's name. The pages are served. All this asks more than people do, so nginx has no limits
+here: desk_nginx_limits.py tries those.
 
 Takes nginx, openssl, wrk, curl and faketime. Ends with the line `N passed, M failed`; the exit status is 0 if M is 0.
 """
@@ -20,6 +22,8 @@ import json
 import random
 import re
 import signal
+import socket
+import ssl
 import sys
 import threading
 import time
@@ -54,7 +58,12 @@ def front(desk):
     """A desk with the demo contest behind a relay, and nginx before it."""
     server = Server(desk, demo.made(desk, demo.FILES))
     relay = Relay(server.port)
-    return server, relay, Nginx(desk.new_folder(), {"demo": relay.port})
+    return server, relay, Nginx(desk.new_folder(), {"demo": relay.port}, is_limited=False)
+
+
+def taken(relay):
+    """What the desk was asked since this was called last, but for what nginx asks it for itself, by HTTP/1.0."""
+    return [sent for sent in relay.take() if not sent.startswith(b"GET /contests HTTP/1.0\r\n")]
 
 
 def stop(server, nginx, relay=None):
@@ -73,7 +82,7 @@ def seconds_of(action):
 def try_many_clients(desk):
     """200 clients at once: of the public, whose board is kept for a second, and of a team, whose board never is."""
     server = Server(desk, demo.made(desk, demo.FILES))
-    nginx = Nginx(desk.new_folder(), {"demo": server.port})
+    nginx = Nginx(desk.new_folder(), {"demo": server.port}, is_limited=False)
     for who, fields in (("the public", []), ("a team", ["-H", "Authorization: Bearer token-a1"])):
         words = ["wrk", "-t", "2", "-c", "200", "-d", f"{desk.options.seconds}s", "--timeout", "20s", *fields]
         status, out, _ = ran([*words, f"https://127.0.0.1:{nginx.port}{HERE}/scoreboard"])
@@ -88,14 +97,21 @@ def try_many_clients(desk):
     stop(server, nginx)
 
 
-def hold(nginx, data, pieces, slept, reads):
-    """Sends data piece by piece, and waits between them; what comes back, if it is read."""
+def sent_slowly(nginx, data):
+    """What comes back for data that is sent byte by byte."""
     with nginx.connected() as client:
-        size = -(-len(data) // pieces)
-        for at in range(0, len(data), size):
-            client.sendall(data[at : at + size])
-            time.sleep(slept)
-        return client.recv(65536) if reads else b""
+        for at in range(len(data)):
+            client.sendall(data[at : at + 1])
+            time.sleep(0.02)
+        return client.recv(65536)
+
+
+def hold(nginx, data, are_there, is_over):
+    """Sends data, joins the others that hold a connection, and goes once it is over. Nothing is read."""
+    with nginx.connected() as client:
+        client.sendall(data)
+        are_there.wait(60)
+        return is_over.wait(60)
 
 
 def try_slow_clients(desk):
@@ -109,19 +125,21 @@ def try_slow_clients(desk):
         b"POST /demo/contests/demo/submissions HTTP/1.1\r\n" + HOST + b"Content-Length: %d\r\n\r\n" % len(body) + body
     )
     get = b"GET /demo/contests/demo/submissions/s1-1/files HTTP/1.1\r\n" + HOST + b"\r\n"
+    are_there, is_over = threading.Barrier(2 * SLOW + 1), threading.Event()
     with concurrent.futures.ThreadPoolExecutor(3 * SLOW) as pool:
-        slow = [pool.submit(hold, nginx, post, len(post), 0.02, True) for _ in range(SLOW)]
-        stopped = [pool.submit(hold, nginx, post[:-9], 1, 6, False) for _ in range(SLOW)]
-        unread = [pool.submit(hold, nginx, get * 4, 1, 6, False) for _ in range(SLOW)]
-        time.sleep(0.5)
+        slow = [pool.submit(sent_slowly, nginx, post) for _ in range(SLOW)]
+        held = [pool.submit(hold, nginx, data, are_there, is_over) for data in (post[:-9], get * 4) for _ in range(SLOW)]
+        are_there.wait(60)
         client = Client(nginx.port, "token-a2")
         took = [
             seconds_of(lambda: desk.same("a quick one", client.ask("GET", f"{HERE}/scoreboard")[0], 200))
             for _ in range(QUICK)
         ]
         desk.note(max(took) < 2, f"the longest of {QUICK} quick requests took {max(took):.2f} s")
+        desk.same("clients that hold on", sum(not one.done() for one in held), 2 * SLOW)
+        is_over.set()
+        desk.same("clients that held on", [one.result() for one in held], [True] * 2 * SLOW)
         replies = [one.result() for one in slow]
-        concurrent.futures.wait([*stopped, *unread])
     desk.same("slow posts", sum(reply.startswith(b"HTTP/1.1 200") for reply in replies), SLOW)
     kept = json.loads(Client(nginx.port, "token-a1").ask("GET", f"{HERE}/submissions")[2])
     desk.same("submissions", len(kept), SLOW + 1)
@@ -257,7 +275,7 @@ def try_callers(desk):
     with concurrent.futures.ThreadPoolExecutor(16) as pool:
         for done in [pool.submit(ask_some, desk.options.requests // 16) for _ in range(16)]:
             done.result()
-    count = len(relay.take())
+    count = len(taken(relay))
     desk.note(count < desk.options.requests // 16 * 16, f"of {desk.options.requests} requests {count} count the desk")
     stop(server, nginx, relay)
 
@@ -271,11 +289,11 @@ def try_cache(desk):
     desk.same(
         "a GET after a HEAD", outline(public.ask("GET", path)), outline((first[0], first[1], team.ask("GET", path)[2]))
     )
-    desk.same("requests of two of these", len(relay.take()), 2)
+    desk.same("requests of two of these", len(taken(relay)), 2)
     for _ in range(5):
         team.ask("GET", path)
         team.ask("HEAD", path)
-    desk.same("requests of a team's ten", len(relay.take()), 10)
+    desk.same("requests of a team's ten", len(taken(relay)), 10)
     for fields in (
         {"Authorization": "Basic eHg6eXk="},
         {"Authorization": "Bearer "},
@@ -283,7 +301,7 @@ def try_cache(desk):
         {"authorization": "Bearer token-no"},
     ):
         desk.same(f"a credential {fields}", public.ask("GET", path, **fields)[0], 401)
-    desk.same("requests of these four", len(relay.take()), 4)
+    desk.same("requests of these four", len(taken(relay)), 4)
     given = public.ask("GET", path, Authorization="")
     desk.note(given[0] == 401 or given[2] == public.ask("GET", path)[2], f"an empty credential: {given}")
     missing = [public.ask("GET", f"{HERE}/teams/t7")[0] for _ in range(3)]
@@ -321,7 +339,7 @@ def try_restarts(desk):
     """Posts while their desk is killed and started again: each is there once, and is answered so to its repeat."""
     folder, port = demo.made(desk, demo.FILES), free_port()
     server = Server(desk, folder, port=str(port))
-    nginx = Nginx(desk.new_folder(), {"demo": port})
+    nginx = Nginx(desk.new_folder(), {"demo": port}, is_limited=False)
     posts = [(team, number) for number in range(60) for team in (1, 2, 3)]
     with concurrent.futures.ThreadPoolExecutor(12) as pool:
         running = [pool.submit(post_until_taken, nginx.port, *one) for one in posts]
@@ -371,6 +389,23 @@ def try_two_contests(desk):
     second.stop()
 
 
+def try_certificate(desk):
+    """The certificate that the guide makes: who trusts it, and no other, reaches the machine by its name."""
+    server, relay, nginx = front(desk)
+    name = ran(["hostname", "-f"])[1].decode().strip()
+    trusting = ssl.create_default_context(cafile=nginx.folder / "desk/certificate.pem")
+    # (browsers look at its other names alone)
+    trusting.hostname_checks_common_name = False
+    for host, wanted in ((name, "TLSv1.3"), ("another.example", "CERTIFICATE_VERIFY_FAILED")):
+        try:
+            with socket.create_connection(("127.0.0.1", nginx.port), timeout=20) as client:
+                said = trusting.wrap_socket(client, server_hostname=host).version()
+        except ssl.SSLError as error:
+            said = error.reason
+        desk.same(f"the certificate of {name}, asked for {host}", said, wanted)
+    stop(server, nginx, relay)
+
+
 def try_pages(desk):
     """The pages and what they load, each with the fields that hold them to it; and nothing else of the machine."""
     server, relay, nginx = front(desk)
@@ -388,7 +423,7 @@ def try_pages(desk):
         "/demo/.git/config",
     ):
         desk.note(public.ask("GET", path)[0] in (400, 404), f"{path} is served")
-    desk.same("requests that count the desk", len(relay.take()), 0)
+    desk.same("requests that count the desk", len(taken(relay)), 0)
     stop(server, nginx, relay)
 
 
@@ -401,6 +436,7 @@ PARTS = [
     try_cache,
     try_restarts,
     try_two_contests,
+    try_certificate,
     try_pages,
 ]
 

@@ -13,21 +13,16 @@ Takes nginx, openssl, chromium, chromium-driver and faketime. Ends with the line
 is 0 if M is 0.
 """
 
-import json
 import pathlib
 import sys
 
 from lib import demo, program
-from lib.browser import Browser, BrowserError
 from lib.cutter import Cutter
-from lib.nginx import Client, Nginx, free_port
-from lib.program import Program
-from lib.server import Server
+from lib.pages import Pages
 
 MARKUP, IMAGE = "<script>alert(1)</script>", '<img src=x onerror="alert(2)">'
 RIGHT, TURNED = "فريق النيل", "\u202egnitros\u202c & Söhne"
 NAMES = {"t1,Alpha": f"t1,{MARKUP}", "t2,Beta": f"t2,{RIGHT}", "t3,Gamma": f"t3,{TURNED}"}
-SIZES = {"wide": (1600, 900), "narrow": (390, 844)}
 
 
 def files():
@@ -41,63 +36,9 @@ def files():
     return {**demo.FILES, "init": contest, "teams-csv": teams, "problems": problems}
 
 
-class Pages(Program):
-    """The program behind nginx, and a browser."""
-
-    def __init__(self, options, folder):
-        super().__init__(options, folder)
-        self.place, self.port = demo.made(self, files()), free_port()
-        self.begin("2024-03-02 08:30:00")
-        self.nginx = Nginx(self.new_folder(), {"demo": self.port})
-        self.browser = Browser(self.new_folder())
-        self.program_file = folder / "main.cpp"
-        self.program_file.write_text("int main() { /* é <b>bold</b> */ }\n", encoding="utf-8")
-
-    def begin(self, moment):
-        """Starts the desk at a moment."""
-        self.server = Server(self, self.place, port=str(self.port))
-        self.at(moment)
-
-    def at(self, moment):
-        self.moment = moment
-        self.server.at(moment)
-
-    def page(self, who, name):
-        self.browser.look_at(who, f"https://127.0.0.1:{self.nginx.port}/demo/{name}.html")
-
-    def sees(self, what, css, text):
-        self.note(self.browser.shows(css, text), f"{what}: {css} shows {self.browser.text(css)!r}, wanted {text!r}")
-
-    def lacks(self, what, css):
-        self.note(self.browser.comes(lambda: self.browser.text(css) is None), f"{what}: {css} stays")
-
-    def shoot(self, name):
-        """Keeps pictures of the page that is looked at."""
-        if self.options.shots == pathlib.Path():
-            return
-        self.options.shots.mkdir(parents=True, exist_ok=True)
-        for kind, size in SIZES.items():
-            self.browser.shot(self.options.shots / f"{name}-{kind}.png", *size)
-
-    def sign_in(self, who, page, token):
-        self.page(who, page)
-        self.browser.type("#token", token)
-        self.browser.click("#sign-in button")
-
-    def submits(self, problem, language="cpp"):
-        self.browser.choose("#problem", problem)
-        self.browser.choose("#language", language)
-        self.browser.give_file("#file", self.program_file)
-        self.browser.click("#submit-button")
-
-    def judges(self, who, submission, verdict, step):
-        """A judge's verdict on the page."""
-        self.browser.look_at(who)
-        self.browser.click("#tab-Judging")
-        self.browser.click(f'[data-look="{submission}"]')
-        self.sees("the program", "#program", "int main() { /* é <b>bold</b> */ }")
-        self.browser.choose("#verdict-type", verdict)
-        self.browser.click(f"#{step}")
+class Day(Pages):
+    FILES = files()
+    MOMENT = "2024-03-02 08:30:00"
 
 
 def try_start(pages):
@@ -216,10 +157,11 @@ def try_rejudging(pages):
     browser.click('[data-rejudge="s1-1"]')
     browser.type("#rejudge-reason", "0 was refused")
     browser.click("#rejudge-button")
-    pages.sees("a rejudging", "#told", "The rejudging is open.")
+    pages.sees("a rejudging", "#told", "Rejudging 1 is open.")
     browser.click('[data-member="s1-1"] [data-type="AC"]')
     pages.sees("a verdict", '[data-member="s1-1"]', "AC, to be verified")
     browser.click('[data-step="apply"]')
+    pages.is_sure("too soon", "Apply rejudging 1?")
     pages.sees("too soon", "#told", "A verdict is missing, or waits for a second judge.")
     browser.look_at("judge2")
     browser.click("#tab-Rejudgings")
@@ -230,6 +172,7 @@ def try_rejudging(pages):
     pages.note(is_ready, "a verdict of two judges is ready")
     pages.shoot("jury-rejudging")
     browser.click('[data-step="apply"]')
+    pages.is_sure("apply", "Apply rejudging 1?")
     pages.sees("applied", '#rejudgings [data-id="1"]', "Rejudging 1, applied: 0 was refused")
     browser.look_at("team")
     pages.sees("the new verdict", '[data-id="s1-1"]', "AC: correct")
@@ -270,12 +213,15 @@ def try_end(pages):
     browser = pages.browser
     browser.look_at("director")
     browser.click("#finalize button")
+    pages.is_sure("too soon", "Make the results final?")
     pages.sees("too soon", "#told", "The desk doesn't set the clock so")
     pages.at("2024-03-02 14:00:00")
     browser.click("#finalize button")
+    pages.is_sure("final results", "Make the results final?")
     pages.sees("final results", "#told", "The results are final.")
     browser.choose("#thaw-time", "2024-03-02T14:10:00")
     browser.click("#thaw button")
+    pages.is_sure("the thaw", "Lift the freeze at")
     pages.sees("the thaw", "#told", "The clock is set.")
     pages.shoot("jury-clock")
     browser.look_at("public")
@@ -302,29 +248,14 @@ def try_markup(pages):
         source = browser.run("return document.documentElement.outerHTML + location.href + document.cookie")
         pages.note("token-" not in source, f"the page of {who} shows a token")
     browser.look_at("judge1")
-    browser.click("#sign-out")
-    pages.note(browser.comes(lambda: not browser.run("return document.getElementById('sign-in').hidden")), "signed out")
-    pages.same("what the tab keeps", browser.run("return Object.keys(sessionStorage)"), [])
-    public = Client(pages.nginx.port)
-    names = [team["name"] for team in json.loads(public.ask("GET", "/demo/contests/demo/teams")[2])]
+    pages.sign_out()
+    pages.same("what the tab keeps", pages.kept(), [])
+    names = [team["name"] for team in pages.listed("contests/demo/teams", None)]
     pages.same("the names at the desk", names[:3], [MARKUP, RIGHT, TURNED])
 
 
 PARTS = [try_start, try_team, try_verdicts, try_questions, try_rejudging, try_freeze, try_end, try_markup]
 
 
-class Gone(Pages):
-    """Pages whose parts rest on each other: once one can't go on, that is told and the rest isn't tried."""
-
-    def run_parts(self, parts):
-        try:
-            super().run_parts(parts)
-        except BrowserError as error:
-            self.note(False, f"the contest can't go on: {error}")
-            self.shoot("failed")
-        finally:
-            self.browser.end()
-
-
 if __name__ == "__main__":
-    sys.exit(program.main(__doc__, Gone, PARTS, program="desk", shots=pathlib.Path()))
+    sys.exit(program.main(__doc__, Day, PARTS, program="desk", shots=pathlib.Path()))

@@ -7,9 +7,9 @@ A rehearsal is served, and then put back into the tables of the first schema (li
 desks made it, without. All commands refuse it (E26) and leave its bytes. `desk upgrade` makes of it the file that it was, and
 changes nothing more if it is run again: every read is answered as before, and a clarification that is posted again with its key
 gets its first reply and stands once. Then each contest of tables/store_rows.tsv that the first schema could keep is put into it:
-the upgrade gives what a desk of today opens, or is refused (E24) and leaves the bytes. Then files that aren't of the first
-schema. At last each call for memory of an upgrade is refused in turn, or each Nth (--every, 50): it is done, or E25 and the file
-shows what it did.
+the upgrade gives what a desk of today opens, or is refused (E24) and leaves the bytes. Then the files of files/, whose tables
+the statements of the first desks made. Then files that aren't of the first schema. At last each call for memory of an upgrade is
+refused in turn, or each Nth (--every, 50): it is done, or E25 and the file shows what it did.
 
 Takes faketime, sqlite3 and a C compiler. Ends with the line `N passed, M failed`; the exit status is 0 if M is 0.
 """
@@ -142,6 +142,20 @@ def try_rows(desk):
     desk.note(tried > 150, f"{tried} contests alone")
 
 
+def try_files(desk):
+    """Files whose tables were made by the statements of the first desks, not by those that the sources name today."""
+    whole = demo_file(desk)
+    desk.same("the same contest in the second schema", desk.run(whole, "upgrade", "cup.db"), SCHEMA)
+    for name in ("first_schema.db", "first_schema_without_cells.db"):
+        folder, contents = desk.new_folder(), (TESTS / "files" / name).read_bytes()
+        (folder / "cup.db").write_bytes(contents)
+        desk.same(f"{name} before its upgrade", desk.run(folder, "board", "cup.db", before=AT_TEN), OLD)
+        desk.note((folder / "cup.db").read_bytes() == contents, f"the refused {name} has other bytes")
+        desk.same(f"the upgrade of {name}", desk.run(folder, "upgrade", "cup.db"), SCHEMA)
+        desk.same(f"what stands then in {name}", dump(folder / "cup.db"), dump(whole / "cup.db"))
+        desk.same(f"its board and that of {name}", *(desk.run(it, "board", "cup.db", before=AT_TEN) for it in (folder, whole)))
+
+
 def try_others(desk):
     """Files that are of neither schema, and no files."""
     first = FIRST_TABLES + demo.FIRST_ROWS
@@ -212,5 +226,5 @@ def wanted_of(desk):
 
 
 if __name__ == "__main__":
-    PARTS = (try_worked, try_rows, try_others, try_memory)
+    PARTS = (try_worked, try_rows, try_files, try_others, try_memory)
     sys.exit(program.main(__doc__, Program, PARTS, program="desk", every=50))

@@ -4,7 +4,7 @@
     desk_verdicts.py [--program PATH] [--requests N] [--pairs N] [--seed N] [--leak]
 
 Contests are made by `desk init` and `desk import`, with verification and without, and the clock is stopped by faketime. First
-come the walks about verdicts, rejudgings and clarifications of crates/walks/stdin, reply by reply, over HTTP, and the last clarification that
+come the walks about verdicts, rejudgings and clarifications of crates/walks/data, reply by reply, over HTTP, and the last clarification that
 the jury may write to a team. Then N requests (20,000) made from a seed, by every role, before the freeze, in it and after it, in
 days whose clock administrators set, and at last beside final results, which sqlite3 sets between two servers: the replies are
 those of lib/desk_opinion.py. Then N pairs (5,000) of worlds that a team, or the public, may not tell apart: they differ in hidden
@@ -87,8 +87,8 @@ def same(given, wanted, method):
 
 def try_walks(desk):
     """The walks about verdicts and clarifications, over HTTP."""
-    text = (ROOT / "crates/walks/stdin").read_text(encoding="utf-8")
-    walks = dict(walk.split("\n", 1) for walk in text.split("\n== ")[1:])
+    files = (ROOT / "crates/walks/data").glob("*.walk")
+    walks = dict(path.read_text(encoding="utf-8").split("\n", 1) for path in files)
     for title in WALKS:
         marks = [re.search(rf"(?m)^{word} from: (.*)$", walks[title]) for word in ("thawed", "final")]
         marks = [None if one is None else milliseconds_of(one[1]) for one in marks]

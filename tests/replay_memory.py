@@ -9,7 +9,7 @@ Memory`. Else the answer must be the one that the program gives with all its mem
 
 The first form runs the built program with lib/refuse_call.c loaded into it (this takes a C compiler named cc). Each case is
 run with its first call refused, its second, and so on until a run comes to its end with no call refused; and all that again
-with every later call refused as well.
+with every later call refused as well. Of each case some calls have to be refused, and some of these answered so.
 
 The second form has `rt try --fail-alloc N` refuse allocation N instead, in an unproved build that checks each access and each
 sum as it runs. It takes the cases with no option, and builds the program of `replay` alone anew for each N, which takes about
@@ -59,13 +59,15 @@ class Replay(Tally):
 
 def refuse_each(replay, library, title, words, data, later):
     """Refuses each call of one case."""
-    wanted, call, refused, same = replay.with_memory(title, words, data), 0, 1, 0
+    wanted, call, refused, same, told = replay.with_memory(title, words, data), 0, 1, 0, 0
     while refused:
         call += 1
         given, refused = ran_refused([replay.program, *words], library, call, later, input=data)
         replay.note(given in (wanted, REFUSED), f"{title}: call {call} refused: {given!r:.300}")
         same += refused > 0 and given == wanted
+        told += given == REFUSED
     ways = "each from one on" if later else "each alone"
+    replay.note(told > 0, f"{title}, {ways}: {call - 1} calls refused, and {told} answered E25")
     print(f"{title}, {ways}: {call - 1} calls refused, {same} of them without any change")
 
 

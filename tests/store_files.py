@@ -376,6 +376,7 @@ def try_memory(probe):
                     refused, same = refused + was_refused, same + (was_refused and given == DONE)
                 call += 64 * every
             ways = "each from one on" if later else "each alone"
+            probe.note(refused > same, f"thaw, {ways}: {refused} calls refused, and {same} of them without any change")
             print(f"thaw, {ways}: {refused} calls refused, {same} of them without any change", flush=True)
 
 

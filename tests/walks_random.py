@@ -3,7 +3,7 @@
 
     walks_random.py [--program PATH] [--walks N] [--steps N] [--seed N]
 
-The program is walks, which reads walks with the answers that they must get (crates/walks/stdin begins with how
+The program is walks, which reads walks with the answers that they must get (crates/walks/data/README.md says how
 they are written). The answers are those of lib/desk_opinion.py. Each walk begins at a desk at which nothing is set up.
 
 Ends with the line `N passed, M failed`; the exit status is 0 if M is 0.

@@ -4,6 +4,7 @@ import atexit
 import base64
 import json
 import os
+import pathlib
 import re
 import subprocess
 import time
@@ -24,16 +25,36 @@ CLICK = """const at = document.querySelector(arguments[0]);
 if (at === null || at.offsetParent === null || at.disabled) return false;
 at.click();
 return true;"""
+CHOICE_OF_TEXT = """const at = document.querySelector(arguments[0]);
+const found = [...(at?.options ?? [])].find((one) => one.text === arguments[1]);
+if (!found) return false;
+found.selected = true;
+at.dispatchEvent(new Event('change'));
+return true;"""
+CHOICE = """const at = document.querySelector(arguments[0]);
+if (at === null) return false;
+at.value = arguments[1];
+at.dispatchEvent(new Event('change'));
+return at.tagName !== 'SELECT' || at.value === arguments[1];"""
 
 
 class BrowserError(Exception):
     """The browser refused a command, or something isn't on a page in time."""
 
 
+def words_of(process):
+    """The words by which a process was started, unless it has ended."""
+    try:
+        return (process / "cmdline").read_bytes()
+    except OSError:
+        return b""
+
+
 class Browser:
     """A browser with windows, each a tab with its own session. What it keeps lies in a folder."""
 
     def __init__(self, folder):
+        self.folder = str(folder).encode()
         env = {**os.environ, "TZ": "UTC", "LC_ALL": "C.UTF-8", "TMPDIR": str(folder), "HOME": str(folder)}
         self.driver = subprocess.Popen(["chromedriver", "--port=0"], stdout=subprocess.PIPE, env=env)
         atexit.register(self.driver.terminate)
@@ -57,6 +78,11 @@ class Browser:
             pass
         self.driver.terminate()
         self.driver.wait(20)
+        self.comes(lambda: not self.is_running())
+
+    def is_running(self):
+        """Whether a process of the browser still is, which may write to the folder."""
+        return any(self.folder in words_of(process) for process in pathlib.Path("/proc").glob("[0-9]*"))
 
     def call(self, method, path, value=None):
         body = None if value is None else json.dumps(value).encode()
@@ -78,17 +104,29 @@ class Browser:
     def reload(self):
         self.call("POST", "/refresh", {})
 
-    def shot(self, file, width, height):
-        """Keeps the page as a phone or a projector of so many pixels shows it."""
-        metrics = {"width": width, "height": height, "deviceScaleFactor": 1, "mobile": width < 600}
+    def back(self):
+        self.call("POST", "/back", {})
+
+    def as_wide_as(self, width, height, is_phone=None):
+        """Shows the page as a screen of so many pixels does, until it is told to be as usual. A phone, as a narrow one is unless it
+        is told not to be, shows what is too wide by making everything small."""
+        is_phone = width < 600 if is_phone is None else is_phone
+        metrics = {"width": width, "height": height, "deviceScaleFactor": 1, "mobile": is_phone}
         self.tell_chromium("Emulation.setDeviceMetricsOverride", metrics)
         self.until(lambda: self.run("return innerWidth") == width, f"a width of {width}")
-        file.write_bytes(base64.b64decode(self.call("GET", "/screenshot")))
+
+    def as_usual(self):
         self.tell_chromium("Emulation.clearDeviceMetricsOverride", {})
         self.until(lambda: self.run("return innerWidth") > 1000, "the usual width")
 
+    def shot(self, file, width, height):
+        """Keeps the page as a screen of so many pixels shows it."""
+        self.as_wide_as(width, height)
+        file.write_bytes(base64.b64decode(self.call("GET", "/screenshot")))
+        self.as_usual()
+
     def tell_chromium(self, command, values):
-        self.call("POST", "/goog/cdp/execute", {"cmd": command, "params": values})
+        return self.call("POST", "/goog/cdp/execute", {"cmd": command, "params": values})
 
     def run(self, script, *values):
         return self.call("POST", "/execute/sync", {"script": script, "args": list(values)})
@@ -109,13 +147,12 @@ class Browser:
         self.call("POST", self.find(css) + "/value", {"text": str(file)})
 
     def choose(self, css, value):
-        """Sets a field that no keys fill alike everywhere."""
-        self.run(
-            "const at = document.querySelector(arguments[0]);"
-            "at.value = arguments[1]; at.dispatchEvent(new Event('change'))",
-            css,
-            value,
-        )
+        """Sets a field that no keys fill alike everywhere, once it takes the value."""
+        self.until(lambda: self.run(CHOICE, css, value), f"{value} in {css}")
+
+    def choose_text(self, css, text):
+        """Chooses by the words that are shown, once they are there."""
+        self.until(lambda: self.run(CHOICE_OF_TEXT, css, text), f"{text} in {css}")
 
     def text(self, css):
         return self.run("return document.querySelector(arguments[0])?.innerText ?? null", css)

@@ -18,10 +18,12 @@ def at(text):
     return ("env", "TZ=UTC", "faketime", "-f", text)
 
 
-def shown_by(file):
-    """The environment of a process whose clock stands at the moment that a file names, read at each look."""
+def shown_by(file, libraries=()):
+    """The environment of a process whose clock stands at the moment that a file names, read at each look, and which has these
+    libraries too. Its other clock, by which it knows how long it waited, goes on."""
     forget_the_dead()
-    return {**os.environ, "TZ": "UTC", "LD_PRELOAD": LIBRARY, "FAKETIME_NO_CACHE": "1", "FAKETIME_TIMESTAMP_FILE": str(file)}
+    how = {"FAKETIME_NO_CACHE": "1", "FAKETIME_DONT_FAKE_MONOTONIC": "1", "FAKETIME_TIMESTAMP_FILE": str(file)}
+    return {**os.environ, "TZ": "UTC", "LD_PRELOAD": ":".join([LIBRARY, *libraries]), **how}
 
 
 def text_of(milliseconds):

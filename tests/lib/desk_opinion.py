@@ -10,6 +10,7 @@ import base64
 import binascii
 import copy
 import hashlib
+from dataclasses import dataclass
 
 from . import awards_opinion, clock_opinion, rejudging_opinion
 from .clarification_opinion import clarification_object, clarify, heard_clarifications
@@ -351,56 +352,100 @@ def caller_of(contest, who):
     raise Refused("UnknownToken")
 
 
-def set_clock(contest, now, caller, method, body):
+@dataclass(frozen=True)
+class Asked:
+    """A request on a route: whose, when, and what the route's name and its path say."""
+
+    contest: dict
+    now: int
+    caller: dict
+    key: str
+    method: str
+    name: str
+    which: str
+    body: bytes
+
+
+def clock_set(asked):
     """What an administrator is answered that sets the start or the thaw, by PATCH, or makes the results final."""
-    if caller is None or caller["role"] != "admin":
+    contest, now = asked.contest, asked.now
+    if asked.caller is None or asked.caller["role"] != "admin":
         raise Refused("RoleForbids")
-    if method == "PATCH":
-        clock_opinion.set_clock(contest, now, body)
+    if asked.method == "PATCH":
+        clock_opinion.set_clock(contest, now, asked.body)
         return contest_object(contest)
     clock_opinion.finalize(contest, now, [submission_id(contest, one) for one in contest["submissions"]])
     return state_object(contest, now)
+
+
+def rejudged(asked):
+    """What the jury is answered about rejudgings."""
+    if not is_jury(asked.caller):
+        raise Refused("RoleForbids")
+    known = [submission_id(asked.contest, one) for one in asked.contest["submissions"]]
+    return rejudging_opinion.answered(asked.contest, asked.now, asked.caller, known, asked.method, asked.name, asked.which, asked.body)
+
+
+def submitted(asked):
+    return submission_object(asked.contest, submit(asked.contest, asked.now, asked.caller, asked.key, asked.body), asked.caller)
+
+
+def clarified(asked):
+    return clarification_object(asked.contest, clarify(asked.contest, asked.now, asked.caller, asked.key, asked.body), asked.caller)
+
+
+def proposals_read(asked):
+    if not is_jury(asked.caller):
+        raise Refused("RoleForbids")
+    return open_proposals(asked.contest, asked.caller)
+
+
+def group_scoreboard(asked):
+    if all(group["id"] != asked.which for group in asked.contest["groups"]):
+        raise Refused("NotFound")
+    return scoreboard(asked.contest, asked.now, asked.caller, asked.which)
+
+
+def listed(asked):
+    """A collection, or the object of it that has this id."""
+    rows = collection(asked.contest, asked.now, asked.name, asked.caller)
+    if asked.which is None:
+        return rows
+    for row in rows:
+        if row["id"] == asked.which:
+            return row
+    raise Refused("NotFound")
+
+
+REJUDGINGS = dict.fromkeys(("rejudgings", *rejudging_opinion.STEPS), rejudged)
+# By the name of a route, what a POST or PATCH is answered there, and what is read there; every other name is a collection.
+CHANGES = {
+    "contest": clock_set,
+    "finalize": clock_set,
+    "submissions": submitted,
+    "clarifications": clarified,
+    "proposals": lambda asked: propose(asked.contest, asked.now, asked.caller, asked.body),
+    "verifications": lambda asked: verify(asked.contest, asked.now, asked.caller, asked.body),
+    **REJUDGINGS,
+}
+READS = {
+    "contests": lambda asked: [contest_object(asked.contest)],
+    "contest": lambda asked: contest_object(asked.contest),
+    "state": lambda asked: state_object(asked.contest, asked.now),
+    "scoreboard": lambda asked: scoreboard(asked.contest, asked.now, asked.caller),
+    "group scoreboard": group_scoreboard,
+    "files": lambda asked: file_of(asked.contest, asked.which, asked.caller),
+    "proposals": proposals_read,
+    **REJUDGINGS,
+}
 
 
 def value_of(contest, now, who, key, method, path, body):
     methods, name, which = offered(contest, path)
     if method not in methods:
         raise Refused("Method", " Allow: " + ", ".join(methods))
-    caller = caller_of(contest, who)
-    if name in ("rejudgings", *rejudging_opinion.STEPS):
-        if not is_jury(caller):
-            raise Refused("RoleForbids")
-        known = [submission_id(contest, one) for one in contest["submissions"]]
-        return rejudging_opinion.answered(contest, now, caller, known, method, name, which, body)
-    if method == "PATCH" or name == "finalize":
-        return set_clock(contest, now, caller, method, body)
-    if method == "POST" and name in ("proposals", "verifications"):
-        return {"proposals": propose, "verifications": verify}[name](contest, now, caller, body)
-    if method == "POST" and name == "clarifications":
-        return clarification_object(contest, clarify(contest, now, caller, key, body), caller)
-    if method == "POST":
-        return submission_object(contest, submit(contest, now, caller, key, body), caller)
-    if name == "files":
-        return file_of(contest, which, caller)
-    if name in ("contests", "contest", "state"):
-        return {"contests": [contest_object(contest)], "contest": contest_object(contest), "state": state_object(contest, now)}[name]
-    if name == "scoreboard":
-        return scoreboard(contest, now, caller)
-    if name == "group scoreboard":
-        if all(group["id"] != which for group in contest["groups"]):
-            raise Refused("NotFound")
-        return scoreboard(contest, now, caller, which)
-    if name == "proposals":
-        if not is_jury(caller):
-            raise Refused("RoleForbids")
-        return open_proposals(contest, caller)
-    rows = collection(contest, now, name, caller)
-    if which is None:
-        return rows
-    for row in rows:
-        if row["id"] == which:
-            return row
-    raise Refused("NotFound")
+    asked = Asked(contest, now, caller_of(contest, who), key, method, name, which, body)
+    return (CHANGES if method in ("POST", "PATCH") else READS).get(name, listed)(asked)
 
 
 def handled(contest, now, who, key, method, path, body):

@@ -2,8 +2,11 @@
 it."""
 
 import atexit
+import collections
 import getpass
 import http.client
+import re
+import resource
 import socket
 import ssl
 import subprocess
@@ -12,16 +15,18 @@ import time
 from .program import ROOT
 
 # What another machine has instead: where things lie, and the ports that the system gives.
-MAIN = """worker_processes 2;
+MAIN = """worker_processes {workers};
 user {user};
 pid {folder}/nginx.pid;
 error_log {folder}/error.log;
 daemon off;
-events {{ worker_connections 4096; }}
+include files.conf;
+events {{ worker_connections {connections}; }}
 http {{
     include /etc/nginx/mime.types;
     default_type application/octet-stream;
-    access_log off;
+    log_format statuses $status;
+    access_log {folder}/access.log statuses;
     client_body_temp_path {folder}/body;
     proxy_temp_path {folder}/proxy;
     fastcgi_temp_path {folder}/fastcgi;
@@ -30,10 +35,12 @@ http {{
     include desk.conf;
 }}
 """
-CERTIFICATE = (
-    "openssl req -x509 -newkey ec -pkeyopt ec_paramgen_curve:prime256v1 -nodes -days 2 -subj /CN=localhost "
-    "-keyout key.pem -out certificate.pem"
-)
+# What docs/GUIDE.md does: it makes a certificate, and sets a worker's connections.
+GUIDE = (ROOT / "docs/GUIDE.md").read_text(encoding="utf-8")
+CERTIFICATE = re.search(r"^openssl req .*?certificate\.pem$", GUIDE, re.M | re.S)[0]
+CONNECTIONS = re.search(r"s/worker_connections \.\*/worker_connections (\d+);/", GUIDE)[1]
+# The files that a worker may have open if nothing is said of them.
+FILES_OF_DEBIAN = 1_024
 TRUSTING = ssl.create_default_context()
 TRUSTING.check_hostname, TRUSTING.verify_mode = False, ssl.CERT_NONE
 
@@ -53,26 +60,44 @@ def with_texts(name, texts):
     return text
 
 
-class Nginx:
-    """nginx before desks, each named by its contest and its port. It ends with the script."""
+def without_limits(text):
+    """A text of examples/nginx/ with limits that nothing reaches."""
+    return re.sub(r"(limit_conn \w+) \d+", r"\1 65535", re.sub(r"rate=\d+r/s", "rate=1000000r/s", text))
 
-    def __init__(self, folder, desks):
+
+def few_files():
+    """What Debian's systemd starts nginx with."""
+    resource.setrlimit(resource.RLIMIT_NOFILE, (FILES_OF_DEBIAN, resource.getrlimit(resource.RLIMIT_NOFILE)[1]))
+
+
+class Nginx:
+    """nginx before desks, each named by its contest and its port. It ends with the script. For a script that asks more than
+    people do, the limits can be taken away."""
+
+    def __init__(self, folder, desks, is_limited=True, workers=2):
         self.folder, self.port, self.plain_port = folder, free_port(), free_port()
+        self.seen, account_port = 0, free_port()
         (folder / "desk/contests").mkdir(parents=True)
-        subprocess.run(CERTIFICATE.split(), cwd=folder / "desk", check=True, capture_output=True)
-        self.write("nginx.conf", MAIN.format(folder=folder, user=getpass.getuser()))
+        words = ["bash", "-c", CERTIFICATE.replace("/etc/nginx/desk", str(folder / "desk"))]
+        subprocess.run(words, check=True, capture_output=True)
+        own = {"folder": folder, "user": getpass.getuser(), "workers": workers, "connections": CONNECTIONS}
+        self.write("nginx.conf", MAIN.format(**own))
         listens = {
             "listen 443 ssl": f"listen 127.0.0.1:{self.port} ssl",
             "listen 80": f"listen 127.0.0.1:{self.plain_port}",
+            "listen 127.0.0.1:8079": f"listen 127.0.0.1:{account_port}",
         }
-        self.write("desk.conf", with_texts("desk.conf", {**listens, "/var/lib/nginx/desk": f"{folder}/cache"}))
-        for name in ("ask.conf", "pages.conf"):
-            self.write(f"desk/{name}", with_texts(name, {}))
+        caches = {"/var/lib/nginx/desk": f"{folder}/cache", "/run/nginx-accounts": f"{folder}/accounts"}
+        shown = (lambda text: text) if is_limited else without_limits
+        self.write("files.conf", with_texts("files.conf", {}))
+        self.write("desk.conf", shown(with_texts("desk.conf", {**listens, **caches})))
+        for name in ("ask.conf", "account.conf", "pages.conf"):
+            self.write(f"desk/{name}", shown(with_texts(name, {})))
         for contest, port in desks.items():
-            own = {"riverside": contest, "8081": str(port), "/srv/desk/web/": f"{ROOT}/web/"}
+            own = {"riverside": contest, "8081": str(port), "8079": str(account_port), "/srv/desk/web/": f"{ROOT}/web/"}
             self.write(f"desk/contests/{contest}.conf", with_texts("riverside.conf", own))
         self.process = subprocess.Popen(
-            ["nginx", "-p", folder, "-c", folder / "nginx.conf", "-e", folder / "error.log"]
+            ["nginx", "-p", folder, "-c", folder / "nginx.conf", "-e", folder / "error.log"], preexec_fn=few_files
         )
         atexit.register(self.process.terminate)
         self.wait()
@@ -91,6 +116,12 @@ class Nginx:
 
     def errors(self):
         return (self.folder / "error.log").read_text(encoding="utf-8")
+
+    def statuses(self):
+        """How many requests were answered by each status since this was called last."""
+        text = (self.folder / "access.log").read_text(encoding="utf-8")
+        seen, self.seen = self.seen, len(text)
+        return collections.Counter(map(int, text[seen:].split()))
 
     def stop(self):
         self.process.terminate()

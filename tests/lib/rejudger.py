@@ -7,7 +7,8 @@ from .import_opinion import compact
 AT_REJUDGINGS = "/jury/rejudgings"
 REASONS = ["data", "The checker of B", 'Łódź, 東京 and "\\"', "x" * 200, "é" * 100]
 WRONG_REASONS = ["", None, 7, ["data"], "x" * 201, "é" * 100 + "x", "two\nlines", "\x00", "\x7f", "\x85"]
-WRONG_IDS = [None, "s1-1", {}, [], [7], [None], [""], ["-"], ["s 1"], [["s1-1"]], ["s1-1", "s1-1"], ["s1-1", "?"],
+WRONG_IDS = [None, "s1-1", {}, [], [7], [None], [""], ["-"], ["s 1"], [["s1-1"]], ["s1-1", "s1-1"], ["s1-1", "?"], ["", ""],
+             ["s 1", "s 1"], ["s1-1", "S1-1"], ["é" * 40, "s1-1\n"],
              [f"s9-{n}" for n in range(501)]]  # fmt: skip
 BODIES = ["", "{", "[]", '"data"', "{}", '{"reason":"\\ud83d","submission_ids":["s1-1"]}', '{"submission_id":"s1-1"}',
           '{"reason":7,"reason":"d\\u00e9","submission_ids":[],"submission_ids":["s1-1"]}',

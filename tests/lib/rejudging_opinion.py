@@ -54,7 +54,8 @@ def read(body, **rights):
 
 
 def may_be_members(ids):
-    return isinstance(ids, list) and 1 <= len(ids) <= MEMBER_LIMIT and all(map(is_id, ids)) and len(set(ids)) == len(ids)
+    are_texts = isinstance(ids, list) and all(isinstance(it, str) for it in ids)
+    return are_texts and 1 <= len(ids) <= MEMBER_LIMIT and len(set(ids)) == len(ids)
 
 
 def open_one(contest, known, body):

@@ -15,14 +15,15 @@ def heed_interrupts():
 
 
 class Server:
-    """The program, which serves the contest in a folder. It ends with the script."""
+    """The program, which serves the contest in a folder, with these libraries before its own, and more in its environment. It
+    ends with the script."""
 
-    def __init__(self, desk, folder, requests=1_000_000, port="0"):
+    def __init__(self, desk, folder, requests=1_000_000, port="0", libraries=(), **env):
         self.clock = folder / "clock"
         self.at("2024-03-02 09:05:00")
         words = [desk.path, "serve", "cup.db", "--requests", str(requests), "--port", port]
         self.process = subprocess.Popen(
-            words, cwd=folder, env=clock.shown_by(self.clock), stdout=subprocess.PIPE, stderr=subprocess.PIPE,
+            words, cwd=folder, env={**clock.shown_by(self.clock, libraries), **env}, stdout=subprocess.PIPE, stderr=subprocess.PIPE,
             preexec_fn=heed_interrupts)  # fmt: skip
         atexit.register(self.process.kill)
         line = self.process.stdout.readline().decode()
@@ -40,14 +41,14 @@ class Server:
 
     def ask(self, data, ends=True):
         """What comes back for these bytes; the client says that no more comes, unless it waits for the reply first."""
-        with self.connected() as client:
-            try:
+        try:
+            with self.connected() as client:
                 client.sendall(data)
                 if ends:
                     client.shutdown(socket.SHUT_WR)
                 return read_all(client)
-            except OSError as error:
-                return f"the connection broke: {error}".encode()
+        except OSError as error:
+            return f"the connection broke: {error}".encode()
 
     def ended(self):
         """The status with which it ends."""

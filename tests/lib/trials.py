@@ -166,6 +166,9 @@ def commands(desk):
     bare = desk.copied(folder)
     asked(bare / "cup.db", "DELETE FROM cells")
     yield Trial(desk, "cells that are filled", bare, AT_TEN, command(desk, "board", "cup.db"), SAME)
+    celless = desk.copied(served(desk, ASKED))
+    asked(celless / "cup.db", "DROP TABLE cells")
+    yield Trial(desk, "a table of cells that is made anew", celless, AT_TEN, command(desk, "board", "cup.db"), SAME)
 
 
 def upgrades(desk):

@@ -1,7 +1,7 @@
 """What was refused over the same bytes isn't tried again.
 
 tests/wrong_bodies.digests has a line for each crate whose wrong bodies were all refused: its name, how many they were,
-and the digest of all that the verdict on them depends on.
+and the digest of all that the verdict on them depends on, what gives the verdict included.
 """
 
 import hashlib
@@ -10,6 +10,9 @@ import pathlib
 from . import kit
 
 PARTS = ("src", "specs", "proofs")
+# What judges: tests/wrong_bodies and what it is made of.
+TESTS = pathlib.Path(__file__).resolve().parent.parent
+JUDGES = (TESTS / "wrong_bodies", *TESTS.glob("rounds/*.py"))
 
 
 def line_of(root, crate):
@@ -26,8 +29,11 @@ def add_files(digest, folder, files):
 
 
 def digest_of(root, crate):
-    """The kit, the crate's wrong bodies, and the sources and crates.txt's lines of the crate and of those below it."""
+    """The kit, what judges, the handles that are allowed, the crate's wrong bodies, and the sources and crates.txt's lines of
+    the crate and of those below it."""
     digest = hashlib.sha256(f"{kit.identity()}\n".encode())
+    add_files(digest, TESTS, JUDGES)
+    add_files(digest, root, [root / "HANDLES"])
     folder = pathlib.Path(crate.folder)
     add_files(digest, folder, folder.glob("wrong-bodies/*.edit"))
     for it in sorted([crate, *crate.below()], key=lambda it: it.name):

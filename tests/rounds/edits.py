@@ -2,7 +2,8 @@
 
 An edit is a file crates/NAME/wrong-bodies/NAME.edit: a line `file: src/PATH`, and then pairs of lines `old: TEXT` and
 `new: TEXT`. Each old text stands once in that file, as the pairs before it left it, and inside the body of a function:
-an edit changes no signature, contract, type, constant, definition or proof.
+an edit changes no signature, contract, type, constant, definition or proof. A line `goal: NAME` may say which goal is
+the one that refuses it.
 """
 
 import collections
@@ -39,6 +40,7 @@ class Edit:
     name: str
     pairs: tuple
     stray: str = ""
+    goal: str = ""
 
     @property
     def label(self):
@@ -55,12 +57,14 @@ class Round:
 
 
 def read_edit(crate, file):
-    pairs, path, old, stray = [], None, None, ""
+    pairs, path, old, stray, goal = [], None, None, "", ""
     for line in file.read_text(encoding="utf-8").split("\n"):
         word, _, rest = line.partition(":")
         rest = rest.removeprefix(" ")
         if word == "file":
             path = rest.strip()
+        elif word == "goal":
+            goal = rest.strip()
         elif word == "old":
             old = rest
         elif word == "new" and path and old:
@@ -68,7 +72,14 @@ def read_edit(crate, file):
             old = None
         elif line.strip():
             stray = stray or line.strip()
-    return Edit(crate.name, file.stem, tuple(pairs), stray)
+    return Edit(crate.name, file.stem, tuple(pairs), stray, goal)
+
+
+def write_goal(crate, name, goal):
+    """Has an edit name the goal that refuses it, above its pairs."""
+    file = pathlib.Path(crate.folder, "wrong-bodies", f"{name}.edit")
+    lines = [it for it in file.read_text(encoding="utf-8").split("\n") if not it.startswith("goal:")]
+    file.write_text("\n".join([f"goal: {goal}", *lines]), encoding="utf-8")
 
 
 def edits_of(crate):
@@ -160,7 +171,7 @@ def place_of(crate, path, old):
 def places_of(crate, edit):
     """The functions whose bodies the edit changes."""
     if edit.stray:
-        raise BadEdit(f"a line of it is no 'file:', 'old:' or 'new:' of one line: {edit.stray[:60]}")
+        raise BadEdit(f"a line of it is no 'goal:', 'file:', 'old:' or 'new:' of one line: {edit.stray[:60]}")
     if not edit.pairs:
         raise BadEdit("it has no 'file:' with 'old:' and 'new:'")
     return {place_of(crate, path, old) for path, old, _ in edit.pairs}

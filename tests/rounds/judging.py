@@ -4,11 +4,16 @@ Why a round is as good as single tries: a function is proved from its own body a
 and an edit changes no contract. Should the check refuse a function for itself that no edit of the round touches, that
 is not so, and each edit of the round is tried alone. For the same reason only what is edited is checked, and what
 that calls; that the crate is proved as it stands is the gate's to say.
+
+A hand-written answer that names a goal which is gone refuses nothing: it only fits no more. Such an edit is tried once
+more without the answers of its function. Then the search alone has to do: the edit isn't refused if that proves it, is
+refused if a goal is shown to be false, and says nothing else.
 """
 
 import dataclasses
 import enum
 import os
+import pathlib
 import re
 
 from . import kit
@@ -28,6 +33,7 @@ FALSE = re.compile(r"(?m)^note: (\S+):(\d+):\d+: it is not proved .*\(`([^`]*)`\
 class Kind(enum.Enum):
     REFUSED = "refused"
     GONE = "refused only because an answer names a goal that is gone: mend the edit"
+    OTHER = "refused, but not by the goal that it names: mend the edit"
     PASSED = "NOT REFUSED"
     UNREADABLE = "NOT READABLE"
 
@@ -36,12 +42,14 @@ class Kind(enum.Enum):
 class Verdict:
     kind: Kind
     detail: str
+    goals: tuple = ()
 
     def __str__(self):
         return f"{self.kind.value}: {self.detail}" if self.detail else self.kind.value
 
 
 PROVED = Verdict(Kind.PASSED, "it is proved with it")
+PROVED_ANEW = Verdict(Kind.PASSED, "it is proved with it, without the answers that name a goal that is gone")
 
 
 @dataclasses.dataclass(frozen=True)
@@ -125,11 +133,12 @@ def names(crate, place, name):
 def refused(report, place, name):
     """What the check says of a function that it refuses for itself."""
     near, false_goals = report.near(name), report.false_in(place)
-    if near and all(GONE.search(it) for it in near) and not report.functions[name].startswith("no proof") and not false_goals:
-        return Verdict(Kind.GONE, f"{name}, {near[0][:160]}")
+    gone = next((it for it in near if GONE.search(it)), None)
+    if gone and not false_goals:
+        return Verdict(Kind.GONE, f"{name}, {gone[:160]}")
     said = "\n".join([report.functions[name], *[it for it in near if not GONE.search(it)]])
-    goals = [one or other for one, other in GOAL.findall(said)] + false_goals
-    return Verdict(Kind.REFUSED, f"{name}, `{goals[0]}`" if goals else f"{name}, {said[:160]}")
+    goals = tuple(false_goals if gone else [one or other for one, other in GOAL.findall(said)] + false_goals)
+    return Verdict(Kind.REFUSED, f"{name}, `{goals[0]}`" if goals else f"{name}, {said[:160]}", goals)
 
 
 def verdict_of(crate, report, places):
@@ -140,21 +149,48 @@ def verdict_of(crate, report, places):
         if not mine:
             return Verdict(Kind.PASSED, f"{place.path}, {place.function}")
         found += [refused(report, place, name) for name in mine]
-    return next((it for it in found if it.kind is Kind.GONE), found[0])
+    worst = next((it for it in found if it.kind is Kind.GONE), found[0])
+    return dataclasses.replace(worst, goals=tuple(goal for it in found for goal in it.goals))
 
 
-def try_alone(crate, edit, places, jobs, kept):
-    texts = applied(crate, edit, {})
+def compared(edit, verdict):
+    """The verdict, held to the goal that the edit names, if it names one."""
+    if verdict.kind is not Kind.REFUSED or not edit.goal or edit.goal in verdict.goals:
+        return verdict
+    return Verdict(Kind.OTHER, f"it names `{edit.goal}`; {verdict.detail}", verdict.goals)
+
+
+def without_answers(crate, report, places):
+    """Empty texts in the place of the hand-written answers of the functions that the check refuses for themselves."""
+    names_of_edit = [name for name in report.faulty() if any(names(crate, place, name) for place in places)]
+    paths = [f"proofs/{'/'.join(name.split('::')[1:])}/Answers.antt" for name in names_of_edit]
+    return {path: "" for path in paths if pathlib.Path(crate.folder, path).is_file()}
+
+
+def judged(crate, texts, places, jobs, kept):
+    """The verdict on one edit from a check of these texts, and the report."""
     status, said = checked(crate, texts, places, jobs, kept)
     report = Report.of(status, said)
     unread = next((it for it in said.split("\n") if kit.is_unread(it, texts)), None)
     if unread:
-        return Verdict(Kind.UNREADABLE, unread[:200])
+        return Verdict(Kind.UNREADABLE, unread[:200]), report
     if report.is_refusal:
-        return verdict_of(crate, report, places)
+        return verdict_of(crate, report, places), report
     if status == 0:
-        return PROVED
-    return Verdict(Kind.UNREADABLE, f"it came to no verdict: {(report.errors or [report.last])[0][:200]}")
+        return PROVED, report
+    return Verdict(Kind.UNREADABLE, f"it came to no verdict: {(report.errors or [report.last])[0][:200]}"), report
+
+
+def try_alone(crate, edit, places, jobs, kept):
+    texts = applied(crate, edit, {})
+    verdict, report = judged(crate, texts, places, jobs, kept)
+    if verdict.kind is not Kind.GONE:
+        return verdict
+    anew, said = judged(crate, {**texts, **without_answers(crate, report, places)}, places, jobs, kept)
+    if anew.kind is Kind.PASSED:
+        return PROVED_ANEW
+    refuted = tuple(goal for place in sorted(places) for goal in said.false_in(place))
+    return dataclasses.replace(anew, goals=refuted) if anew.kind is Kind.REFUSED and refuted else verdict
 
 
 def not_believed(crate, report, said, texts, places):
@@ -176,8 +212,8 @@ def try_round(crate, made: Round, places, jobs, kept):
     why = not_believed(crate, report, said, made.texts, made.places)
     verdicts = {}
     for edit in made.edits:
-        verdict = None if why else verdict_of(crate, report, places[edit])
+        verdict = None if why else compared(edit, verdict_of(crate, report, places[edit]))
         if verdict is None or verdict.kind is not Kind.REFUSED:
-            verdict = try_alone(crate, edit, places[edit], jobs, kept)
+            verdict = compared(edit, try_alone(crate, edit, places[edit], jobs, kept))
         verdicts[edit.label] = verdict
     return verdicts, why

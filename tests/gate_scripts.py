@@ -1,0 +1,58 @@
+#!/usr/bin/env -S python3 -B
+"""Holds the scripts that there are, those that tests/scripts.tsv has the test command run, and those of which tests/README.md
+says what they try, beside each other.
+
+    gate_scripts.py
+
+Each is in all three, its head names each option that it is run with, and the words of .ci/run are those of the table. Ends
+with the line 'N passed, N failed'.
+"""
+
+import re
+import sys
+
+from lib.program import ROOT, TESTS
+from lib.tally import Tally
+
+# The test command runs them itself: they need no program.
+GATE = {"tests/gate_scripts.py", "tests/gate_wrong_bodies.py", "tests/wrong_bodies"}
+BESIDE = {"examples/day/follow_guide.py"}
+
+
+def rows():
+    """The word and the command of each row of the table."""
+    lines = (TESTS / "scripts.tsv").read_text(encoding="utf-8").splitlines()
+    return [line.split("\t") for line in lines if not line.startswith("#")]
+
+
+def told():
+    """The scripts that the page names in the first column of its first table."""
+    table = (TESTS / "README.md").read_text(encoding="utf-8").split("\n\n")[2]
+    names = re.findall(r"(?m)^\| `([^`]+)`", table)
+    return {name.removeprefix("../") if name.startswith("../") else f"tests/{name}" for name in names}
+
+
+def try_names(tally):
+    there = {f"tests/{path.name}" for path in TESTS.iterdir() if path.is_file() and path.stat().st_mode & 0o111} | BESIDE
+    run = {command.split()[0] for _, command in rows()}
+    tally.same("scripts that the table doesn't run, or that aren't there", there ^ (run | GATE), set())
+    tally.same("scripts of which the page doesn't tell, or that aren't there", there ^ told(), set())
+
+
+def try_options(tally):
+    for _, command in rows():
+        name, *words = command.split()
+        head = (ROOT / name).read_text(encoding="utf-8")
+        for option in (word for word in words if word.startswith("--")):
+            tally.note(option in head, f"{name}: {option} stands nowhere in it")
+
+
+def try_words(tally):
+    asked = re.findall(r"scripts_of (\w+)", (ROOT / ".ci/run").read_text(encoding="utf-8"))
+    tally.same("words of the test command", asked, list(dict.fromkeys(word for word, _ in rows())))
+
+
+if __name__ == "__main__":
+    counts = Tally()
+    counts.run_parts((try_names, try_options, try_words))
+    sys.exit(counts.end())

@@ -1,0 +1,124 @@
+"""The pages of web/ before the demo contest, in a browser with a tab for each person."""
+
+import json
+import pathlib
+
+from . import demo
+from .browser import Browser, BrowserError
+from .nginx import Client, Nginx, free_port
+from .program import Program
+from .server import Server
+
+SIZES = {"wide": (1600, 900), "narrow": (390, 844)}
+KEPT = "return Object.entries(sessionStorage).map((one) => one.join(' '))"
+
+
+class Pages(Program):
+    """The program behind nginx, and a browser. The clock stands at a moment. Parts rest on each other: once one can't go on,
+    that is told and the rest isn't tried."""
+
+    FILES = demo.FILES
+    MOMENT = "2024-03-02 09:05:00"
+
+    def __init__(self, options, folder):
+        super().__init__(options, folder)
+        self.place, self.port = demo.made(self, self.FILES), free_port()
+        self.begin(self.MOMENT)
+        self.nginx = Nginx(self.new_folder(), {"demo": self.port})
+        self.browser = Browser(self.new_folder())
+        self.program_file = folder / "main.cpp"
+        self.program_file.write_text("int main() { /* é <b>bold</b> */ }\n", encoding="utf-8")
+
+    def run_parts(self, parts):
+        try:
+            super().run_parts(parts)
+        except BrowserError as error:
+            self.note(False, f"the pages can't go on: {error}")
+            self.shoot("failed")
+        finally:
+            self.browser.end()
+
+    def begin(self, moment):
+        """Starts the desk at a moment."""
+        self.server = Server(self, self.place, port=str(self.port))
+        self.at(moment)
+
+    def at(self, moment):
+        self.moment = moment
+        self.server.at(moment)
+
+    def page(self, who, name):
+        self.browser.look_at(who, f"https://127.0.0.1:{self.nginx.port}/demo/{name}.html")
+
+    def sees(self, what, css, text):
+        self.note(self.browser.shows(css, text), f"{what}: {css} shows {self.browser.text(css)!r}, wanted {text!r}")
+
+    def lacks(self, what, css):
+        self.note(self.browser.comes(lambda: self.browser.text(css) is None), f"{what}: {css} stays")
+
+    def shoot(self, name):
+        """Keeps pictures of the page that is looked at."""
+        if self.options.shots == pathlib.Path():
+            return
+        self.options.shots.mkdir(parents=True, exist_ok=True)
+        for kind, size in SIZES.items():
+            self.browser.shot(self.options.shots / f"{name}-{kind}.png", *size)
+
+    def sign_in(self, who, page, token):
+        self.page(who, page)
+        self.browser.type("#token", token)
+        self.browser.click("#sign-in button")
+
+    def sign_out(self):
+        self.browser.click("#sign-out")
+        is_out = self.browser.comes(lambda: self.browser.run("return !document.getElementById('sign-in').hidden"))
+        self.note(is_out, "signed out")
+
+    def kept(self):
+        """What the tab keeps, each as a name and its value."""
+        return self.browser.run(KEPT)
+
+    def is_signed_in(self, what):
+        is_in = self.browser.comes(lambda: self.browser.run("return !document.getElementById('inside').hidden"))
+        self.note(is_in, f"{what}: nobody is signed in")
+
+    def is_sure(self, what, question, answer="yes"):
+        """The page asks once more, and is answered."""
+        self.sees(what, "dialog", question)
+        if self.browser.text("dialog") is not None:
+            self.browser.click(f"dialog .{answer}")
+        self.lacks(what, "dialog")
+
+    def submits(self, problem, language="cpp", file=None):
+        self.browser.choose("#problem", problem)
+        self.browser.choose("#language", language)
+        self.browser.give_file("#file", file or self.program_file)
+        self.browser.click("#submit-button")
+
+    def looks_at(self, who, submission):
+        """A judge looks at a submission that waits."""
+        self.browser.look_at(who)
+        self.browser.click("#tab-Judging")
+        self.browser.click(f'[data-look="{submission}"]')
+        self.sees("the program", "#program", "int main() { /* é <b>bold</b> */ }")
+
+    def judges(self, who, submission, verdict, step):
+        """A judge's verdict on the page."""
+        self.looks_at(who, submission)
+        self.browser.choose("#verdict-type", verdict)
+        self.browser.click(f"#{step}")
+
+    def asks_desk(self, token, method, path, body=None):
+        """What somebody is answered who asks without a page, through nginx."""
+        client = Client(self.nginx.port, token)
+        try:
+            return client.ask(method, f"/demo/{path}", body)[2]
+        finally:
+            client.close()
+
+    def listed(self, path, token="token-j1"):
+        """What a judge is served, or another."""
+        return json.loads(self.asks_desk(token, "GET", path))
+
+    def posts(self, token, path, **value):
+        return json.loads(self.asks_desk(token, "POST", path, json.dumps(value)))
