@@ -7,7 +7,7 @@ what it prints.
 The commands are those of the blocks marked `console`, in their order, by one shell in a folder that holds the files
 of this folder; a line that begins with `>` goes on with the command above it. Blocks marked `sh` change the machine
 and aren't run. The clock of `desk` and `date` is set by faketime to the moments that comments in the guide name, as
-`<!-- clock 2027-05-08 09:00:00 -->`. The guide's port is replaced by a free one. A line of 32 hexadecimal digits
+`<!-- clock 2027-05-08 09:00:00 -->`. The guide's port is replaced by a free one. A token at the end of a line
 stands for any other. With --show all is printed.
 
 Takes faketime, curl, jq, openssl and sqlite3. Ends with the line `N passed, M failed`; the exit status is 0 if M is 0.
@@ -28,6 +28,7 @@ from lib.nginx import free_port
 from lib.program import Program
 
 PORT, MARK = "8081", "=end of a command="
+TOKEN = r"(?m)(?:^|(?<=\|))[a-km-np-z2-9]{12}$"
 PIECES = re.compile(r"^<!-- clock (?P<clock>[-0-9: .]+) -->$|^```console\n(?P<block>.*?)^```$", re.M | re.S)
 SET = """#!/bin/sh
 exec env TZ=UTC LD_PRELOAD={library} FAKETIME_NO_CACHE=1 FAKETIME_TIMESTAMP_FILE={folder}/clock {program} "$@"
@@ -48,8 +49,8 @@ def commands_in(block):
 
 
 def is_as_told(given, told):
-    pattern = r"[0-9a-f]{32}".join(map(re.escape, re.split(r"\b[0-9a-f]{32}\b", told)))
-    return re.fullmatch(pattern, given) is not None
+    """Whether what is printed is what the guide says, but for tokens, each of which is a line or the end of one."""
+    return re.sub(TOKEN, "TOKEN", given) == re.sub(TOKEN, "TOKEN", told)
 
 
 class Guide(Program):
