@@ -62,7 +62,9 @@ impl Patience {
     }
 
     /// Whether the stream has another timeout.
-    pub(crate) fn is_new(&self, timeout: Duration) -> bool {
+    pub(crate) fn is_new(&self, timeout: Duration) -> bool
+        ensures { (result ≡ true) ↔ (self.now.timeout ≢ timeout) }
+    {
         self.timeout != timeout
     }
 

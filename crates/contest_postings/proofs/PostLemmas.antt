@@ -3,7 +3,7 @@ use Rattle.std.proofs.Common.{◌≡◌, ◌∙◌, ◌+◌, ℕ, List, true, re
 use Rattle.std.proofs.lemmas.Bool.{eq-eqb}
 use Rattle.std.specs.Prelude.{◌==◌, Bool, Option, None, if◌then◌else◌}
 use Rattle.serde_json.specs.Data.{Data}
-use Rattle.contest_types.specs.Sight.{Program, program_for}
+use Rattle.contest_types.specs.Sight.{Program, program_for, program_of}
 use Rattle.contest_types.specs.State.{FixedPart}
 use Rattle.contest_types.specs.declared.audience.Audience.TheVariants as audience
 use Rattle.contest_types.specs.declared.submission.Submission.{Submission}
@@ -11,7 +11,7 @@ use Rattle.contest_objects.specs.Objects.{submission_data}
 use Rattle.contest_postings.specs.PostSubmission.{own_submission}
 
 shown : Submission → List ℕ → Bool → Option Program
-shown s file b = if b then Some (record { file = file; entry_point = s.entry_point }) else None
+shown s file b = if b then Some (program_of (record s { file = file })) else None
 
 -- who submitted is shown the program, as the jury is
 pub own_as_jury : (f : FixedPart) (s : Submission) → submission_data f s.team s.number s.time s.problem s.language (program_for audience.Jury s) ≡ own_submission f s

@@ -19,7 +19,7 @@ use Rattle.contest_store_tables.specs.declared.table_name.TableName.TheVariants.
 use Rattle.contest_store_fixed_rows.proofs.OptionSteps.{bound, where_true}
 use Rattle.contest_store_changes.specs.ContestTables.{if_scored, if_valid, listed_in, loaded_tables, rows_with, same_rows, valid_listed_in, with_files}
 use Rattle.contest_store_changes.specs.Kinds.{AreOfKinds, IsOfKindsSubmission}
-use Rattle.contest_store_changes.specs.Laws.{IsWide, ListedContestsAreSound, ValidContestsAreSound}
+use Rattle.contest_store_changes.specs.Laws.{IsWide, ListedContestsAreSound, RowsAreTheirContests, ValidContestsAreSound}
 use Rattle.contest_store_changes.specs.Sound.{IsSound}
 use Rattle.contest_store_changes.proofs.AccountsRise.{stand_by_id}
 use Rattle.contest_store_changes.proofs.CellsRead.{one_list}
@@ -37,7 +37,7 @@ rows_are rows y wide are =
     same_tables _ rows (sym are.fixed.desk) (sym are.fixed.contest) (sym are.fixed.items) (sym are.fixed.accounts) (filed_rows y.fixed.settings 1 y.submissions (rows Submissions) wide are.submissions)
     (sym are.proposals) (sym are.releases) (sym are.rejudgings) (sym are.members) (none_mapped (loaded_row Clarifications) (rows Clarifications) are.clarifications.0) refl (sym are.clarifications.1)
 
-pub listed_rows : (rows : TableRows) (x : ContestState) → AllByRecursion (IsWide Submissions) (rows Submissions) → listed_in rows ≡ Some x → rows_with (rows Cells) x ≡ rows
+pub listed_rows : RowsAreTheirContests
 listed_rows rows x wide is =
     let m = made (with_files (rows Submissions)) (lists_in (loaded_tables rows)) x is in
     subst (λ y. rows_with (rows Cells) y ≡ rows) m.whole (rows_are rows m.x wide (contests_write_back VERSION (loaded_tables rows) m.x m.first_is))

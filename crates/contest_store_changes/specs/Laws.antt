@@ -37,7 +37,7 @@ use Rattle.contest_store_tables.specs.Tables.{TableRows}
 use Rattle.contest_store_tables.specs.declared.row_change.RowChange.TheVariants as change
 use Rattle.contest_store_tables.specs.declared.table_name.TableName.{TableName}
 use Rattle.contest_store_tables.specs.declared.table_name.TableName.TheVariants.{Items, Accounts, Submissions, Proposals, Releases, Rejudgings, Members, Cells, Notices}
-use Rattle.contest_store_changes.specs.ContestTables.{rows_with, table_rows, valid_contest_in, valid_listed_in}
+use Rattle.contest_store_changes.specs.ContestTables.{listed_in, rows_with, table_rows, valid_contest_in, valid_listed_in}
 use Rattle.contest_store_changes.specs.Kinds.{AreOfKinds, IsOfKinds}
 use Rattle.contest_store_changes.specs.OneRow.{IsOneRow, IsOneChange}
 use Rattle.contest_store_changes.specs.Sound.{IsSound}
@@ -54,8 +54,13 @@ SoundContestsReadBack = (x : ContestState) → IsSound x → valid_contest_in (t
 abbrev pub IsWide : TableName → Row → Type 0
 IsWide name row = length row ≡ length (form_of name).columns
 
--- a valid contest of their kinds whose lists rows are is sound, and these are its rows, whatever the cells: a load shows no cell of a
--- submission's row beyond those of its columns, so it has to have none
+-- the rows that a contest is read of are its own, whatever the cells: a load shows no cell of a submission's row beyond those of its
+-- columns, so it has to have none
+abbrev pub RowsAreTheirContests : Type 0
+RowsAreTheirContests =
+    (rows : TableRows) (x : ContestState) → AllByRecursion (IsWide Submissions) (rows Submissions) → listed_in rows ≡ Some x → rows_with (rows Cells) x ≡ rows
+
+-- a valid contest of their kinds whose lists rows are is sound, and these are its rows, whatever the cells
 abbrev pub ListedContestsAreSound : Type 0
 ListedContestsAreSound =
     (rows : TableRows) (x : ContestState) → Rises Accounts (rows Accounts) → AllByRecursion (IsWide Submissions) (rows Submissions) → AreOfKinds x → valid_listed_in rows ≡ Some x →

@@ -2,7 +2,7 @@
 ghost use Rattle.contest_store_changes.specs.Upgraded.{FirstContestsAreSound, FirstRowsAreUpgraded};
 ghost use Rattle.contest_store_changes.specs.Upgraded.{FirstRowsReadBack};
 ghost use Rattle.contest_store_changes.specs.Laws.{AdditionsStaySound, SoundContestsReadBack};
-ghost use Rattle.contest_store_changes.specs.Laws.{ListedContestsAreSound, ValidContestsAreSound};
+ghost use Rattle.contest_store_changes.specs.Laws.{ListedContestsAreSound, RowsAreTheirContests, ValidContestsAreSound};
 ghost use Rattle.contest_store_changes.specs.Laws.{SubmissionIsAdded, ProposalIsAdded};
 ghost use Rattle.contest_store_changes.specs.Laws.{ReleaseIsAdded, ClarificationIsAdded};
 ghost use Rattle.contest_store_changes.specs.Laws.{RejudgingIsAdded, MemberIsAdded, AccountIsAdded};
@@ -20,9 +20,10 @@ pub fn sound_contests_are_read()
     ensures { SoundContestsReadBack }
 {}
 
-/// A valid contest that rows are is sound, and these are its rows; where only its lists are, the
-/// cells may be any.
+/// A valid contest that rows are is sound, and these are its rows; if only its lists are, the
+/// cells may be any. The rows of any contest that is read are its own.
 pub fn valid_contests_are_sound()
+    ensures rows { RowsAreTheirContests }
     ensures whole { ValidContestsAreSound }
     ensures listed { ListedContestsAreSound }
 {}

@@ -13,7 +13,7 @@ use Rattle.contest_types.specs.Order.{Has, IsInOrder}
 use Rattle.contest_types.specs.Loads.{without_file}
 use Rattle.contest_types.specs.Masks.{audience_at, knows_all_of}
 use Rattle.contest_types.specs.State.{ContestState, submissions_of}
-use Rattle.contest_types.specs.Sight.{Program, SeenSubmission, seen_submission, seen_submissions, hears}
+use Rattle.contest_types.specs.Sight.{SeenSubmission, program_of, seen_submission, seen_submissions, hears}
 use Rattle.contest_types.specs.Valid.{is_valid}
 use Rattle.contest_types.specs.ValidSubmissions.{is_valid_submission, of_one_team, are_valid_submissions}
 use Rattle.contest_types.specs.SightLaws.{is_earlier}
@@ -44,14 +44,13 @@ they_know a team h = elim h [
 pub know_all : (a : Audience) (team : ℕ) → (knows_all_of a team ≡ true) ↔ ((a ≡ audience.Jury) ⊎ (a ≡ audience_at team))
 know_all a team = (who_knows a team, they_know a team)
 
-pub program_shown : (a : Audience) (now : ℕ) (x : ContestState) (s : Submission) → (seen_submission a now x s).program ≡ (if knows_all_of a s.team then Some (record { file = s.file; entry_point = s.entry_point }) else None)
+pub program_shown : (a : Audience) (now : ℕ) (x : ContestState) (s : Submission) → (seen_submission a now x s).program ≡ (if knows_all_of a s.team then Some (program_of s) else None)
 program_shown a now x s = refl
 
 pub program_listed : (a : Audience) (now : ℕ) (x : ContestState) (v : SeenSubmission) → Has (seen_submissions a now x) v → is_some v.program ≡ knows_all_of a v.team
 program_listed a now x v h =
     let i = listed_seen a now x v h in
-    let p : Program = record { file = i.submission.file; entry_point = i.submission.entry_point } in
-    let go : (b : Bool) → is_some (if b then Some p else None) ≡ b = elim [ true ↦ refl | false ↦ refl ] in
+    let go : (b : Bool) → is_some (if b then Some (program_of i.submission) else None) ≡ b = elim [ true ↦ refl | false ↦ refl ] in
     ap (λ w. is_some w.program) i.shown ∙ (go (knows_all_of a i.submission.team) ∙ ap (λ w. knows_all_of a w.team) (sym i.shown))
 
 pub asked_heard : (a : Audience) (s : Setup) (team : ℕ) → hears a s (addressee.Team team) ≡ knows_all_of a team

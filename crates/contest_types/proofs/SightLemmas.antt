@@ -10,7 +10,7 @@ use Rattle.contest_types.specs.TeamPlaces.{team_places, is_public}
 use Rattle.contest_types.specs.Clock.{is_frozen, is_thawed}
 use Rattle.contest_types.specs.Masks.{is_jury, owns}
 use Rattle.contest_types.specs.State.{FixedPart, ContestState, submissions_of, same_addressee, clarifications_to}
-use Rattle.contest_types.specs.Sight.{SeenSubmission, judgements_on, seen_submission, seen_of_team, submission_cmp, seen_submissions, SeenClarification, seen_clarification, heard_of, clarification_cmp, addressees, seen_clarifications, hears}
+use Rattle.contest_types.specs.Sight.{SeenSubmission, judgements_on, program_of, seen_submission, seen_of_team, submission_cmp, seen_submissions, SeenClarification, seen_clarification, heard_of, clarification_cmp, addressees, seen_clarifications, hears}
 use Rattle.contest_types.specs.Alike.{OwnRecord, OpenRecord, OpenClarification, own_record, open_record, open_clarification, TeamSight, Whole, Open, Nothing, sight_of, told_of, Alike, MayBeHeld}
 use Rattle.contest_types.specs.declared.audience.Audience.{Audience}
 use Rattle.contest_types.specs.declared.audience.Audience.TheVariants as audience
@@ -45,7 +45,7 @@ from_own r = record {
   time = r.submission.time;
   problem = r.submission.problem;
   language = r.submission.language;
-  program = Some (record { file = r.submission.file; entry_point = r.submission.entry_point });
+  program = Some (program_of r.submission);
   judgement = last_or None r.judgements;
 }
 

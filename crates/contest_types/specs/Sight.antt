@@ -82,8 +82,11 @@ pub record SeenSubmission : Type 0 where
   pub program : Option Program
   pub judgement : Option Judgement
 
+abbrev pub program_of : Submission → Program
+program_of s = record { file = s.file; entry_point = s.entry_point }
+
 abbrev pub program_for : Audience → Submission → Option Program
-program_for a s = if knows_all_of a s.team then Some (record { file = s.file; entry_point = s.entry_point }) else None
+program_for a s = if knows_all_of a s.team then Some (program_of s) else None
 
 abbrev pub seen_submission : Audience → ℕ → ContestState → Submission → SeenSubmission
 seen_submission a now x s = record {

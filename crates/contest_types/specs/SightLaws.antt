@@ -8,7 +8,7 @@ use Rattle.contest_types.specs.Order.{Has, IsInOrder}
 use Rattle.contest_types.specs.Clock.{freeze_of, is_thawed}
 use Rattle.contest_types.specs.Masks.{audience_at, knows_all_of}
 use Rattle.contest_types.specs.State.{ContestState, submissions_of, Entry, NewSubmission, NewProposal, NewRelease, NewClarification, NewRejudging, SetMember, SetRejudging, SetStart, SetThaw, NewGroup, NewTeam, add, add_all}
-use Rattle.contest_types.specs.Sight.{Judgement, sees_submission, sees_clarification, hears, last_judgement, seen_judgement, full_verdict, held_verdict, seen_verdict, SeenSubmission, seen_submission, seen_submissions, seen_clarifications}
+use Rattle.contest_types.specs.Sight.{Judgement, sees_submission, sees_clarification, hears, last_judgement, seen_judgement, full_verdict, held_verdict, seen_verdict, SeenSubmission, seen_submission, seen_submissions, seen_clarifications, program_of}
 use Rattle.contest_types.specs.Judging.{SeenJudgement, judged, seen_judgements}
 use Rattle.contest_types.specs.Alike.{Alike, MayBeHeld}
 use Rattle.contest_types.specs.Valid.{is_valid}
@@ -123,8 +123,8 @@ TeamAndJuryKnowAll = (a : Audience) (team : ℕ) → (knows_all_of a team ≡ tr
 -- a program is shown to those who know all of its team, at any moment, thawed or not
 abbrev pub ProgramIsForItsTeam : Type 0
 ProgramIsForItsTeam =
-    (a : Audience) (now : ℕ) (x : ContestState) (s : Submission) → (seen_submission a now x s).program
-    ≡ (if knows_all_of a s.team then Some (record { file = s.file; entry_point = s.entry_point }) else None)
+    (a : Audience) (now : ℕ) (x : ContestState) (s : Submission)
+    → (seen_submission a now x s).program ≡ (if knows_all_of a s.team then Some (program_of s) else None)
 
 -- of what is listed, just the submissions of teams of which all is known have a program
 abbrev pub ListedProgramIsForItsTeam : Type 0

@@ -1,5 +1,9 @@
 //! Submissions and the verdicts that were released on them.
+ghost use Rattle.std.specs.Prelude.{◌≡◌};
+ghost use Rattle.contest_types.specs.PlainRows.{plain_submission};
+
 use crate::{Id, Moment, Name, Rows};
+use std::alloc::Global;
 
 /// A submission. Teams, problems and languages are named by their places in the settings, from 0.
 #[derive(Drop)]
@@ -20,6 +24,31 @@ pub struct Submission {
     pub file: Rows<u8>,
     /// The idempotency key that it was posted with, if any.
     pub key: Option<Id>,
+}
+
+impl Submission {
+    /// A submission of no bytes, which says no entry point and was posted without a key.
+    pub fn new(
+        alloc: Global,
+        team: usize,
+        number: usize,
+        time: Moment,
+        problem: usize,
+        language: usize,
+    ) -> Submission
+        ensures { result ≡ plain_submission team number time problem language }
+    {
+        Submission {
+            team,
+            number,
+            time,
+            problem,
+            language,
+            entry_point: None,
+            file: Rows::new(alloc),
+            key: None,
+        }
+    }
 }
 
 /// A verdict that was released on a submission. The last one counts.

@@ -6,7 +6,7 @@ use Rattle.std.proofs.lemmas.Bool.{eq-eqb, eqb-true}
 use Rattle.contest_types.specs.Loads.{without_file, file_of}
 use Rattle.contest_types.specs.Masks.{knows_all_of}
 use Rattle.contest_types.specs.Order.{Has}
-use Rattle.contest_types.specs.Sight.{Program, seen_submission, seen_submissions, sees_submission}
+use Rattle.contest_types.specs.Sight.{Program, program_of, seen_submission, seen_submissions, sees_submission}
 use Rattle.contest_types.specs.State.{ContestState}
 use Rattle.contest_types.specs.TeamPlaces.{is_public}
 use Rattle.contest_types.specs.Valid.{is_valid}
@@ -28,7 +28,7 @@ files_alike a now x y id held alike = ap (λ vs. option_and_then shown_file (fin
 -- its program is shown to those who know all of the team
 pub shown_of : (a : Audience) (now : ℕ) (x : ContestState) (s : Submission) → shown_file (seen_submission a now x s) ≡ (if knows_all_of a s.team then Some s.file else None)
 shown_of a now x s =
-    let go : (b : Bool) → option_map (λ (p : Program). p.file) (if b then Some (record { file = s.file; entry_point = s.entry_point }) else None) ≡ (if b then Some s.file else None) =
+    let go : (b : Bool) → option_map (λ (p : Program). p.file) (if b then Some (program_of s) else None) ≡ (if b then Some s.file else None) =
     elim [ true ↦ refl | false ↦ refl ] in
     go (knows_all_of a s.team)
 

@@ -9,7 +9,7 @@ use Rattle.serde_json.specs.Data.{Data}
 use Rattle.contest_types.specs.Loads.{without_file, loaded_submissions}
 use Rattle.contest_types.specs.Masks.{knows_all_of}
 use Rattle.contest_types.specs.Order.{Has}
-use Rattle.contest_types.specs.Sight.{Program, SeenSubmission, program_for, seen_submission, seen_submissions, sees_team}
+use Rattle.contest_types.specs.Sight.{Program, SeenSubmission, program_for, program_of, seen_submission, seen_submissions, sees_team}
 use Rattle.contest_types.specs.State.{ContestState, FixedPart}
 use Rattle.contest_types.specs.Valid.{is_valid}
 use Rattle.contest_types.specs.VisibleIds.{submission_id}
@@ -28,7 +28,7 @@ use Rattle.contest_view.proofs.SeenOrder.{HaveOwnIds, ServesSeen, array_is, foun
 same_object : (f : FixedPart) (a : Audience) (s : Submission)
     → submission_data f s.team s.number s.time s.problem s.language (program_for a (without_file s)) ≡ submission_data f s.team s.number s.time s.problem s.language (program_for a s)
 same_object f a s =
-    let program : List ℕ → Program = λ file. record { file = file; entry_point = s.entry_point } in
+    let program : List ℕ → Program = λ file. program_of (record s { file = file }) in
     let go : (b : Bool) → submission_data f s.team s.number s.time s.problem s.language (if b then Some (program []) else None) ≡ submission_data f s.team s.number s.time s.problem s.language (if b then Some (program s.file) else None) = elim [ true ↦ refl | false ↦ refl ] in
     go (knows_all_of a s.team)
 

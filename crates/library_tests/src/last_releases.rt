@@ -92,16 +92,8 @@ static CASES: [Case; 4] = [
 fn sent(alloc: Global) -> Result<Vec<Submission>, Fail> {
     let mut submissions = Vec::new(alloc);
     for (team, number, milliseconds) in &SENT {
-        submissions.push(Submission {
-            team: *team,
-            number: *number,
-            time: after(*milliseconds)?,
-            problem: 0,
-            language: 0,
-            entry_point: None,
-            file: Rows::new(alloc),
-            key: None,
-        })?;
+        let time = after(*milliseconds)?;
+        submissions.push(Submission::new(alloc, *team, *number, time, 0, 0))?;
     }
     Ok(submissions)
 }

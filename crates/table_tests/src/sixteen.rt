@@ -50,16 +50,10 @@ fn account(alloc: Global, own_id: &str, role: Role, byte: u8) -> Result<Account,
 }
 
 fn submission(alloc: Global) -> Result<Submission, Fail> {
-    Ok(Submission {
-        team: 0,
-        number: 1,
-        time: after(1)?,
-        problem: 0,
-        language: 0,
-        entry_point: None,
-        file: only(alloc, 65)?,
-        key: Some(id(alloc, "key")?),
-    })
+    let mut submission = Submission::new(alloc, 0, 1, after(1)?, 0, 0);
+    submission.file = only(alloc, 65)?;
+    submission.key = Some(id(alloc, "key")?);
+    Ok(submission)
 }
 
 fn proposal(alloc: Global) -> Result<Proposal, Fail> {
