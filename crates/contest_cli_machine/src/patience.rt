@@ -63,7 +63,7 @@ impl Patience {
 
     /// Whether the stream has another timeout.
     pub(crate) fn is_new(&self, timeout: Duration) -> bool
-        ensures { (result ≡ true) ↔ (self.now.timeout ≢ timeout) }
+        ensures { IsTrue result ↔ (self.now.timeout ≢ timeout) }
     {
         self.timeout != timeout
     }
