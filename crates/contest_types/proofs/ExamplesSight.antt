@@ -8,7 +8,7 @@ use Rattle.contest_types.specs.Setup.{Setup}
 use Rattle.contest_types.specs.Masks.{is_audience}
 use Rattle.contest_types.specs.VisibleIds.{judgement_id, clarification_id}
 use Rattle.contest_types.specs.Judging.{SeenJudgement, seen_judgements, Proposed, open_proposals}
-use Rattle.contest_types.specs.Sight.{Program, SeenSubmission, SeenClarification, Judgement, seen_submissions, seen_clarifications, full_verdict, held_verdict, seen_verdict, sees_team}
+use Rattle.contest_types.specs.Sight.{Program, SeenSubmission, SeenClarification, Judgement, seen_submissions, seen_clarifications, full_verdict, held_verdict, seen_verdict, sees_team, program_of}
 use Rattle.contest_types.specs.declared.audience.Audience.{Audience}
 use Rattle.contest_types.specs.declared.audience.Audience.TheVariants as audience
 use Rattle.contest_types.specs.declared.audience.Phase.TheVariants as phase
@@ -158,7 +158,7 @@ abbrev programs_seen : Audience → List (Option Program)
 programs_seen a = map (λ (s : SeenSubmission). s.program) (seen_submissions a (hours 9) (thawed_at with_program (hours 5)))
 
 abbrev its_program : Option Program
-its_program = Some (record { file = 80 ∷ 75 ∷ []; entry_point = Some (codes "Main") })
+its_program = Some (record (program_of (submitted 1 1 (minutes 5) 0)) { file = 80 ∷ 75 ∷ []; entry_point = Some (codes "Main") })
 
 shown_to_owner : programs_seen (audience.Team 2) ≡ its_program ∷ []
 shown_to_owner = refl
