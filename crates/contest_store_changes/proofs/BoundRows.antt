@@ -1,5 +1,5 @@
 -- Rows without real numbers are bound as they are lent.
-use Rattle.std.proofs.Common.{◌≡◌, ◌∙◌, ℕ, Bool, List, [], ◌∷◌, map, Option, None, Some, refl, ap}
+use Rattle.std.proofs.Common.{◌≡◌, ◌∙◌, ℕ, Bool, List, [], ◌∷◌, map, Option, None, Some, refl, ap, rules}
 use Rattle.std.specs.Option.{option_map}
 use Rattle.sqlite.specs.Values.{bound, bound_value, or_null}
 use Rattle.sqlite_value.specs.Order.{Row}
@@ -51,7 +51,7 @@ moment (Some n) = refl
 
 -- the rows of each list
 pub submission_unreal : (s : Setup) (n : ℕ) (x : Submission) → Unreal (submission_row s n x)
-submission_unreal s n x = rw (text x.entry_point, text x.key) refl
+submission_unreal s n x = search (rules, text)
 
 pub proposal_unreal : (s : Setup) (n : ℕ) (p : Proposal) → Unreal (proposal_row s n p)
 proposal_unreal s n p = refl

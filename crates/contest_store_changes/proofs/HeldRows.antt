@@ -1,5 +1,5 @@
 -- Every row that a contest writes is held by its table as it is given.
-use Rattle.std.proofs.Common.{◌≡◌, ℕ, Bool, true, List, ◌∙◌, refl, ap}
+use Rattle.std.proofs.Common.{◌≡◌, ℕ, Bool, true, List, ◌∙◌, refl, ap, rules}
 use Rattle.std.specs.Option.{option_map}
 use Rattle.sqlite.specs.Rowids.TheVariants.{Chosen}
 use Rattle.sqlite_rules.specs.Edit.{with_rowid}
@@ -31,7 +31,7 @@ abbrev pub Fits : Table → Row → Type 0
 Fits t row = row_fits t (put_for t row) ≡ true
 
 submission_fits : (s : Setup) (n : ℕ) (x : Submission) → Fits (form_of Submissions) (submission_row s n x)
-submission_fits s n x = rw (fits_text x.entry_point, fits_text x.key) refl
+submission_fits s n x = search (rules, fits_text)
 
 proposal_fits : (s : Setup) (n : ℕ) (p : Proposal) → Fits (form_of Proposals) (proposal_row s n p)
 proposal_fits s n p = refl

@@ -1,5 +1,5 @@
 -- A valid contest that rows are is sound, and these are its rows.
-use Rattle.std.proofs.Common.{◌≡◌, true, List, [], ◌∷◌, map, Some, refl, sym, subst}
+use Rattle.std.proofs.Common.{◌≡◌, true, List, [], ◌∷◌, map, Some, refl, sym, subst, rules}
 use Rattle.std.specs.List.{AllByRecursion}
 use Rattle.contest_lists.specs.Lists.{loaded}
 use Rattle.contest_types.specs.Loads.{without_file}
@@ -65,7 +65,7 @@ valid_sound rows x up wide kinds is =
 -- a file has no kind
 unloaded : (xs : List Submission) → AllByRecursion IsOfKindsSubmission (map without_file xs) → AllByRecursion IsOfKindsSubmission xs
 unloaded [] all = tt
-unloaded (x ∷ xs) all = (record { entry_point = all.0.entry_point; key = all.0.key; time = all.0.time }, unloaded xs all.1)
+unloaded (x ∷ xs) all = (let own = all.0 in search (rules, own), unloaded xs all.1)
 
 pub loaded_kinds : (x : ContestState) → AreOfKinds (loaded x) → AreOfKinds x
 loaded_kinds x w =

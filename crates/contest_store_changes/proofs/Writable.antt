@@ -1,5 +1,5 @@
 -- What is written of a sound contest can be read back: its rows are of their kinds, and what they refer to is there.
-use Rattle.std.proofs.Common.{◌≡◌, ◌∙◌, ℕ, ◌<◌, Bool, true, false, List, [], ◌∷◌, length, Option, None, Some, refl, sym, ap}
+use Rattle.std.proofs.Common.{◌≡◌, ◌∙◌, ℕ, ◌<◌, ◌≤◌, Bool, true, false, List, [], ◌∷◌, length, Option, None, Some, refl, sym, ap, rules}
 use Rattle.std.specs.Prelude.{IfSome, nat_lt, is_some, if◌then◌else◌, codes}
 use Rattle.std.specs.List.{AllByRecursion, list_all}
 use Rattle.std.specs.Option.{option_map_or}
@@ -16,6 +16,7 @@ use Rattle.contest_types.specs.Setup.{Setup}
 use Rattle.contest_types.specs.declared.account.Account.{Account}
 use Rattle.contest_types.specs.declared.clarification.Clarification.{Clarification}
 use Rattle.contest_types.specs.declared.clarification.Reference.{Reference}
+use Rattle.contest_types.specs.declared.limits.TheConstants.{POSTED_FILE}
 use Rattle.contest_types.specs.declared.proposal.Proposal.{Proposal}
 use Rattle.contest_types.specs.declared.proposal.Proposer.{Proposer}
 use Rattle.contest_types.specs.declared.proposal.Proposer.TheVariants as proposer
@@ -47,14 +48,10 @@ submission_writable : (f : FixedPart) (x : Submission) → IsOfKindsSubmission x
 submission_writable f x w v =
     let v5 = and_left _ _ v in
     let v3 = and_left _ _ (and_left _ _ v5) in
-    record {
-      problem = ltb-true _ _ (and_right _ _ (and_left _ _ v3));
-      language = ltb-true _ _ (and_right _ _ v3);
-      entry_point = w.entry_point;
-      key = w.key;
-      time = w.time;
-      file = leb-true _ _ (and_right _ _ v);
-    }
+    let problem : x.problem < length f.settings.problems = ltb-true _ _ (and_right _ _ (and_left _ _ v3)) in
+    let language : x.language < length f.settings.languages = ltb-true _ _ (and_right _ _ v3) in
+    let file : length x.file ≤ POSTED_FILE = leb-true _ _ (and_right _ _ v) in
+    search (rules, w, problem, language, file)
 
 -- nobody who is named is called `import`
 not_import : (s : Setup) (accounts : List Account) (id : List ℕ) → list_all (is_valid_account s) accounts ≡ true → is_some (account_named accounts id) ≡ true → bytes_eq id (codes "import") ≡ false
@@ -88,14 +85,10 @@ problem_below (Some p) n v = ltb-true p n v
 
 clarification_writable : (x : ContestState) → ((reply : Option Reference) → option_map_or (has_clarification x) reply true ≡ true → IfSome reply IsWritableReference)
     → (c : Clarification) → IsOfKindsClarification c → is_valid_clarification x c ≡ true → IsWritableClarification x.fixed.settings c
-clarification_writable x small c w v = record {
-  account = w.account;
-  problem = problem_below c.problem (length x.fixed.settings.problems) (and_right _ _ (and_left _ _ (and_left _ _ v)));
-  reply = small c.reply (and_right _ _ (and_left _ _ v));
-  text = w.text;
-  time = w.time;
-  key = w.key;
-}
+clarification_writable x small c w v =
+    let problem : IfSome c.problem (λ p. p < length x.fixed.settings.problems) = problem_below _ _ (and_right _ _ (and_left _ _ (and_left _ _ v))) in
+    let reply : IfSome c.reply IsWritableReference = small c.reply (and_right _ _ (and_left _ _ v)) in
+    search (rules, w, problem, reply)
 
 state_writable : (f : FixedPart) (state : MemberState) → HasIdIfAny state → is_valid_state f state ≡ true → IsWritableState f.settings state
 state_writable f member.Empty w v = tt

@@ -5,12 +5,14 @@ ghost use Rattle.contest_store_changes.specs.Additions.{Appends};
 use crate::list_rows::{insert_clarification, insert_proposal, insert_release, insert_submission};
 use crate::mark_rows::{set_finalized, set_start, set_thaw};
 use crate::rejudging_rows::{insert_rejudging, set_member, set_rejudging};
-use crate::setting_rows::{
-    insert_account, insert_group, insert_language, insert_problem, insert_team, insert_type,
-};
+use crate::one_row::insert_row;
+use crate::team_row::insert_team;
 use contest_lists::Lists;
 use contest_store::StoreError;
-use contest_store_tables::Tables;
+use contest_store_fixed_rows::{
+    account_cells, group_cells, language_cells, problem_cells, type_cells,
+};
+use contest_store_tables::{TableName, Tables};
 use contest_types::Entry;
 use sqlite::Alter;
 use std::alloc::Global;
@@ -30,6 +32,7 @@ pub fn write_entry<S: Alter>(
 ) -> Result<(), StoreError>
     ensures { Appends result (shown_by S.Store tables.old) (shown_by S.Store tables.new) (counts_of tables.old) (counts_of tables.new) lists.now entry.now }
 {
+    let settings = &lists.fixed().settings;
     match entry {
         Entry::NewSubmission(row) => insert_submission(tables, lists, row),
         Entry::NewProposal(row) => insert_proposal(tables, lists, row),
@@ -41,11 +44,25 @@ pub fn write_entry<S: Alter>(
         Entry::SetStart(start) => set_start(tables, lists, *start),
         Entry::SetThaw(thaw) => set_thaw(tables, lists, *thaw),
         Entry::SetFinalized(finalized) => set_finalized(tables, lists, *finalized),
-        Entry::NewType(row) => insert_type(tables, lists, row),
-        Entry::NewLanguage(row) => insert_language(tables, lists, row),
-        Entry::NewProblem(row) => insert_problem(tables, lists, row),
-        Entry::NewGroup(row) => insert_group(tables, lists, row),
+        Entry::NewType(row) => {
+            let number = settings.judgement_types().len() as u64 + 1;
+            insert_row(tables, TableName::Items, &type_cells(number, row))
+        }
+        Entry::NewLanguage(row) => {
+            let number = settings.languages().len() as u64 + 1;
+            insert_row(tables, TableName::Items, &language_cells(number, row))
+        }
+        Entry::NewProblem(row) => {
+            let number = settings.problems().len() as u64 + 1;
+            insert_row(tables, TableName::Items, &problem_cells(number, row))
+        }
+        Entry::NewGroup(row) => {
+            let number = settings.groups().len() as u64 + 1;
+            insert_row(tables, TableName::Items, &group_cells(number, row))
+        }
         Entry::NewTeam(row) => insert_team(tables, alloc, lists, row),
-        Entry::NewAccount(row) => insert_account(tables, lists, row),
+        Entry::NewAccount(row) => {
+            insert_row(tables, TableName::Accounts, &account_cells(settings, row))
+        }
     }
 }

@@ -10,7 +10,7 @@ mod list_rows;
 mod mark_rows;
 mod one_row;
 mod rejudging_rows;
-mod setting_rows;
+mod team_row;
 mod upgrades;
 
 pub use cell_rows::keep_cells;

@@ -1,6 +1,0 @@
-use Rattle.std.proofs.Common.{refl}
-use Rattle.contest_types.specs.declared.entry.Entry.TheVariants.{NewType}
-use Rattle.contest_store_changes.proofs.setting_rows.insert_type.Goals as goal
-
-pub returns : goal.returns
-returns g c = c.insert_row.ensures c.args.lists.now (NewType c.args.judgement_type.now) (λ x sound held may. (refl, cc))
