@@ -1,5 +1,5 @@
 -- What an export leaves of the store and of the stream, call by call.
-use Rattle.std.proofs.Common.{◌≡◌, ◌∙◌, true, Result, Ok, Err, refl, sym, subst, arith, inl, inr}
+use Rattle.std.proofs.Common.{rules, ◌≡◌, ◌∙◌, true, Result, Ok, Err, refl, sym, subst, arith, inl, inr}
 use Rattle.contest_types.specs.State.{ContestState}
 use Rattle.contest_types.specs.Valid.{is_valid}
 use Rattle.contest_store.specs.Keeping.{Kept, Reads}
@@ -10,34 +10,10 @@ use Rattle.contest_desk.specs.Serving.{IsReady, OnlyReads}
 
 -- a look that went well, whatever it gave
 pub gives_other : {S T : Type 0} (v : S) (w : T) (old new : Kept) → OnlyReads (Ok v) old new → OnlyReads (Ok w) old new
-gives_other v w old new l = record {
-  ok = l.ok;
-  err = λ clean opened. tt;
-  crash = l.crash;
-  clean = l.clean;
-  up = l.up;
-  shuts = l.shuts;
-  troubles = l.troubles;
-  faults = l.faults;
-  refusals = l.refusals;
-  commits = l.commits;
-  loaded = l.loaded;
-}
+gives_other v w old new l = search (rules, l)
 
 as_reads : {T : Type 0} (v : T) (old new : Kept) → OnlyReads (Ok v) old new → Reads (Ok v) old new
-as_reads v old new l = record {
-  ok = l.ok;
-  err = λ clean opened. tt;
-  crash = l.crash;
-  clean = l.clean;
-  up = l.up;
-  shuts = l.shuts;
-  troubles = l.troubles;
-  faults = l.faults;
-  refusals = l.refusals;
-  commits = l.commits;
-  loaded = l.loaded;
-}
+as_reads v old new l = search (rules, l)
 
 -- a look after a look
 pub then_reads : {S T : Type 0} (v : S) (r : Result T StoreError) (old mid new : Kept) → OnlyReads (Ok v) old mid → OnlyReads r mid new → OnlyReads r old new

@@ -1,5 +1,5 @@
 -- Adding what may be added keeps a contest valid: clarifications and marks.
-use Rattle.std.proofs.Common.{◌≡◌, ℕ, ◌+◌, Bool, true, false, List, [], ◌∷◌, ◌++◌, length, map, filter, Option, Some, None, refl, sym, ap, arith}
+use Rattle.std.proofs.Common.{◌≡◌, ℕ, ◌+◌, Bool, true, false, List, [], ◌∷◌, ◌++◌, length, map, filter, Option, Some, None, refl, sym, ap, arith, rules}
 use Rattle.std.specs.Prelude.{◌&&◌, ◌||◌, ◌==◌, not, nat_le, nat_lt, count_by, is_some, if◌then◌else◌}
 use Rattle.std.specs.List.{list_all}
 use Rattle.std.specs.Option.{option_map_or}
@@ -11,7 +11,7 @@ use Rattle.contest_types.specs.Clock.{moment_after}
 use Rattle.contest_types.specs.Series.{in_each, count_up, is_new_key}
 use Rattle.contest_types.specs.State.{ContestState, same_addressee, clarifications_to, add, NewClarification, SetStart, SetThaw, SetFinalized}
 use Rattle.contest_types.specs.ValidSubmissions.{has_valid_submissions}
-use Rattle.contest_types.specs.ValidClarifications.{has_clarification, is_valid_clarification, to_one_addressee, is_request, are_valid_clarifications, Scope, OfTeam, OfAccount, same_scope, scope_of, in_one_scope, keys_are_own}
+use Rattle.contest_types.specs.ValidClarifications.{has_clarification, is_valid_clarification, to_one_addressee, is_request, are_valid_clarifications, Scope, OfTeam, OfAccount, same_scope, scope_of, in_one_scope, keys_are_own, has_valid_clarifications}
 use Rattle.contest_types.specs.Valid.{is_valid}
 use Rattle.contest_types.specs.Addable.{is_addable, is_next_clarification}
 use Rattle.contest_types.specs.declared.limits.TheConstants.{TEAM_REQUESTS, JURY_CLARIFICATIONS}
@@ -19,11 +19,12 @@ use Rattle.contest_types.specs.declared.clarification.Clarification.{Clarificati
 use Rattle.contest_types.specs.declared.clarification.Addressee.{Addressee}
 use Rattle.contest_types.specs.declared.clarification.Addressee.TheVariants as addressee
 use Rattle.contest_types.specs.declared.clarification.Reference.{Reference}
+use Rattle.contest_types.specs.ValidFixed.{has_valid_clock}
 use Rattle.contest_types.proofs.PlaceLemmas.{and_left, and_right, both_true, all_push, same_bytes}
 use Rattle.contest_types.proofs.SetupLemmas.{all_wider}
 use Rattle.contest_types.proofs.SightLemmas.{same_is_one}
 use Rattle.contest_types.proofs.SeriesLemmas.{IsTogether, in_each_push, in_any, some_more, room, count_push}
-use Rattle.contest_types.proofs.ValidParts.{Parts, parts, whole, four}
+use Rattle.contest_types.proofs.ValidParts.{parts, whole, four}
 use Rattle.contest_types.proofs.Tests.{weaker, kept}
 use Rattle.contest_types.proofs.AddLemmas.{next_number, next_key, clock_kept}
 
@@ -106,17 +107,9 @@ adding_clarification x c h a =
     in_each_push to_one_addressee are_valid_clarifications one_addressee x.clarifications c numbers (clarification_follows cs c (in_any to_one_addressee are_valid_clarifications one_addressee refl x.clarifications c numbers) asked.third) in
     let scope : in_each in_one_scope keys_are_own y.clarifications ≡ true =
     in_each_push in_one_scope keys_are_own one_scope x.clarifications c keys (next_key (λ (d : Clarification). d.key) own c (in_any in_one_scope keys_are_own one_scope refl x.clarifications c keys) asked.fourth) in
-    let result : Parts y = record {
-      settings = v.settings;
-      clock = clock_kept _ (is_some x.fixed.marks.start) _ _ v.clock asked.first;
-      accounts = v.accounts;
-      submissions = v.submissions;
-      proposals = v.proposals;
-      releases = v.releases;
-      clarifications = both_true _ _ (both_true _ _ (all_push (is_valid_clarification y) x.clarifications c (all_wider (is_valid_clarification x) (is_valid_clarification y) still x.clarifications (and_left alone numbered two)) (still c asked.second)) each) scope;
-      rejudgings = v.rejudgings;
-    } in
-    whole y result
+    let clock : has_valid_clock y ≡ true = clock_kept _ (is_some x.fixed.marks.start) _ _ v.clock asked.first in
+    let clarifications : has_valid_clarifications y ≡ true = both_true _ _ (both_true _ _ (all_push (is_valid_clarification y) x.clarifications c (all_wider (is_valid_clarification x) (is_valid_clarification y) still x.clarifications (and_left alone numbered two)) (still c asked.second)) each) scope in
+    whole y (search (rules, v, clock, clarifications))
 
 pub empty_of : {X : Type 0} (xs : List X) → (length xs == 0) ≡ true → xs ≡ []
 empty_of [] h = refl
@@ -132,17 +125,9 @@ adding_start x start h a =
     let ends : option_map_or (λ end. nat_le end latest) (moment_after start x.fixed.settings.head.duration) true ≡ true = and_right (none && silent) _ a in
     let either : (b : Bool) → (b || (none && silent)) ≡ true = elim [ true ↦ refl | false ↦ two ] in
     let subs : has_valid_submissions y ≡ true = rw (empty_of x.submissions (and_left none silent two)) refl in
-    let result : Parts y = record {
-      settings = v.settings;
-      clock = both_true _ _ ends (either (is_some start));
-      accounts = v.accounts;
-      submissions = subs;
-      proposals = v.proposals;
-      releases = v.releases;
-      clarifications = v.clarifications;
-      rejudgings = v.rejudgings;
-    } in
-    whole y result
+    let clock : has_valid_clock y ≡ true = both_true _ _ ends (either (is_some start)) in
+    let submissions : has_valid_submissions y ≡ true = subs in
+    whole y (search (rules, v, clock, submissions))
 
 pub adding_thaw : (x : ContestState) (thaw : ℕ) → is_valid x ≡ true → is_valid (add x (SetThaw thaw)) ≡ true
 adding_thaw x thaw h = h

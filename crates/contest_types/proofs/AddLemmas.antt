@@ -1,5 +1,5 @@
 -- Adding what may be added keeps a contest valid: submissions, proposals, releases and marks.
-use Rattle.std.proofs.Common.{◌≡◌, ℕ, ◌+◌, Bool, true, false, List, [], ◌∷◌, ◌++◌, length, map, Option, Some, None, refl, sym, ap, arith}
+use Rattle.std.proofs.Common.{◌≡◌, ℕ, ◌+◌, Bool, true, false, List, [], ◌∷◌, ◌++◌, length, map, Option, Some, None, refl, sym, ap, arith, rules}
 use Rattle.std.specs.Prelude.{◌&&◌, ◌||◌, ◌==◌, not, nat_le, nat_lt, count_by, is_some}
 use Rattle.std.specs.List.{list_all}
 use Rattle.std.proofs.lemmas.Bool.{false≢true, eqb-true, eq-eqb}
@@ -7,8 +7,8 @@ use Rattle.std.proofs.lemmas.List.{map-append, length-map, length_push}
 use Rattle.contest_types.specs.Clock.{reached, end_of}
 use Rattle.contest_types.specs.Series.{count_up, never_fall, have_own_keys, is_new_key}
 use Rattle.contest_types.specs.State.{ContestState, submissions_of, releases_on, proposals_for, add, NewSubmission, NewProposal, NewRelease}
-use Rattle.contest_types.specs.ValidSubmissions.{is_valid_submission, of_one_team, are_valid_submissions, has_submission, is_valid_release, on_one_submission, are_valid_releases, is_valid_proposal, for_one_submission, are_valid_proposals, is_imported}
-use Rattle.contest_types.specs.ValidRejudgings.{is_valid_rejudging, is_valid_member, has_release}
+use Rattle.contest_types.specs.ValidSubmissions.{is_valid_submission, of_one_team, are_valid_submissions, has_submission, is_valid_release, on_one_submission, are_valid_releases, is_valid_proposal, for_one_submission, are_valid_proposals, is_imported, has_valid_submissions, has_valid_releases, has_valid_proposals}
+use Rattle.contest_types.specs.ValidRejudgings.{is_valid_rejudging, is_valid_member, has_release, has_valid_rejudgings}
 use Rattle.contest_types.specs.Valid.{is_valid}
 use Rattle.contest_types.specs.Addable.{is_addable, is_next_submission, is_next_proposal}
 use Rattle.contest_types.specs.declared.limits.TheConstants.{TEAM_SUBMISSIONS, PROPOSALS, POSTED_FILE}
@@ -17,10 +17,11 @@ use Rattle.contest_types.specs.declared.submission.Release.{Release}
 use Rattle.contest_types.specs.declared.proposal.Proposal.{Proposal}
 use Rattle.contest_types.specs.declared.rejudging.Rejudging.{Rejudging}
 use Rattle.contest_types.specs.declared.rejudging.Member.{Member}
+use Rattle.contest_types.specs.ValidFixed.{has_valid_clock}
 use Rattle.contest_types.proofs.PlaceLemmas.{and_left, and_right, both_true, all_push}
 use Rattle.contest_types.proofs.SetupLemmas.{all_wider}
 use Rattle.contest_types.proofs.SeriesLemmas.{IsTogether, in_each_push, in_any, some_more, count_up_push, never_fall_push, own_keys_push, room, count_push, list_all_map}
-use Rattle.contest_types.proofs.ValidParts.{Parts, parts, whole, four, all_four}
+use Rattle.contest_types.proofs.ValidParts.{parts, whole, four, all_four}
 use Rattle.contest_types.proofs.Tests.{each_of, weaker, kept}
 
 same_number : (m n k : ℕ) → (n == m) ≡ true → (k == m) ≡ (k == n)
@@ -81,18 +82,13 @@ adding_submission x s h a =
     let there : (team number : ℕ) → has_submission x team number ≡ true → has_submission y team number ≡ true =
     λ team number. some_more (λ (t : Submission). (t.team == team) && (t.number == number)) x.submissions (s ∷ []) in
     let start : is_some x.fixed.marks.start ≡ true = has_start x.fixed.marks.start s.time (each_of (nat_lt s.team (length x.fixed.settings.teams)) (nat_lt s.problem (length x.fixed.settings.problems) ∷ nat_lt s.language (length x.fixed.settings.languages) ∷ reached x.fixed.marks.start s.time ∷ not (reached (end_of x.fixed.settings x.fixed.marks) s.time) ∷ nat_le (length s.file) POSTED_FILE ∷ []) valid 3) in
-    let result : Parts y = record {
-      settings = v.settings;
-      clock = clock_kept _ (is_some x.fixed.marks.start) _ _ v.clock start;
-      accounts = v.accounts;
-      submissions = both_true _ _ (all_push (is_valid_submission x.fixed) x.submissions s (and_left _ _ v.submissions) valid)
-          (in_each_push of_one_team are_valid_submissions one_team x.submissions s each (submission_follows own s (in_any of_one_team are_valid_submissions one_team refl x.submissions s each) next));
-      proposals = weaker (all_wider (is_valid_proposal x) (is_valid_proposal y) (λ (p : Proposal). weaker (weaker (there p.team p.number) kept) kept) x.proposals) kept v.proposals;
-      releases = weaker (all_wider (is_valid_release x) (is_valid_release y) (λ (r : Release). weaker (there r.team r.number) kept) x.releases) kept v.releases;
-      clarifications = v.clarifications;
-      rejudgings = v.rejudgings;
-    } in
-    whole y result
+    let clock : has_valid_clock y ≡ true = clock_kept _ (is_some x.fixed.marks.start) _ _ v.clock start in
+    let submissions : has_valid_submissions y ≡ true =
+    both_true _ _ (all_push (is_valid_submission x.fixed) x.submissions s (and_left _ _ v.submissions) valid)
+          (in_each_push of_one_team are_valid_submissions one_team x.submissions s each (submission_follows own s (in_any of_one_team are_valid_submissions one_team refl x.submissions s each) next)) in
+    let proposals : has_valid_proposals y ≡ true = weaker (all_wider (is_valid_proposal x) (is_valid_proposal y) (λ (p : Proposal). weaker (weaker (there p.team p.number) kept) kept) x.proposals) kept v.proposals in
+    let releases : has_valid_releases y ≡ true = weaker (all_wider (is_valid_release x) (is_valid_release y) (λ (r : Release). weaker (there r.team r.number) kept) x.releases) kept v.releases in
+    whole y (search (rules, v, clock, submissions, proposals, releases))
 
 proposal_follows : (ps : List Proposal) (p : Proposal) → are_valid_proposals ps ≡ true → is_next_proposal ps p ≡ true → are_valid_proposals (ps ++ p ∷ []) ≡ true
 proposal_follows ps p h n =
@@ -109,18 +105,10 @@ adding_proposal x p h a =
     let v = parts x h in
     let ps = proposals_for p.team p.number x.proposals in
     let each = and_right (list_all (is_valid_proposal x) x.proposals) _ v.proposals in
-    let result : Parts (add x (NewProposal p)) = record {
-      settings = v.settings;
-      clock = v.clock;
-      accounts = v.accounts;
-      submissions = v.submissions;
-      proposals = both_true _ _ (all_push (is_valid_proposal x) x.proposals p (and_left _ _ v.proposals) (and_left _ _ a))
-          (in_each_push for_one_submission are_valid_proposals one_proposed x.proposals p each (proposal_follows ps p (in_any for_one_submission are_valid_proposals one_proposed refl x.proposals p each) (and_right (is_valid_proposal x p) _ a)));
-      releases = v.releases;
-      clarifications = v.clarifications;
-      rejudgings = v.rejudgings;
-    } in
-    whole (add x (NewProposal p)) result
+    let proposals : has_valid_proposals (add x (NewProposal p)) ≡ true =
+    both_true _ _ (all_push (is_valid_proposal x) x.proposals p (and_left _ _ v.proposals) (and_left _ _ a))
+          (in_each_push for_one_submission are_valid_proposals one_proposed x.proposals p each (proposal_follows ps p (in_any for_one_submission are_valid_proposals one_proposed refl x.proposals p each) (and_right (is_valid_proposal x p) _ a))) in
+    whole (add x (NewProposal p)) (search (rules, v, proposals))
 
 pub adding_release : (x : ContestState) (r : Release) → is_valid x ≡ true → is_addable x (NewRelease r) ≡ true → is_valid (add x (NewRelease r)) ≡ true
 adding_release x r h a =
@@ -132,16 +120,9 @@ adding_release x r h a =
     λ team number. some_more (λ (w : Release). (w.team == team) && (w.number == number)) x.releases (r ∷ []) in
     let members : (ms : List Member) → list_all (is_valid_member x) ms ≡ true → list_all (is_valid_member y) ms ≡ true =
     all_wider (is_valid_member x) (is_valid_member y) (λ (m : Member). weaker (there m.team m.number) kept) in
-    let result : Parts y = record {
-      settings = v.settings;
-      clock = v.clock;
-      accounts = v.accounts;
-      submissions = v.submissions;
-      proposals = v.proposals;
-      releases = both_true _ _ (all_push (is_valid_release x) x.releases r (and_left _ _ v.releases) (and_left _ _ a))
+    let releases : has_valid_releases y ≡ true =
+    both_true _ _ (all_push (is_valid_release x) x.releases r (and_left _ _ v.releases) (and_left _ _ a))
           (in_each_push on_one_submission are_valid_releases one_submission x.releases r each
-          (next_number (λ (w : Release). w.round) rs r (in_any on_one_submission are_valid_releases one_submission refl x.releases r each) (and_right (is_valid_release x r) _ a)));
-      clarifications = v.clarifications;
-      rejudgings = weaker (weaker (all_wider (is_valid_rejudging x) (is_valid_rejudging y) (λ (j : Rejudging). weaker (weaker (members j.members) kept) kept) x.rejudgings) kept) kept v.rejudgings;
-    } in
-    whole y result
+          (next_number (λ (w : Release). w.round) rs r (in_any on_one_submission are_valid_releases one_submission refl x.releases r each) (and_right (is_valid_release x r) _ a))) in
+    let rejudgings : has_valid_rejudgings y ≡ true = weaker (weaker (all_wider (is_valid_rejudging x) (is_valid_rejudging y) (λ (j : Rejudging). weaker (weaker (members j.members) kept) kept) x.rejudgings) kept) kept v.rejudgings in
+    whole y (search (rules, v, releases, rejudgings))

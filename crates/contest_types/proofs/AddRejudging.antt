@@ -1,5 +1,5 @@
 -- Adding what may be added keeps a contest valid: rejudgings, their members and their states.
-use Rattle.std.proofs.Common.{◌≡◌, ℕ, suc, ◌+◌, Bool, true, false, List, [], ◌∷◌, ◌++◌, length, map, filter, refl, sym, ◌∙◌, ap, subst, append-nil}
+use Rattle.std.proofs.Common.{◌≡◌, ℕ, suc, ◌+◌, Bool, true, false, List, [], ◌∷◌, ◌++◌, length, map, filter, refl, sym, ◌∙◌, ap, subst, append-nil, rules}
 use Rattle.std.specs.Prelude.{◌&&◌, ◌||◌, ◌==◌, not, nat_le, nat_lt, if◌then◌else◌}
 use Rattle.std.specs.List.{list_all, list_any, flat_map}
 use Rattle.std.proofs.lemmas.Bool.{false≢true, not-true}
@@ -7,7 +7,7 @@ use Rattle.std.proofs.lemmas.Grind.{flat_map-append}
 use Rattle.std.proofs.lemmas.List.{map-append}
 use Rattle.std.proofs.lemmas.List.Elements.{filter-append}
 use Rattle.contest_types.specs.State.{ContestState, changed_at, with_member_state, add, NewRejudging, SetMember, SetRejudging}
-use Rattle.contest_types.specs.ValidRejudgings.{is_valid_rejudging, is_valid_member, is_valid_state, has_release, is_same_member, are_different_members, is_open, is_open_by, open_members}
+use Rattle.contest_types.specs.ValidRejudgings.{is_valid_rejudging, is_valid_member, is_valid_state, has_release, is_same_member, are_different_members, is_open, is_open_by, open_members, has_valid_rejudgings}
 use Rattle.contest_types.specs.Valid.{is_valid}
 use Rattle.contest_types.specs.Addable.{is_addable, is_next_rejudging}
 use Rattle.contest_types.specs.declared.limits.TheConstants.{REJUDGINGS, REJUDGING_MEMBERS}
@@ -17,7 +17,7 @@ use Rattle.contest_types.specs.declared.rejudging.Member.{Member}
 use Rattle.contest_types.specs.declared.rejudging.MemberState.{MemberState}
 use Rattle.contest_types.specs.declared.rejudging.MemberState.TheVariants as member
 use Rattle.contest_types.proofs.PlaceLemmas.{and_left, and_right, both_true, all_push}
-use Rattle.contest_types.proofs.ValidParts.{Parts, parts, whole}
+use Rattle.contest_types.proofs.ValidParts.{parts, whole}
 use Rattle.contest_types.proofs.AddLemmas.{next_room}
 
 three_parts : (a b c : Bool) → (a && b && c) ≡ true → (a ≡ true) × (b ≡ true) × (c ≡ true)
@@ -38,17 +38,9 @@ adding_rejudging x r h a =
     let rs = x.rejudgings in
     let was = three_parts (list_all (is_valid_rejudging x) rs) (are_different_members (open_members rs)) (nat_le (length rs) REJUDGINGS) v.rejudgings in
     let next : is_next_rejudging rs r ≡ true = and_right (is_valid_rejudging x r) _ a in
-    let result : Parts y = record {
-      settings = v.settings;
-      clock = v.clock;
-      accounts = v.accounts;
-      submissions = v.submissions;
-      proposals = v.proposals;
-      releases = v.releases;
-      clarifications = v.clarifications;
-      rejudgings = all_three _ _ _ (all_push (is_valid_rejudging x) rs r was.0 (and_left _ _ a)) (open_push rs r (is_open r) refl was.1 (and_right (nat_lt (length rs) REJUDGINGS) _ next)) (next_room rs r REJUDGINGS (and_left _ _ next));
-    } in
-    whole y result
+    let rejudgings : has_valid_rejudgings y ≡ true =
+    all_three _ _ _ (all_push (is_valid_rejudging x) rs r was.0 (and_left _ _ a)) (open_push rs r (is_open r) refl was.1 (and_right (nat_lt (length rs) REJUDGINGS) _ next)) (next_room rs r REJUDGINGS (and_left _ _ next)) in
+    whole y (search (rules, v, rejudgings))
 
 -- a change that keeps a test, made at one row
 changed_all : {X : Type 0} (p : X → Bool) (f : X → X) → ((x : X) → p x ≡ true → p (f x) ≡ true) → (first n : ℕ) (xs : List X) → list_all p xs ≡ true → list_all p (changed_at first n f xs) ≡ true
@@ -130,19 +122,11 @@ setting_member x n place state h a =
     let rs = x.rejudgings in
     let change : Rejudging → Rejudging = with_member_state place state in
     let was = three_parts (list_all (is_valid_rejudging x) rs) (are_different_members (open_members rs)) (nat_le (length rs) REJUDGINGS) v.rejudgings in
-    let result : Parts y = record {
-      settings = v.settings;
-      clock = v.clock;
-      accounts = v.accounts;
-      submissions = v.submissions;
-      proposals = v.proposals;
-      releases = v.releases;
-      clarifications = v.clarifications;
-      rejudgings = all_three _ _ _ (changed_all (is_valid_rejudging x) change (judged_valid x place state a) 1 n rs was.0)
+    let rejudgings : has_valid_rejudgings y ≡ true =
+    all_three _ _ _ (changed_all (is_valid_rejudging x) change (judged_valid x place state a) 1 n rs was.0)
           (as_different (open_members rs) (open_members (changed_at 1 n change rs)) (sym (open_bare change (λ r. refl) (λ r. members_bare place state r.members) 1 n rs)) was.1)
-          (rw (length-changed change 1 n rs) was.2);
-    } in
-    whole y result
+          (rw (length-changed change 1 n rs) was.2) in
+    whole y (search (rules, v, rejudgings))
 
 -- fewer members that come later are as different
 none_less : (ms ys zs : List Member) (m : Member) → (list_any (is_same_member m) ys ≡ false → list_any (is_same_member m) zs ≡ false) → list_any (is_same_member m) (ms ++ ys) ≡ false → list_any (is_same_member m) (ms ++ zs) ≡ false
@@ -202,14 +186,6 @@ setting_rejudging x n state h a =
     let change : Rejudging → Rejudging = λ r. record r { state = state } in
     let was = three_parts (list_all (is_valid_rejudging x) rs) (are_different_members (open_members rs)) (nat_le (length rs) REJUDGINGS) v.rejudgings in
     let fewer : Fewer (open_members rs) (open_members (changed_at 1 n change rs)) = closing change (λ r. not-true (is_open_by state) a) 1 n rs in
-    let result : Parts y = record {
-      settings = v.settings;
-      clock = v.clock;
-      accounts = v.accounts;
-      submissions = v.submissions;
-      proposals = v.proposals;
-      releases = v.releases;
-      clarifications = v.clarifications;
-      rejudgings = all_three _ _ _ (changed_all (is_valid_rejudging x) change (λ r k. k) 1 n rs was.0) (fewer.different was.1) (rw (length-changed change 1 n rs) was.2);
-    } in
-    whole y result
+    let rejudgings : has_valid_rejudgings y ≡ true =
+    all_three _ _ _ (changed_all (is_valid_rejudging x) change (λ r k. k) 1 n rs was.0) (fewer.different was.1) (rw (length-changed change 1 n rs) was.2) in
+    whole y (search (rules, v, rejudgings))
