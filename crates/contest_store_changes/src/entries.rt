@@ -4,8 +4,8 @@ ghost use Rattle.contest_store_changes.specs.Additions.{Appends};
 
 use crate::list_rows::{insert_clarification, insert_proposal, insert_release, insert_submission};
 use crate::mark_rows::{set_finalized, set_start, set_thaw};
-use crate::rejudging_rows::{insert_rejudging, set_member, set_rejudging};
 use crate::one_row::insert_row;
+use crate::rejudging_rows::{insert_rejudging, set_member, set_rejudging};
 use crate::team_row::insert_team;
 use contest_lists::Lists;
 use contest_store::StoreError;

@@ -85,7 +85,7 @@ adding_submission x s h a =
     let clock : has_valid_clock y ≡ true = clock_kept _ (is_some x.fixed.marks.start) _ _ v.clock start in
     let submissions : has_valid_submissions y ≡ true =
     both_true _ _ (all_push (is_valid_submission x.fixed) x.submissions s (and_left _ _ v.submissions) valid)
-          (in_each_push of_one_team are_valid_submissions one_team x.submissions s each (submission_follows own s (in_any of_one_team are_valid_submissions one_team refl x.submissions s each) next)) in
+    (in_each_push of_one_team are_valid_submissions one_team x.submissions s each (submission_follows own s (in_any of_one_team are_valid_submissions one_team refl x.submissions s each) next)) in
     let proposals : has_valid_proposals y ≡ true = weaker (all_wider (is_valid_proposal x) (is_valid_proposal y) (λ (p : Proposal). weaker (weaker (there p.team p.number) kept) kept) x.proposals) kept v.proposals in
     let releases : has_valid_releases y ≡ true = weaker (all_wider (is_valid_release x) (is_valid_release y) (λ (r : Release). weaker (there r.team r.number) kept) x.releases) kept v.releases in
     whole y (search (rules, v, clock, submissions, proposals, releases))
@@ -107,7 +107,7 @@ adding_proposal x p h a =
     let each = and_right (list_all (is_valid_proposal x) x.proposals) _ v.proposals in
     let proposals : has_valid_proposals (add x (NewProposal p)) ≡ true =
     both_true _ _ (all_push (is_valid_proposal x) x.proposals p (and_left _ _ v.proposals) (and_left _ _ a))
-          (in_each_push for_one_submission are_valid_proposals one_proposed x.proposals p each (proposal_follows ps p (in_any for_one_submission are_valid_proposals one_proposed refl x.proposals p each) (and_right (is_valid_proposal x p) _ a))) in
+    (in_each_push for_one_submission are_valid_proposals one_proposed x.proposals p each (proposal_follows ps p (in_any for_one_submission are_valid_proposals one_proposed refl x.proposals p each) (and_right (is_valid_proposal x p) _ a))) in
     whole (add x (NewProposal p)) (search (rules, v, proposals))
 
 pub adding_release : (x : ContestState) (r : Release) → is_valid x ≡ true → is_addable x (NewRelease r) ≡ true → is_valid (add x (NewRelease r)) ≡ true
@@ -122,7 +122,7 @@ adding_release x r h a =
     all_wider (is_valid_member x) (is_valid_member y) (λ (m : Member). weaker (there m.team m.number) kept) in
     let releases : has_valid_releases y ≡ true =
     both_true _ _ (all_push (is_valid_release x) x.releases r (and_left _ _ v.releases) (and_left _ _ a))
-          (in_each_push on_one_submission are_valid_releases one_submission x.releases r each
-          (next_number (λ (w : Release). w.round) rs r (in_any on_one_submission are_valid_releases one_submission refl x.releases r each) (and_right (is_valid_release x r) _ a))) in
+    (in_each_push on_one_submission are_valid_releases one_submission x.releases r each
+    (next_number (λ (w : Release). w.round) rs r (in_any on_one_submission are_valid_releases one_submission refl x.releases r each) (and_right (is_valid_release x r) _ a))) in
     let rejudgings : has_valid_rejudgings y ≡ true = weaker (weaker (all_wider (is_valid_rejudging x) (is_valid_rejudging y) (λ (j : Rejudging). weaker (weaker (members j.members) kept) kept) x.rejudgings) kept) kept v.rejudgings in
     whole y (search (rules, v, releases, rejudgings))

@@ -124,8 +124,8 @@ setting_member x n place state h a =
     let was = three_parts (list_all (is_valid_rejudging x) rs) (are_different_members (open_members rs)) (nat_le (length rs) REJUDGINGS) v.rejudgings in
     let rejudgings : has_valid_rejudgings y ≡ true =
     all_three _ _ _ (changed_all (is_valid_rejudging x) change (judged_valid x place state a) 1 n rs was.0)
-          (as_different (open_members rs) (open_members (changed_at 1 n change rs)) (sym (open_bare change (λ r. refl) (λ r. members_bare place state r.members) 1 n rs)) was.1)
-          (rw (length-changed change 1 n rs) was.2) in
+    (as_different (open_members rs) (open_members (changed_at 1 n change rs)) (sym (open_bare change (λ r. refl) (λ r. members_bare place state r.members) 1 n rs)) was.1)
+    (rw (length-changed change 1 n rs) was.2) in
     whole y (search (rules, v, rejudgings))
 
 -- fewer members that come later are as different
