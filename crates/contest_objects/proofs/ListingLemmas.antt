@@ -1,20 +1,17 @@
 -- Rows in an order, and what is served of them.
-use Rattle.std.proofs.Common.{◌≡◌, ◌<◌, ◌≤◌, ◌+◌, ℕ, Bool, true, false, inl, inr, List, [], ◌∷◌, ◌++◌, map, drop, take, get_or, length, Option, Some, None, refl, sym, ap, subst, ◌∙◌, append-nil, append_assoc, arith}
-use Rattle.std.specs.Prelude.{IfSome, bytes_eq, find, if◌then◌else◌}
+use Rattle.std.proofs.Common.{◌≡◌, ◌<◌, ◌+◌, ℕ, Bool, true, false, inl, inr, List, [], ◌∷◌, ◌++◌, map, take, get_or, length, Option, Some, None, refl, sym, ap, subst, ◌∙◌, arith}
+use Rattle.std.specs.Prelude.{bytes_eq, find, if◌then◌else◌}
 use Rattle.std.specs.List.{cons_option, filter_map, swap}
 use Rattle.std.specs.List.Sorted.{IsPermutation, IsSortedBy, SwapsInRange, apply_swaps}
 use Rattle.std.specs.Option.{option_map, option_and_then, option_to_list}
 use Rattle.std.proofs.Math.ListN.{get_or-map as mapped_at, set}
-use Rattle.std.proofs.lemmas.List.{drop_more, drop_all, get_or-map, length-map, map-set, take_more}
+use Rattle.std.proofs.lemmas.List.{get_or-map, length-map, map-set, take_more}
 use Rattle.std.proofs.lemmas.List.Elements.{filter_map-append}
-use Rattle.serde_json.specs.Data.{Data, array}
-use Rattle.serde_json.specs.View.{items_of}
-use Rattle.serde_json.specs.Written.{has_float}
+use Rattle.serde_json.specs.Data.{Data}
 use Rattle.contest_types.specs.Order.{Has, IsBefore, IsInOrder}
-use Rattle.contest_types.proofs.InOrderLemmas.{find_has, found_in as has_found, none_passes, option_has, is_equal}
+use Rattle.contest_types.proofs.InOrderLemmas.{find_has, found_in as has_found, none_passes, option_has}
 use Rattle.contest_types.proofs.Rising.{find_passes}
-use Rattle.contest_objects.specs.Items.{Item, array_of, found_in, has_this_id, object_in}
-use Rattle.contest_objects.proofs.CollectionLemmas.{no_float_more}
+use Rattle.contest_objects.specs.Items.{Item, found_in, has_this_id, object_in}
 
 -- an exchange in a map is one in the list
 swap_map : {X Y : Type 0} (f : X → Y) (xs : List X) (i j : ℕ) → map f (swap xs i j) ≡ swap (map f xs) i j
@@ -61,36 +58,6 @@ sorted_unmap f lt xs up k d low l =
     let two : get_or (map f xs) (k + 1) (f d) ≡ f (get_or xs (k + 1) d) = mapped_at f xs (k + 1) d in
     rw (one, two) at (up k (f d) low next)
 
--- the objects of these rows
-abbrev pub made : {R X : Type 0} → (X → Option Item) → (R → X) → List R → List Data
-made item now rows = map (λ (i : Item). i.object) (filter_map item (map now rows))
-
-one_made : (o : Option Item) (items : List Item) → map (λ (i : Item). i.object) (cons_option o items) ≡ option_to_list (object_in o) ++ map (λ (i : Item). i.object) items
-one_made None items = refl
-one_made (Some i) items = refl
-
--- the object of the next row is one more
-pub next_made : {R X : Type 0} (item : X → Option Item) (now : R → X) (rows : List R) (i : ℕ) (row : R) (whole ds es : List Data) → i < length rows → row ≡ get_or rows i row
-    → whole ≡ ds ++ made item now (drop i rows) → es ≡ ds ++ option_to_list (object_in (item (now row))) → whole ≡ es ++ made item now (drop (i + 1) rows)
-next_made item now rows i row whole ds es l at before more =
-    let next : drop i rows ≡ row ∷ drop (i + 1) rows = drop_more rows i row l ∙ ap (λ r. r ∷ drop (i + 1) rows) (sym at) in
-    let rest = made item now (drop (i + 1) rows) in
-    let here : made item now (drop i rows) ≡ option_to_list (object_in (item (now row))) ++ rest = ap (made item now) next ∙ one_made (item (now row)) (filter_map item (map now (drop (i + 1) rows))) in
-    before ∙ (ap (λ xs. ds ++ xs) here ∙ (sym (append_assoc ds (option_to_list (object_in (item (now row)))) rest) ∙ ap (λ xs. xs ++ rest) (sym more)))
-
--- once none is left, all are there
-pub all_made : {R X : Type 0} (item : X → Option Item) (now : R → X) (rows : List R) (i : ℕ) (ds : List Data) → length rows ≤ i
-    → made item now rows ≡ ds ++ made item now (drop i rows) → array (items_of ds) ≡ array_of (filter_map item (map now rows))
-all_made item now rows i ds end h =
-    let none : drop i rows ≡ [] = drop_all i rows end in
-    ap (λ xs. array (items_of xs)) (sym (h ∙ (ap (λ xs. ds ++ made item now xs) none ∙ append-nil ds)))
-
--- one more value without a float, if any, leaves none
-pub no_float_where : {V : Type 0} (view : V → Data) (ds : List Data) (found : Option V) → has_float (array (items_of ds)) ≡ false → IfSome found (λ v. has_float (view v) ≡ false)
-    → has_float (array (items_of (ds ++ option_to_list (option_map view found)))) ≡ false
-no_float_where view ds None h e = ap (λ xs. has_float (array (items_of xs))) (append-nil ds) ∙ h
-no_float_where view ds (Some v) h e = no_float_more ds (view v) h e
-
 -- the first row that is served under an id has the object that is found
 one_found : (id : List ℕ) (o : Option Item) (items : List Item) (rest : Option Data) → found_in items id ≡ rest
     → found_in (cons_option o items) id ≡ (if has_this_id id o then object_in o else rest)
@@ -109,6 +76,11 @@ among {X} item (r ∷ rows) id =
 pub found_among : {X : Type 0} (item : X → Option Item) (rows : List X) (id : List ℕ) (o : Option X) → find (λ r. has_this_id id (item r)) rows ≡ o
     → option_and_then (λ r. object_in (item r)) o ≡ found_in (filter_map item rows) id
 found_among {X} item rows id o e = sym (among item rows id ∙ ap (option_and_then (λ (r : X). object_in (item r))) e)
+
+-- what has an id is served
+pub served_under : (id : List ℕ) (o : Option Item) → has_this_id id o ≡ true → (i : Item) × (o ≡ Some i)
+served_under id None h = absurd (cc h)
+served_under id (Some i) h = (i, refl)
 
 -- of rows that stand in order, what is shown does too
 shown_before : {X Y : Type 0} (before : X → X → Bool) (after : Y → Y → Bool) (show : X → Option Y) → ((x y : X) (v w : Y) → show x ≡ Some v → show y ≡ Some w → before x y ≡ true → after v w ≡ true)

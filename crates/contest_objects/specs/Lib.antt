@@ -1,4 +1,5 @@
 pub mod Times
+pub mod JsonTokens
 pub mod Objects
 pub mod Members
 pub mod Items

@@ -1,11 +1,14 @@
--- The members of a JSON object, put in one by one.
+-- The members of a JSON object, one by one.
 use Rattle.std.specs.Prelude.{ℕ, List, [], ◌∷◌, Option, Some, None}
 use Rattle.std.specs.Option.{option_map, option_map_or}
-use Rattle.serde_json.specs.Data.{Data, Members, boolean, null, number, put, string, unsigned}
+use Rattle.serde_json.specs.Data.{Data, Members, boolean, no_members, null, number, string, unsigned}
 use Rattle.contest_types.specs.MomentText.{moment_text}
+use Rattle.contest_types.specs.SettingsNames.{group_id_at}
+use Rattle.contest_types.specs.TeamPlaces.{team_id_at}
+use Rattle.contest_objects.specs.Objects.{file_array, ids_data, member_where}
 use Rattle.contest_objects.specs.Times.{contest_time_data, moment_or_null, span_data, span_or_null}
 use Rattle.contest_objects.specs.declared.members.Member.{Member}
-use Rattle.contest_objects.specs.declared.members.Member.TheVariants.{Text, TextOrNull, Number, NumberOrNull, Flag, Span, SpanOrNull, Time, TimeOrNull, ContestTime, Absent}
+use Rattle.contest_objects.specs.declared.members.Member.TheVariants.{Text, TextOrNull, Number, NumberOrNull, Flag, Span, SpanOrNull, Time, TimeOrNull, ContestTime, File, GroupIds, TeamIds, Absent}
 
 -- a whole number, or null
 abbrev pub number_or_null : Option ℕ → Data
@@ -27,14 +30,12 @@ shown (SpanOrNull s) = Some (span_or_null s.now)
 shown (Time m) = Some (string (moment_text m.now))
 shown (TimeOrNull m) = Some (moment_or_null m.now)
 shown (ContestTime start time) = Some (contest_time_data start.now time.now)
+shown (File href) = Some (file_array href.now)
+shown (GroupIds s groups) = Some (ids_data (group_id_at s.now) groups.now)
+shown (TeamIds s teams) = Some (ids_data (team_id_at s.now) teams.now)
 shown Absent = None
 
--- the members, with one that is only there with a value
-abbrev pub put_where : Option Data → List ℕ → Members → Members
-put_where None name ms = ms
-put_where (Some d) name ms = put name d ms
-
--- the members, with all of these
-abbrev pub with_all : List (List ℕ × Option Data) → Members → Members
-with_all [] ms = ms
-with_all (m ∷ rest) ms = with_all rest (put_where m.1 m.0 ms)
+-- the object's members: these, in their order, each where it is there
+abbrev pub in_order : List (List ℕ × Option Data) → Members
+in_order [] = no_members
+in_order (m ∷ rest) = member_where m.1 m.0 (in_order rest)

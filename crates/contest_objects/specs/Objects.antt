@@ -1,8 +1,9 @@
 -- The objects that are served, as JSON values (Contest API 2023-06; which members each object has is
 -- this desk's choice).
-use Rattle.std.specs.Prelude.{ℕ, List, ◌++◌, Option, Some, None, codes}
+use Rattle.std.specs.Prelude.{ℕ, List, ◌++◌, Option, Some, None, codes, map}
 use Rattle.std.specs.Option.{option_map, option_and_then}
 use Rattle.serde_json.specs.Data.{Data, string, array, object, item, no_items, Members, member, no_members}
+use Rattle.serde_json.specs.View.{items_of}
 use Rattle.contest_types.specs.VisibleIds.{submission_id}
 use Rattle.contest_types.specs.ProblemPlaces.{problem_id_at}
 use Rattle.contest_types.specs.SettingsNames.{language_id_at}
@@ -23,6 +24,10 @@ file_array href =
 
 abbrev pub files_data : (contest id : List ℕ) → Data
 files_data contest id = file_array (files_path contest id)
+
+-- the array of the ids of what stands at these places
+abbrev pub ids_data : (id : ℕ → List ℕ) → (places : List ℕ) → Data
+ids_data id places = array (items_of (map (λ place. string (id place)) places))
 
 -- a member that is only there with a value
 abbrev pub member_where : Option Data → List ℕ → Members → Members

@@ -2,8 +2,7 @@
 -- members each has is this desk's choice).
 use Rattle.std.specs.Prelude.{ℕ, List, Option, codes, map, slice_get}
 use Rattle.std.specs.List.{filter_map}
-use Rattle.serde_json.specs.Data.{Data, array, boolean, number, unsigned, string, object, member, no_members}
-use Rattle.serde_json.specs.View.{items_of}
+use Rattle.serde_json.specs.Data.{Data, boolean, number, unsigned, string, object, member, no_members}
 use Rattle.contest_types.specs.Setup.{Setup}
 use Rattle.contest_types.specs.declared.objects.Group.{Group}
 use Rattle.contest_types.specs.declared.objects.JudgementType.{JudgementType}
@@ -13,6 +12,7 @@ use Rattle.contest_types.specs.declared.objects.Team.{Team}
 use Rattle.contest_types.specs.ProblemPlaces.{problem_order}
 use Rattle.contest_types.specs.SettingsNames.{group_id_at}
 use Rattle.contest_objects.specs.Items.{Item, array_of, found_in}
+use Rattle.contest_objects.specs.Objects.{ids_data}
 use Rattle.contest_objects.specs.declared.settings_objects.SettingsEndpoint.{SettingsEndpoint}
 use Rattle.contest_objects.specs.declared.settings_objects.SettingsEndpoint.TheVariants.{Groups, JudgementTypes, Languages, Problems, Teams}
 
@@ -44,7 +44,7 @@ group_item g = record { id = g.id; object = object (member (codes "id") (string 
 abbrev pub team_item : Setup → Team → Item
 team_item s t = record {
   id = t.id;
-  object = object (member (codes "group_ids") (array (items_of (map (λ g. string (group_id_at s g)) t.groups))) (member (codes "hidden") (boolean t.hidden)
+  object = object (member (codes "group_ids") (ids_data (group_id_at s) t.groups) (member (codes "hidden") (boolean t.hidden)
       (member (codes "id") (string t.id) (member (codes "name") (string t.name) no_members))));
 }
 

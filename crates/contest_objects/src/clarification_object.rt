@@ -1,25 +1,37 @@
 //! Clarifications as they are served.
-ghost use Rattle.std.specs.Prelude.{◌≡◌, false, IfOk, option_map};
+ghost use Rattle.std.specs.Prelude.{◌≡◌, OnOk, option_map};
 ghost use Rattle.std.specs.Option.{option_and_then};
 ghost use Rattle.serde_json.specs.Data.{object, string};
-ghost use Rattle.serde_json.specs.View.{view};
-ghost use Rattle.serde_json.specs.Written.{has_float};
 ghost use Rattle.contest_types.specs.ProblemPlaces.{problem_id_at};
-ghost use Rattle.contest_types.specs.Sight.{heard_reference, seen_clarification};
-ghost use Rattle.contest_objects.specs.Members.{shown};
-ghost use Rattle.contest_objects.specs.ClarificationObjects.{clarification_data};
+ghost use Rattle.contest_types.specs.Sight.{heard_reference};
 ghost use Rattle.contest_objects.specs.ClarificationObjects.{clarification_members, group_of};
 ghost use Rattle.contest_objects.specs.ClarificationObjects.{receiver, reference_id, team_of};
 ghost use Rattle.contest_objects.specs.ClarificationObjects.{writer};
+ghost use Rattle.contest_objects.specs.JsonTokens.{Wrote, data_tokens};
+ghost use Rattle.contest_objects.specs.Members.{shown};
 
-use crate::members::{Member, object_of};
+use crate::json_text::Served;
+use crate::members::{Member, write_object};
 use crate::visible_ids::clarification_id;
 use arrayvec::ArrayString;
 use contest_types::{
     Addressee, Audience, Clarification, Fixed, Moment, Reference, Settings, hears,
 };
-use serde_json::Value;
-use std::alloc::{AllocError, Global};
+use json::Writer;
+use std::alloc::AllocError;
+
+/// A clarification that an audience hears (Contest API 2023-06, clarification object):
+/// `contest_time`, `from_team_id`, `id`, `problem_id`, `reply_to_id`, `text`, `time` and
+/// `to_team_id`; where it goes to a group also `to_group_id` (own).
+#[derive(Clone, Copy)]
+pub struct ClarificationObject<'a> {
+    /// The contest's settings and marks.
+    pub fixed: &'a Fixed,
+    /// Who hears it.
+    pub audience: Audience,
+    /// The clarification.
+    pub clarification: &'a Clarification,
+}
 
 /// What stands in a clarification's members.
 #[derive(Drop)]
@@ -35,49 +47,38 @@ struct Members<'a> {
     to: Option<&'a str>,
 }
 
-/// The JSON value of a clarification that an audience hears (Contest API 2023-06, clarification
-/// object): `contest_time`, `from_team_id`, `id`, `problem_id`, `reply_to_id`, `text`, `time` and
-/// `to_team_id`; where it goes to a group also `to_group_id` (own).
-///
-/// # Errors
-///
-/// Want of memory alone.
-#[tactic(auto, using(crate::proofs::ClarificationObjectLemmas::has_no_float))]
-pub fn clarification_value(
-    alloc: Global,
-    fixed: &Fixed,
-    audience: Audience,
-    clarification: &Clarification,
-) -> Result<Value, AllocError>
-    ensures value { IfOk result (λ v. view v ≡ clarification_data fixed.now (seen_clarification audience fixed.now.settings clarification.now)) }
-    ensures no_floats { IfOk result (λ v. has_float (view v) ≡ false) }
-{
-    let settings = &fixed.settings;
-    let (addressee, from_jury) = (clarification.addressee, clarification.from_jury);
-    let id = clarification_id(addressee, clarification.number);
-    let reply = reply_id(audience, settings, &clarification.reply);
-    let members = Members {
-        from: writer(settings, addressee, from_jury),
-        id: id.as_str(),
-        problem: problem_of(settings, clarification.problem),
-        reply: text_of(&reply),
-        group: group_of(settings, addressee),
-        start: &fixed.marks.start,
-        text: clarification.text.as_str(),
-        time: &clarification.time,
-        to: receiver(settings, addressee, from_jury),
-    };
-    clarification_object(alloc, members)
+impl<'a> Served for ClarificationObject<'a> {
+    ghost use Rattle.contest_types.specs.Sight.{seen_clarification};
+    ghost use Rattle.contest_objects.specs.ClarificationObjects.{clarification_data};
+
+    ghost value = { λ o. clarification_data o.fixed.now (seen_clarification o.audience o.fixed.now.settings o.clarification.now) };
+
+    fn write(&self, out: &mut Writer) -> Result<(), AllocError> {
+        let (settings, one) = (&self.fixed.settings, self.clarification);
+        let id = clarification_id(one.addressee, one.number);
+        let reply = reply_id(self.audience, settings, &one.reply);
+        let members = Members {
+            from: writer(settings, one.addressee, one.from_jury),
+            id: id.as_str(),
+            problem: problem_of(settings, one.problem),
+            reply: text_of(&reply),
+            group: group_of(settings, one.addressee),
+            start: &self.fixed.marks.start,
+            text: one.text.as_str(),
+            time: &one.time,
+            to: receiver(settings, one.addressee, one.from_jury),
+        };
+        write_clarification(out, members)
+    }
 }
 
 // The object with these members.
-#[tactic(auto, using(crate::proofs::ClarificationObjectLemmas::members_in_order))]
-fn clarification_object(alloc: Global, members: Members<'_>) -> Result<Value, AllocError>
-    ensures { IfOk result (λ v. view v ≡ object (clarification_members members.entry.start.now (option_map (λ t. t.now) members.entry.from) members.entry.id.now
-        (option_map (λ t. t.now) members.entry.problem) (option_map (λ t. t.now) members.entry.reply) members.entry.text.now members.entry.time.now (option_map (λ t. t.now) members.entry.group) (option_map (λ t. t.now) members.entry.to))) }
+fn write_clarification(out: &mut Writer, members: Members<'_>) -> Result<(), AllocError>
+    ensures { OnOk result (Wrote out.old out.new (data_tokens (object (clarification_members members.entry.start.now (option_map (λ t. t.now) members.entry.from) members.entry.id.now
+        (option_map (λ t. t.now) members.entry.problem) (option_map (λ t. t.now) members.entry.reply) members.entry.text.now members.entry.time.now (option_map (λ t. t.now) members.entry.group) (option_map (λ t. t.now) members.entry.to))))) }
 {
-    object_of(
-        alloc,
+    write_object(
+        out,
         &[
             (
                 "contest_time",

@@ -1,17 +1,17 @@
 //! Collections as they are served: listed in an order, and looked up by id, whatever they hold.
-ghost use Rattle.std.specs.Prelude.{◌≡◌, ◌++◌, Option, Some, slice_get, IfOk, IfSome, OnOk, false};
+ghost use Rattle.std.specs.Prelude.{◌≡◌, ◌++◌, Option, Some, slice_get, IfOk, OnOk};
 ghost use Rattle.std.specs.Prelude.{map, find, option_map, IsPermutation, IsSorted};
 ghost use Rattle.std.specs.Cmp.{IsTotalOrder};
-ghost use Rattle.std.specs.List.{filter_map};
+ghost use Rattle.std.specs.List.{filter_map, flat_map};
 ghost use Rattle.std.specs.Option.{option_to_list};
 ghost use Rattle.std.specs.declared.cmp.Ordering.{Ordering as TheOrdering};
-ghost use Rattle.serde_json.specs.Data.{array};
-ghost use Rattle.serde_json.specs.View.{view, items_of};
-ghost use Rattle.serde_json.specs.Written.{has_float};
+ghost use Rattle.serde_json.specs.Written.{compact_text};
 ghost use Rattle.contest_objects.specs.Items.{Item, IsListed, array_of, found_in, has_this_id};
 ghost use Rattle.contest_objects.specs.Items.{object_in};
+ghost use Rattle.contest_objects.specs.JsonTokens.{Wrote, value_tokens};
 
-use serde_json::Value;
+use crate::json_text::{begin_array, end_array};
+use json::Writer;
 use std::alloc::{AllocError, Global};
 use std::cmp::Ordering;
 
@@ -28,14 +28,13 @@ pub trait Collection {
     fn has_id(&self, row: &Self::Row, id: &[u8]) -> bool
         ensures { result ≡ has_this_id id.now (item self.now row.now) };
 
-    /// The object of a row, where it is served.
+    /// Writes the object of a row behind what stands in a text, where it is served.
     ///
     /// # Errors
     ///
     /// Want of memory alone.
-    fn object(&self, alloc: Global, row: &Self::Row) -> Result<Option<Value>, AllocError>
-        ensures value { IfOk result (λ found. option_map view found ≡ object_in (item self.now row.now)) }
-        ensures no_floats { IfOk result (λ found. IfSome found (λ v. has_float (view v) ≡ false)) };
+    fn write(&self, out: &mut Writer, row: &Self::Row) -> Result<(), AllocError>
+        ensures { OnOk result (Wrote out.old out.new (value_tokens (object_in (item self.now row.now)))) };
 }
 
 /// A collection that is listed in an order of its own.
@@ -60,20 +59,23 @@ pub trait Whole: Collection {
     ghost all: { (c : Self) (row : Self.Row) → Self.item c row ≡ Some (whole c row) };
 }
 
-/// The array of the rows that are served, in their order. The rows come in any order.
+/// The text of the array of the rows that are served, in their order. The rows come in any order.
 ///
 /// # Errors
 ///
 /// Want of memory alone.
-pub fn list<C: Ordered>(alloc: Global, collection: &C, rows: &[C::Row]) -> Result<Value, AllocError>
-    ensures value { IfOk result (λ v. IsListed (C.item collection.now) (C.cmp collection.now) rows.now (view v)) }
-    ensures no_floats { IfOk result (λ v. has_float (view v) ≡ false) }
+pub fn list<C: Ordered>(
+    alloc: Global,
+    collection: &C,
+    rows: &[C::Row],
+) -> Result<Vec<u8>, AllocError>
+    ensures { IfOk result (λ text. IsListed (C.item collection.now) (C.cmp collection.now) rows.now text.items) }
 {
     let rows = sorted(alloc, collection, rows)?;
     array(alloc, collection, &rows)
 }
 
-/// The array of all rows, as they stand.
+/// The text of the array of all rows, as they stand.
 ///
 /// # Errors
 ///
@@ -82,35 +84,33 @@ pub fn list_whole<C: Whole>(
     alloc: Global,
     collection: &C,
     rows: &[C::Row],
-) -> Result<Value, AllocError>
-    ensures value { IfOk result (λ v. view v ≡ array_of (map (C.whole collection.now) rows.now)) }
-    ensures no_floats { IfOk result (λ v. has_float (view v) ≡ false) }
+) -> Result<Vec<u8>, AllocError>
+    ensures { IfOk result (λ text. text.items ≡ compact_text (array_of (map (C.whole collection.now) rows.now))) }
 {
     let rows = refs(alloc, rows)?;
-    let value = array(alloc, collection, &rows)?;
-    Ok(value)
+    let text = array(alloc, collection, &rows)?;
+    Ok(text)
 }
 
-/// The array of the rows at these places.
+/// The text of the array of the rows at these places.
 ///
 /// # Errors
 ///
 /// Want of memory alone.
-pub(crate) fn value_at<C: Whole>(
+pub(crate) fn list_at<C: Whole>(
     alloc: Global,
     collection: &C,
     rows: &[C::Row],
     places: &[usize],
-) -> Result<Value, AllocError>
-    ensures value { IfOk result (λ v. view v ≡ array_of (map (C.whole collection.now) (filter_map (slice_get rows.now) places.now))) }
-    ensures no_floats { IfOk result (λ v. has_float (view v) ≡ false) }
+) -> Result<Vec<u8>, AllocError>
+    ensures { IfOk result (λ text. text.items ≡ compact_text (array_of (map (C.whole collection.now) (filter_map (slice_get rows.now) places.now)))) }
 {
     let rows = refs_at(alloc, rows, places)?;
-    let value = array(alloc, collection, &rows)?;
-    Ok(value)
+    let text = array(alloc, collection, &rows)?;
+    Ok(text)
 }
 
-/// The object with an id, if a row has it.
+/// The text of the object with an id, if a row has it.
 ///
 /// # Errors
 ///
@@ -120,9 +120,8 @@ pub fn get_whole<C: Whole>(
     collection: &C,
     rows: &[C::Row],
     id: &[u8],
-) -> Result<Option<Value>, AllocError>
-    ensures value { IfOk result (λ found. option_map view found ≡ found_in (map (C.whole collection.now) rows.now) id.now) }
-    ensures no_floats { IfOk result (λ found. IfSome found (λ v. has_float (view v) ≡ false)) }
+) -> Result<Option<Vec<u8>>, AllocError>
+    ensures { IfOk result (λ found. option_map (λ text. text.items) found ≡ option_map compact_text (found_in (map (C.whole collection.now) rows.now) id.now)) }
 {
     let found = get(alloc, collection, rows, id)?;
     Ok(found)
@@ -184,35 +183,35 @@ fn push_ref<'r, T>(refs: &mut Vec<&'r T>, row: Option<&'r T>) -> Result<(), Allo
     Ok(())
 }
 
-// The array of these rows, as far as they are served.
+// The text of the array of these rows, as far as they are served.
 fn array<C: Collection>(
     alloc: Global,
     collection: &C,
     rows: &[&C::Row],
-) -> Result<Value, AllocError>
-    ensures value { IfOk result (λ v. view v ≡ array_of (filter_map (C.item collection.now) (map (λ r. r.now) rows.now))) }
-    ensures no_floats { IfOk result (λ v. has_float (view v) ≡ false) }
+) -> Result<Vec<u8>, AllocError>
+    ensures { IfOk result (λ text. text.items ≡ compact_text (array_of (filter_map (C.item collection.now) (map (λ r. r.now) rows.now)))) }
 {
-    let mut values = Vec::new(alloc);
-    for row in rows {
-        let found = collection.object(alloc, *row)?;
-        push_where(&mut values, found)?;
-    }
-    Ok(Value::Array(values))
+    let mut out = Writer::new(Vec::new(alloc));
+    begin_array(&mut out)?;
+    write_each(&mut out, collection, rows)?;
+    end_array(&mut out)?;
+    Ok(out.into_inner())
 }
 
-// One value more, where there is one.
-fn push_where(values: &mut Vec<Value>, value: Option<Value>) -> Result<(), AllocError>
-    ensures { OnOk result (map view values.new.items ≡ map view values.old.items ++ option_to_list (option_map view value)) }
+fn write_each<C: Collection>(
+    out: &mut Writer,
+    collection: &C,
+    rows: &[&C::Row],
+) -> Result<(), AllocError>
+    ensures { OnOk result (Wrote out.old out.new (flat_map (λ r. value_tokens (object_in (C.item collection.now r.now))) rows.now)) }
 {
-    match value {
-        Some(value) => values.push(value)?,
-        None => {}
+    for row in rows {
+        collection.write(out, *row)?;
     }
     Ok(())
 }
 
-/// The object with an id, if one of these rows is served under it: what isn't served is as what
+/// The text of the object with an id, if one of these rows is served under it: what isn't served is as what
 /// isn't there.
 ///
 /// # Errors
@@ -223,17 +222,29 @@ pub fn get<C: Collection>(
     collection: &C,
     rows: &[C::Row],
     id: &[u8],
-) -> Result<Option<Value>, AllocError>
-    ensures value { IfOk result (λ found. option_map view found ≡ found_in (filter_map (C.item collection.now) rows.now) id.now) }
-    ensures no_floats { IfOk result (λ found. IfSome found (λ v. has_float (view v) ≡ false)) }
+) -> Result<Option<Vec<u8>>, AllocError>
+    ensures { IfOk result (λ found. option_map (λ text. text.items) found ≡ option_map compact_text (found_in (filter_map (C.item collection.now) rows.now) id.now)) }
 {
     match with_id(collection, rows, id) {
         Some(row) => {
-            let found = collection.object(alloc, row)?;
-            Ok(found)
+            let text = row_text(alloc, collection, row)?;
+            Ok(Some(text))
         }
         None => Ok(None),
     }
+}
+
+// The text of the object of a row that is served.
+fn row_text<C: Collection>(
+    alloc: Global,
+    collection: &C,
+    row: &C::Row,
+) -> Result<Vec<u8>, AllocError>
+    ensures { (i : Item) → C.item collection.now row.now ≡ Some i → IfOk result (λ text. text.items ≡ compact_text i.object) }
+{
+    let mut out = Writer::new(Vec::new(alloc));
+    collection.write(&mut out, row)?;
+    Ok(out.into_inner())
 }
 
 fn with_id<'r, C: Collection>(collection: &C, rows: &'r [C::Row], id: &[u8]) -> Option<&'r C::Row>

@@ -1,15 +1,14 @@
 //! What everybody is served of the contest as a whole.
-ghost use Rattle.std.specs.Prelude.{◌≡◌, false, IfOk};
-ghost use Rattle.serde_json.specs.View.{view};
-ghost use Rattle.serde_json.specs.Written.{has_float};
-ghost use Rattle.contest_objects.specs.ContestObjects.{contest_data, state_data, whole_data};
-ghost use Rattle.contest_objects.specs.StateObject.{state_times};
+ghost use Rattle.std.specs.Prelude.{OnOk};
+ghost use Rattle.contest_objects.specs.ContestObjects.{state_data};
+ghost use Rattle.contest_objects.specs.JsonTokens.{Wrote, data_tokens};
 
-use crate::members::{Member, object_of};
+use crate::json_text::{Served, begin_array, end_array};
+use crate::members::{Member, write_object};
 use crate::state_object::{StateTimes, state_times};
 use contest_types::{Fixed, Marks, Moment, Settings};
-use serde_json::Value;
-use std::alloc::{AllocError, Global};
+use json::Writer;
+use std::alloc::AllocError;
 
 /// What is read of the contest as a whole (Contest API 2023-06, contests and contest state).
 #[derive(Clone, Copy)]
@@ -23,91 +22,110 @@ pub enum ContestEndpoint {
 }
 
 /// What everybody is served of it at a moment: it goes by the settings and the marks alone.
-///
-/// # Errors
-///
-/// Want of memory alone.
-pub fn whole_value(
-    alloc: Global,
-    fixed: &Fixed,
-    now: Moment,
-    endpoint: ContestEndpoint,
-) -> Result<Value, AllocError>
-    ensures value { IfOk result (λ v. view v ≡ whole_data endpoint fixed.now now) }
-    ensures no_floats { IfOk result (λ v. has_float (view v) ≡ false) }
-{
-    match endpoint {
-        ContestEndpoint::Contests => {
-            let mut contests = Vec::new(alloc);
-            contests.push(contest_value(alloc, &fixed.settings, &fixed.marks)?)?;
-            Ok(Value::Array(contests))
+#[derive(Clone, Copy)]
+pub struct WholeContest<'a> {
+    /// The contest's settings and marks.
+    pub fixed: &'a Fixed,
+    /// The moment.
+    pub now: Moment,
+    /// What is read.
+    pub endpoint: ContestEndpoint,
+}
+
+impl<'a> Served for WholeContest<'a> {
+    ghost use Rattle.contest_objects.specs.ContestObjects.{whole_data};
+
+    ghost value = { λ o. whole_data o.endpoint o.fixed.now o.now };
+
+    fn write(&self, out: &mut Writer) -> Result<(), AllocError> {
+        let (settings, marks) = (&self.fixed.settings, &self.fixed.marks);
+        let contest = ContestObject { settings, marks };
+        match self.endpoint {
+            ContestEndpoint::Contests => {
+                begin_array(out)?;
+                contest.write(out)?;
+                end_array(out)
+            }
+            ContestEndpoint::Contest => contest.write(out),
+            ContestEndpoint::State => {
+                let now = self.now;
+                let state = StateObject {
+                    settings,
+                    marks,
+                    now,
+                };
+                state.write(out)
+            }
         }
-        ContestEndpoint::Contest => contest_value(alloc, &fixed.settings, &fixed.marks),
-        ContestEndpoint::State => state_value(alloc, &fixed.settings, &fixed.marks, now),
     }
 }
 
 /// The contest with these marks of its clock: `duration`, `id`, `name`, `penalty_time` in minutes,
 /// `scoreboard_freeze_duration`, `scoreboard_thaw_time`, `scoreboard_type` and `start_time`.
-///
-/// # Errors
-///
-/// Want of memory alone.
-#[tactic(auto, using(crate::proofs::ContestObjectLemmas::contest_has_none))]
-pub fn contest_value<'a>(
-    alloc: Global,
-    settings: &'a Settings,
-    marks: &'a Marks,
-) -> Result<Value, AllocError>
-    ensures value { IfOk result (λ v. view v ≡ contest_data settings.now.head marks.now) }
-    ensures no_floats { IfOk result (λ v. has_float (view v) ≡ false) }
-{
-    let head = settings.head();
-    object_of(
-        alloc,
-        &[
-            ("duration", Member::Span(&head.duration)),
-            ("id", Member::Text(head.id.as_str())),
-            ("name", Member::Text(head.name.as_str())),
-            ("penalty_time", Member::Number(u64::from(head.penalty_time))),
-            (
-                "scoreboard_freeze_duration",
-                Member::SpanOrNull(&head.freeze),
-            ),
-            ("scoreboard_thaw_time", Member::TimeOrNull(&marks.thaw)),
-            ("scoreboard_type", Member::Text("pass-fail")),
-            ("start_time", Member::TimeOrNull(&marks.start)),
-        ],
-    )
+#[derive(Clone, Copy)]
+pub struct ContestObject<'a> {
+    /// The contest's settings.
+    pub settings: &'a Settings,
+    /// The marks of its clock.
+    pub marks: &'a Marks,
+}
+
+impl<'a> Served for ContestObject<'a> {
+    ghost use Rattle.contest_objects.specs.ContestObjects.{contest_data};
+
+    ghost value = { λ o. contest_data o.settings.now.head o.marks.now };
+
+    fn write(&self, out: &mut Writer) -> Result<(), AllocError> {
+        let (head, marks) = (self.settings.head(), self.marks);
+        write_object(
+            out,
+            &[
+                ("duration", Member::Span(&head.duration)),
+                ("id", Member::Text(head.id.as_str())),
+                ("name", Member::Text(head.name.as_str())),
+                ("penalty_time", Member::Number(u64::from(head.penalty_time))),
+                (
+                    "scoreboard_freeze_duration",
+                    Member::SpanOrNull(&head.freeze),
+                ),
+                ("scoreboard_thaw_time", Member::TimeOrNull(&marks.thaw)),
+                ("scoreboard_type", Member::Text("pass-fail")),
+                ("start_time", Member::TimeOrNull(&marks.start)),
+            ],
+        )
+    }
 }
 
 /// The state of its clock with these marks, at a moment: `end_of_updates`, `ended`, `finalized`,
 /// `frozen`, `started` and `thawed`.
-///
-/// # Errors
-///
-/// Want of memory alone.
-pub fn state_value(
-    alloc: Global,
-    settings: &Settings,
-    marks: &Marks,
-    now: Moment,
-) -> Result<Value, AllocError>
-    ensures value { IfOk result (λ v. view v ≡ state_data (state_times settings.now marks.now now)) }
-    ensures no_floats { IfOk result (λ v. has_float (view v) ≡ false) }
-{
-    let times = state_times(settings, marks, now);
-    times_value(alloc, &times)
+#[derive(Clone, Copy)]
+pub struct StateObject<'a> {
+    /// The contest's settings.
+    pub settings: &'a Settings,
+    /// The marks of its clock.
+    pub marks: &'a Marks,
+    /// The moment.
+    pub now: Moment,
+}
+
+impl<'a> Served for StateObject<'a> {
+    ghost use Rattle.contest_objects.specs.ContestObjects.{state_data};
+    ghost use Rattle.contest_objects.specs.StateObject.{state_times};
+
+    ghost value = { λ o. state_data (state_times o.settings.now o.marks.now o.now) };
+
+    fn write(&self, out: &mut Writer) -> Result<(), AllocError> {
+        let times = state_times(self.settings, self.marks, self.now);
+        write_times(out, &times)
+    }
 }
 
 // The state with these moments.
-#[tactic(auto, using(crate::proofs::ContestObjectLemmas::state_has_none))]
-fn times_value(alloc: Global, times: &StateTimes) -> Result<Value, AllocError>
-    ensures value { IfOk result (λ v. view v ≡ state_data times.now) }
-    ensures no_floats { IfOk result (λ v. has_float (view v) ≡ false) }
+fn write_times(out: &mut Writer, times: &StateTimes) -> Result<(), AllocError>
+    ensures { OnOk result (Wrote out.old out.new (data_tokens (state_data times.now))) }
 {
-    object_of(
-        alloc,
+    write_object(
+        out,
         &[
             ("end_of_updates", Member::TimeOrNull(&times.end_of_updates)),
             ("ended", Member::TimeOrNull(&times.ended)),

@@ -7,6 +7,7 @@ mod clarification_object;
 mod collection;
 mod contest_objects;
 mod id_numbers;
+mod json_text;
 mod judgement_object;
 mod members;
 mod proposal_object;
@@ -16,17 +17,21 @@ mod state_object;
 mod submission_object;
 mod visible_ids;
 
-pub use award_object::award_value;
-pub use clarification_object::clarification_value;
+pub use award_object::AwardObject;
+pub use clarification_object::ClarificationObject;
 pub use collection::{Collection, Ordered, Whole, get, get_whole, list, list_whole, refs};
-pub use contest_objects::{ContestEndpoint, contest_value, state_value, whole_value};
+pub use contest_objects::{ContestEndpoint, ContestObject, StateObject, WholeContest};
 pub use id_numbers::{rejudging_number, submission_numbers};
-pub use judgement_object::judgement_value;
-pub use members::{Member, contest_time_value, moment_value, object_of, put_all};
-pub use proposal_object::proposal_value;
-pub use rejudging_object::rejudging_value;
-pub use settings_objects::{SettingsEndpoint, setting_by_id, settings_value};
-pub use submission_object::submission_value;
+pub use json_text::{
+    Served, begin_array, begin_object, end_array, end_object, text_of, write_name, write_number,
+    write_string,
+};
+pub use judgement_object::JudgementObject;
+pub use members::{Member, write_member, write_object};
+pub use proposal_object::ProposalObject;
+pub use rejudging_object::RejudgingObject;
+pub use settings_objects::{SettingsEndpoint, setting_text, settings_text};
+pub use submission_object::SubmissionObject;
 pub use visible_ids::{
     clarification_id, has_clarification_id, has_judgement_id, has_submission_id, judgement_id,
     submission_id,

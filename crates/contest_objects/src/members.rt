@@ -1,17 +1,25 @@
-//! Objects by their members, and values that come as texts.
-ghost use Rattle.std.specs.Prelude.{◌≡◌, IfOk, OnOk, map, option_map};
-ghost use Rattle.serde_json.specs.Data.{no_members, object, string};
-ghost use Rattle.serde_json.specs.View.{view, members_view};
+//! Objects by their members, and what stands under a name.
+ghost use Rattle.std.specs.Prelude.{◌≡◌, OnOk, Some, map, option_map};
+ghost use Rattle.std.specs.List.{flat_map};
+ghost use Rattle.serde_json.specs.Data.{Data, object, string};
 ghost use Rattle.contest_types.specs.MomentText.{moment_text};
 ghost use Rattle.contest_types.specs.RelTimeText.{rel_time_text};
-ghost use Rattle.contest_objects.specs.Members.{number_or_null, put_where, shown, text_or_null};
-ghost use Rattle.contest_objects.specs.Members.{with_all};
+ghost use Rattle.contest_types.specs.SettingsNames.{group_id_at};
+ghost use Rattle.contest_types.specs.TeamPlaces.{team_id_at};
+ghost use Rattle.contest_objects.specs.JsonTokens.{Wrote, data_tokens, member_tokens};
+ghost use Rattle.contest_objects.specs.JsonTokens.{value_tokens};
+ghost use Rattle.contest_objects.specs.Members.{in_order, number_or_null, shown, text_or_null};
+ghost use Rattle.contest_objects.specs.Objects.{file_array, ids_data};
 ghost use Rattle.contest_objects.specs.Times.{contest_time_data, moment_or_null, span_data};
 ghost use Rattle.contest_objects.specs.Times.{span_or_null};
 
-use contest_types::{Moment, RelTime, TimeSpan, print_reltime, print_time};
-use serde_json::{Map, Value, put};
-use std::alloc::{AllocError, Global};
+use crate::json_text::{
+    begin_array, begin_object, end_array, end_object, write_flag, write_name, write_null,
+    write_number, write_string,
+};
+use contest_types::{Moment, RelTime, Settings, TimeSpan, print_reltime, print_time};
+use json::Writer;
+use std::alloc::AllocError;
 
 /// What stands under a name.
 #[derive(Clone, Copy)]
@@ -34,163 +42,220 @@ pub enum Member<'a> {
     Time(&'a Moment),
     /// A moment, or null where there is none.
     TimeOrNull(&'a Option<Moment>),
-    /// The time since the start at a moment, or null where no start is set.
+    /// The time since the start at a moment (Contest API 2023-06, `contest_time`), or null where no
+    /// start is set.
     ContestTime(&'a Option<Moment>, &'a Moment),
+    /// The array of the one zip file at a path.
+    File(&'a str),
+    /// The array of the ids of the groups at these places.
+    GroupIds(&'a Settings, &'a [usize]),
+    /// The array of the ids of the teams at these places.
+    TeamIds(&'a Settings, &'a [usize]),
     /// Nothing: the object has no such name.
     Absent,
 }
 
-/// The object with these members, each with its name.
+/// Writes the object with these members, each with its name.
 ///
 /// # Errors
 ///
 /// Want of memory alone.
-pub fn object_of(alloc: Global, members: &[(&str, Member<'_>)]) -> Result<Value, AllocError>
-    ensures { IfOk result (λ v. view v ≡ object (with_all (map (λ m. (m.0.now, shown m.1)) members.now) no_members)) }
+pub fn write_object(out: &mut Writer, members: &[(&str, Member<'_>)]) -> Result<(), AllocError>
+    ensures { (value : Data) → object (in_order (map (λ m. (m.0.now, shown m.1)) members.now)) ≡ value → OnOk result (Wrote out.old out.new (data_tokens value)) }
 {
-    let mut object = Map::new(alloc);
-    put_all(&mut object, alloc, members)?;
-    Ok(Value::Object(object))
+    begin_object(out)?;
+    write_members(out, members)?;
+    end_object(out)
 }
 
-/// Puts these members into an object, each under its name.
-///
-/// # Errors
-///
-/// Want of memory alone.
-pub fn put_all(
-    object: &mut Map<String, Value>,
-    alloc: Global,
-    members: &[(&str, Member<'_>)],
-) -> Result<(), AllocError>
-    ensures { OnOk result (members_view object.new.entries ≡ with_all (map (λ m. (m.0.now, shown m.1)) members.now) (members_view object.old.entries)) }
+// These members, each with its name.
+fn write_members(out: &mut Writer, members: &[(&str, Member<'_>)]) -> Result<(), AllocError>
+    ensures { OnOk result (Wrote out.old out.new (flat_map member_tokens (map (λ m. (m.0.now, shown m.1)) members.now))) }
 {
     for (name, member) in members {
-        put_where(object, alloc, name, member_value(alloc, *member)?)?;
+        write_member(out, name, *member)?;
     }
     Ok(())
 }
 
-/// A member that is only there with a value.
-pub(crate) fn put_where(
-    object: &mut Map<String, Value>,
-    alloc: Global,
-    name: &str,
-    value: Option<Value>,
-) -> Result<(), AllocError>
-    ensures { OnOk result (members_view object.new.entries
-        ≡ put_where (option_map view value) name.now (members_view object.old.entries)) }
-{
-    match value {
-        Some(value) => put(object, alloc, name, value),
-        None => Ok(()),
-    }
-}
-
-fn member_value(alloc: Global, member: Member<'_>) -> Result<Option<Value>, AllocError>
-    ensures { IfOk result (λ found. option_map view found ≡ shown member.entry) }
-{
-    match member {
-        Member::Text(text) => Ok(Some(Value::try_from_str(alloc, text)?)),
-        Member::TextOrNull(text) => Ok(Some(text_or_null(alloc, text)?)),
-        Member::Number(number) => Ok(Some(Value::from(number))),
-        Member::NumberOrNull(number) => Ok(Some(number_or_null(number))),
-        Member::Flag(flag) => Ok(Some(Value::Bool(flag))),
-        Member::Span(span) => Ok(Some(span_value(alloc, *span)?)),
-        Member::SpanOrNull(span) => Ok(Some(span_or_null(alloc, *span)?)),
-        Member::Time(moment) => Ok(Some(moment_value(alloc, *moment)?)),
-        Member::TimeOrNull(moment) => Ok(Some(moment_or_null(alloc, *moment)?)),
-        Member::ContestTime(start, time) => Ok(Some(contest_time_value(alloc, *start, *time)?)),
-        Member::Absent => Ok(None),
-    }
-}
-
-/// The text of a moment.
+/// Writes a name, and what stands under it, if anything.
 ///
 /// # Errors
 ///
 /// Want of memory alone.
-pub fn moment_value(alloc: Global, moment: Moment) -> Result<Value, AllocError>
-    ensures { IfOk result (λ v. view v ≡ string (moment_text moment)) }
+pub fn write_member(out: &mut Writer, name: &str, member: Member<'_>) -> Result<(), AllocError>
+    ensures { OnOk result (Wrote out.old out.new (member_tokens (name.now, shown member.entry))) }
+{
+    match member {
+        Member::Absent => Ok(()),
+        _ => {
+            write_name(out, name)?;
+            write_value(out, member)
+        }
+    }
+}
+
+// What stands under a name.
+fn write_value(out: &mut Writer, member: Member<'_>) -> Result<(), AllocError>
+    ensures { OnOk result (Wrote out.old out.new (value_tokens (shown member.entry))) }
+{
+    match member {
+        Member::Text(text) => write_string(out, text),
+        Member::TextOrNull(text) => write_text_or_null(out, text),
+        Member::Number(number) => write_number(out, number),
+        Member::NumberOrNull(number) => write_number_or_null(out, number),
+        Member::Flag(flag) => write_flag(out, flag),
+        Member::Span(span) => write_span(out, *span),
+        Member::SpanOrNull(span) => write_span_or_null(out, *span),
+        Member::Time(moment) => write_moment(out, *moment),
+        Member::TimeOrNull(moment) => write_moment_or_null(out, *moment),
+        Member::ContestTime(start, time) => write_contest_time(out, *start, *time),
+        Member::File(href) => write_file(out, href),
+        Member::GroupIds(settings, groups) => write_group_ids(out, settings, groups),
+        Member::TeamIds(settings, teams) => write_team_ids(out, settings, teams),
+        Member::Absent => Ok(()),
+    }
+}
+
+fn write_text_or_null(out: &mut Writer, text: Option<&str>) -> Result<(), AllocError>
+    ensures { OnOk result (Wrote out.old out.new (data_tokens (text_or_null (option_map (λ t. t.now) text.entry)))) }
+{
+    match text {
+        Some(text) => write_string(out, text),
+        None => write_null(out),
+    }
+}
+
+fn write_number_or_null(out: &mut Writer, number: Option<u64>) -> Result<(), AllocError>
+    ensures { OnOk result (Wrote out.old out.new (data_tokens (number_or_null number))) }
+{
+    match number {
+        Some(number) => write_number(out, number),
+        None => write_null(out),
+    }
+}
+
+fn write_moment(out: &mut Writer, moment: Moment) -> Result<(), AllocError>
+    ensures { OnOk result (Wrote out.old out.new (data_tokens (string (moment_text moment)))) }
 {
     let text = print_time(moment);
     match std::str::from_utf8(text.as_slice()) {
-        Ok(text) => Value::try_from_str(alloc, text),
+        Ok(text) => write_string(out, text),
         Err(_) => unreachable!(),
     }
 }
 
-/// The text of a time.
-pub(crate) fn reltime_value(alloc: Global, time: RelTime) -> Result<Value, AllocError>
-    ensures { IfOk result (λ v. view v ≡ string (rel_time_text time)) }
+fn write_moment_or_null(out: &mut Writer, moment: Option<Moment>) -> Result<(), AllocError>
+    ensures { OnOk result (Wrote out.old out.new (data_tokens (moment_or_null moment))) }
+{
+    match moment {
+        Some(moment) => write_moment(out, moment),
+        None => write_null(out),
+    }
+}
+
+fn write_reltime(out: &mut Writer, time: RelTime) -> Result<(), AllocError>
+    ensures { OnOk result (Wrote out.old out.new (data_tokens (string (rel_time_text time)))) }
 {
     let mut buffer = [0; 24];
     let length = print_reltime(time, &mut buffer);
     match std::str::from_utf8(&buffer[..length]) {
-        Ok(text) => Value::try_from_str(alloc, text),
+        Ok(text) => write_string(out, text),
         Err(_) => unreachable!(),
     }
 }
 
-fn text_or_null(alloc: Global, text: Option<&str>) -> Result<Value, AllocError>
-    ensures { IfOk result (λ v. view v ≡ text_or_null (option_map (λ t. t.now) text.entry)) }
-{
-    match text {
-        Some(text) => Value::try_from_str(alloc, text),
-        None => Ok(Value::Null),
-    }
-}
-
-fn number_or_null(number: Option<u64>) -> Value
-    ensures { view result ≡ number_or_null number }
-{
-    match number {
-        Some(number) => Value::from(number),
-        None => Value::Null,
-    }
-}
-
-fn moment_or_null(alloc: Global, moment: Option<Moment>) -> Result<Value, AllocError>
-    ensures { IfOk result (λ v. view v ≡ moment_or_null moment) }
-{
-    match moment {
-        Some(moment) => moment_value(alloc, moment),
-        None => Ok(Value::Null),
-    }
-}
-
-fn span_or_null(alloc: Global, span: Option<TimeSpan>) -> Result<Value, AllocError>
-    ensures { IfOk result (λ v. view v ≡ span_or_null span) }
-{
-    match span {
-        Some(span) => span_value(alloc, span),
-        None => Ok(Value::Null),
-    }
-}
-
-fn span_value(alloc: Global, span: TimeSpan) -> Result<Value, AllocError>
-    ensures { IfOk result (λ v. view v ≡ span_data span) }
+fn write_span(out: &mut Writer, span: TimeSpan) -> Result<(), AllocError>
+    ensures { OnOk result (Wrote out.old out.new (data_tokens (span_data span))) }
 {
     match RelTime::from_milliseconds(span.milliseconds() as i64) {
-        Some(time) => reltime_value(alloc, time),
+        Some(time) => write_reltime(out, time),
         None => unreachable!(),
     }
 }
 
-/// The time since the start (Contest API 2023-06, `contest_time`); null where no start is set.
-///
-/// # Errors
-///
-/// Want of memory alone.
-pub fn contest_time_value(
-    alloc: Global,
+fn write_span_or_null(out: &mut Writer, span: Option<TimeSpan>) -> Result<(), AllocError>
+    ensures { OnOk result (Wrote out.old out.new (data_tokens (span_or_null span))) }
+{
+    match span {
+        Some(span) => write_span(out, span),
+        None => write_null(out),
+    }
+}
+
+fn write_contest_time(
+    out: &mut Writer,
     start: Option<Moment>,
     time: Moment,
-) -> Result<Value, AllocError>
-    ensures { IfOk result (λ v. view v ≡ contest_time_data start time) }
+) -> Result<(), AllocError>
+    ensures { OnOk result (Wrote out.old out.new (data_tokens (contest_time_data start time))) }
 {
     match start {
-        Some(start) => reltime_value(alloc, RelTime::between(start, time)),
-        None => Ok(Value::Null),
+        Some(start) => write_reltime(out, RelTime::between(start, time)),
+        None => write_null(out),
     }
+}
+
+fn write_file(out: &mut Writer, href: &str) -> Result<(), AllocError>
+    ensures { OnOk result (Wrote out.old out.new (data_tokens (file_array href.now))) }
+{
+    begin_array(out)?;
+    begin_object(out)?;
+    write_text(out, "href", href)?;
+    write_text(out, "mime", "application/zip")?;
+    end_object(out)?;
+    end_array(out)
+}
+
+fn write_text(out: &mut Writer, name: &str, value: &str) -> Result<(), AllocError>
+    ensures { OnOk result (Wrote out.old out.new (member_tokens (name.now, Some (string value.now)))) }
+{
+    write_name(out, name)?;
+    write_string(out, value)
+}
+
+fn write_group_ids(
+    out: &mut Writer,
+    settings: &Settings,
+    groups: &[usize],
+) -> Result<(), AllocError>
+    ensures { OnOk result (Wrote out.old out.new (data_tokens (ids_data (group_id_at settings.now) groups.now))) }
+{
+    begin_array(out)?;
+    write_each_group_id(out, settings, groups)?;
+    end_array(out)
+}
+
+fn write_each_group_id(
+    out: &mut Writer,
+    settings: &Settings,
+    groups: &[usize],
+) -> Result<(), AllocError>
+    ensures { OnOk result (Wrote out.old out.new (flat_map (λ g. data_tokens (string (group_id_at settings.now g))) groups.now)) }
+{
+    for group in groups {
+        write_string(out, settings.group_id(*group))?;
+    }
+    Ok(())
+}
+
+fn write_team_ids(out: &mut Writer, settings: &Settings, teams: &[usize]) -> Result<(), AllocError>
+    ensures { OnOk result (Wrote out.old out.new (data_tokens (ids_data (team_id_at settings.now) teams.now))) }
+{
+    begin_array(out)?;
+    write_each_team_id(out, settings, teams)?;
+    end_array(out)
+}
+
+fn write_each_team_id(
+    out: &mut Writer,
+    settings: &Settings,
+    teams: &[usize],
+) -> Result<(), AllocError>
+    ensures { OnOk result (Wrote out.old out.new (flat_map (λ t. data_tokens (string (team_id_at settings.now t))) teams.now)) }
+{
+    for team in teams {
+        write_string(out, settings.team_id(*team))?;
+    }
+    Ok(())
 }

@@ -1,16 +1,26 @@
 //! Proposed verdicts as the jury is served them.
-ghost use Rattle.std.specs.Prelude.{◌≡◌, false, IfOk};
+ghost use Rattle.std.specs.Prelude.{◌≡◌, OnOk};
 ghost use Rattle.serde_json.specs.Data.{object};
-ghost use Rattle.serde_json.specs.View.{view};
-ghost use Rattle.serde_json.specs.Written.{has_float};
-ghost use Rattle.contest_objects.specs.ProposalObjects.{proposal_data, proposal_members};
-ghost use Rattle.contest_objects.specs.ProposalObjects.{proposer_id};
+ghost use Rattle.contest_objects.specs.JsonTokens.{Wrote, data_tokens};
+ghost use Rattle.contest_objects.specs.ProposalObjects.{proposal_members, proposer_id};
 
-use crate::members::{Member, object_of};
+use crate::json_text::Served;
+use crate::members::{Member, write_object};
 use crate::visible_ids::submission_id;
 use contest_types::{Moment, Proposal, Proposer, Settings};
-use serde_json::Value;
-use std::alloc::{AllocError, Global};
+use json::Writer;
+use std::alloc::AllocError;
+
+/// A proposal (own): `account_id`, `judgement_type_id`, `released`, `submission_id` and `time`.
+#[derive(Clone, Copy)]
+pub struct ProposalObject<'a> {
+    /// The contest's settings.
+    pub settings: &'a Settings,
+    /// The proposal.
+    pub proposal: &'a Proposal,
+    /// Whether its submission has a release.
+    pub released: bool,
+}
 
 /// What stands in a proposal's members.
 #[derive(Drop)]
@@ -22,39 +32,30 @@ struct Members<'a> {
     time: &'a Moment,
 }
 
-/// The JSON value of a proposal (own): `account_id`, `judgement_type_id`, `released`, which is
-/// whether its submission has a release, `submission_id` and `time`.
-///
-/// # Errors
-///
-/// Want of memory alone.
-#[tactic(auto, using(crate::proofs::ProposalObjectLemmas::proposal_has_no_float))]
-pub fn proposal_value(
-    alloc: Global,
-    settings: &Settings,
-    proposal: &Proposal,
-    released: bool,
-) -> Result<Value, AllocError>
-    ensures value { IfOk result (λ v. view v ≡ proposal_data settings.now proposal.now released) }
-    ensures no_floats { IfOk result (λ v. has_float (view v) ≡ false) }
-{
-    let submission = submission_id(proposal.team, proposal.number);
-    let members = Members {
-        account: proposer_id(&proposal.proposer),
-        judgement_type: settings.judgement_type_id(proposal.verdict),
-        released,
-        submission: submission.as_str(),
-        time: &proposal.time,
-    };
-    proposal_object(alloc, members)
+impl<'a> Served for ProposalObject<'a> {
+    ghost use Rattle.contest_objects.specs.ProposalObjects.{proposal_data};
+
+    ghost value = { λ o. proposal_data o.settings.now o.proposal.now o.released };
+
+    fn write(&self, out: &mut Writer) -> Result<(), AllocError> {
+        let submission = submission_id(self.proposal.team, self.proposal.number);
+        let members = Members {
+            account: proposer_id(&self.proposal.proposer),
+            judgement_type: self.settings.judgement_type_id(self.proposal.verdict),
+            released: self.released,
+            submission: submission.as_str(),
+            time: &self.proposal.time,
+        };
+        write_proposal(out, members)
+    }
 }
 
 // The object with these members.
-fn proposal_object(alloc: Global, members: Members<'_>) -> Result<Value, AllocError>
-    ensures { IfOk result (λ v. view v ≡ object (proposal_members members.entry.account.now members.entry.judgement_type.now members.entry.released members.entry.submission.now members.entry.time.now)) }
+fn write_proposal(out: &mut Writer, members: Members<'_>) -> Result<(), AllocError>
+    ensures { OnOk result (Wrote out.old out.new (data_tokens (object (proposal_members members.entry.account.now members.entry.judgement_type.now members.entry.released members.entry.submission.now members.entry.time.now)))) }
 {
-    object_of(
-        alloc,
+    write_object(
+        out,
         &[
             ("account_id", Member::Text(members.account)),
             ("judgement_type_id", Member::Text(members.judgement_type)),

@@ -1,26 +1,32 @@
 //! Rejudgings as the jury is served them.
-ghost use Rattle.std.specs.Prelude.{◌≡◌, false, map, option_map, codes, IfOk};
-ghost use Rattle.serde_json.specs.Data.{member, no_members, object, string};
-ghost use Rattle.serde_json.specs.View.{members_view, view};
-ghost use Rattle.serde_json.specs.Written.{has_float};
+ghost use Rattle.std.specs.Prelude.{◌≡◌, OnOk, map, option_map};
+ghost use Rattle.std.specs.List.{flat_map};
+ghost use Rattle.serde_json.specs.Data.{array, object};
+ghost use Rattle.serde_json.specs.View.{items_of};
 ghost use Rattle.contest_types.specs.SettingsNames.{type_id_at};
+ghost use Rattle.contest_objects.specs.JsonTokens.{Wrote, data_tokens};
 ghost use Rattle.contest_objects.specs.RejudgingObjects.{is_ready, member_data, member_parts};
-ghost use Rattle.contest_objects.specs.RejudgingObjects.{rejudging_data, state_name};
-ghost use Rattle.contest_objects.specs.RejudgingObjects.{verdict_so_far};
+ghost use Rattle.contest_objects.specs.RejudgingObjects.{state_name, verdict_so_far};
 
-use crate::members::{Member, object_of, put_all};
+use crate::json_text::{Served, begin_array, begin_object, end_array, end_object, write_name};
+use crate::members::{Member, write_member, write_object};
 use crate::visible_ids::submission_id;
 use contest_types::{Member as Rejudged, MemberState, Rejudging, RejudgingState, Settings};
 use itoa::Buffer;
-use serde_json::{Map, Value, put};
-use std::alloc::{AllocError, Global};
+use json::Writer;
+use std::alloc::AllocError;
 
-/// The texts of a rejudging.
-#[derive(Drop)]
-struct Texts<'a> {
-    id: &'a str,
-    reason: &'a str,
-    state: &'a str,
+/// A rejudging (own): `id`, which is its number, `members`, as they were named, `reason` and
+/// `state`. A member has `judgement_type_id`, also where that is only proposed, `ready` and
+/// `submission_id`.
+#[derive(Clone, Copy)]
+pub struct RejudgingObject<'a> {
+    /// The contest's settings.
+    pub settings: &'a Settings,
+    /// The rejudging's number, from 1.
+    pub number: usize,
+    /// The rejudging.
+    pub rejudging: &'a Rejudging,
 }
 
 /// What stands in a member.
@@ -31,80 +37,50 @@ struct MemberParts<'a> {
     submission: &'a str,
 }
 
-/// The JSON value of the rejudging with a number, from 1 (own): `id`, which is its number,
-/// `members`, as they were named, `reason` and `state`. A member has `judgement_type_id`, also
-/// where that is only proposed, `ready` and `submission_id`.
-///
-/// # Errors
-///
-/// Want of memory alone.
-pub fn rejudging_value(
-    alloc: Global,
-    settings: &Settings,
-    number: usize,
-    rejudging: &Rejudging,
-) -> Result<Value, AllocError>
-    ensures value { IfOk result (λ v. view v ≡ rejudging_data settings.now number rejudging.now) }
-    ensures no_floats { IfOk result (λ v. has_float (view v) ≡ false) }
-{
-    let value = rejudging_object(alloc, settings, number, rejudging)?;
-    Ok(value)
+impl<'a> Served for RejudgingObject<'a> {
+    ghost use Rattle.contest_objects.specs.RejudgingObjects.{rejudging_data};
+
+    ghost value = { λ o. rejudging_data o.settings.now o.number o.rejudging.now };
+
+    fn write(&self, out: &mut Writer) -> Result<(), AllocError> {
+        let mut digits = Buffer::new();
+        let id = Member::Text(digits.format(self.number));
+        let reason = Member::Text(self.rejudging.reason.as_str());
+        let state = Member::Text(state_name(self.rejudging.state));
+        begin_object(out)?;
+        write_member(out, "id", id)?;
+        write_name(out, "members")?;
+        write_rejudged(out, self.settings, self.rejudging.members.as_slice())?;
+        write_member(out, "reason", reason)?;
+        write_member(out, "state", state)?;
+        end_object(out)
+    }
 }
 
-fn rejudging_object(
-    alloc: Global,
-    settings: &Settings,
-    number: usize,
-    rejudging: &Rejudging,
-) -> Result<Value, AllocError>
-    ensures { IfOk result (λ v. view v ≡ rejudging_data settings.now number rejudging.now) }
-{
-    let members = member_values(alloc, settings, rejudging.members.as_slice())?;
-    let mut digits = Buffer::new();
-    let texts = Texts {
-        id: digits.format(number),
-        reason: rejudging.reason.as_str(),
-        state: state_name(rejudging.state),
-    };
-    let mut object = texts_object(alloc, texts)?;
-    put(&mut object, alloc, "members", Value::Array(members))?;
-    Ok(Value::Object(object))
-}
-
-// An object with the texts of a rejudging.
-fn texts_object(alloc: Global, texts: Texts<'_>) -> Result<Map<String, Value>, AllocError>
-    ensures { IfOk result (λ o. members_view o.entries ≡ member (codes "id") (string texts.entry.id.now) (member (codes "reason") (string texts.entry.reason.now) (member (codes "state") (string texts.entry.state.now) no_members))) }
-{
-    let mut object = Map::new(alloc);
-    put_all(
-        &mut object,
-        alloc,
-        &[
-            ("id", Member::Text(texts.id)),
-            ("reason", Member::Text(texts.reason)),
-            ("state", Member::Text(texts.state)),
-        ],
-    )?;
-    Ok(object)
-}
-
-// The values of the members.
-fn member_values(
-    alloc: Global,
+// The array of the members.
+fn write_rejudged(
+    out: &mut Writer,
     settings: &Settings,
     members: &[Rejudged],
-) -> Result<Vec<Value>, AllocError>
-    ensures { IfOk result (λ v. map view v.items ≡ map (member_data settings.now) members.now) }
+) -> Result<(), AllocError>
+    ensures { OnOk result (Wrote out.old out.new (data_tokens (array (items_of (map (member_data settings.now) members.now))))) }
 {
-    let mut values = Vec::new(alloc);
-    for member in members {
-        values.push(member_value(alloc, settings, member)?)?;
-    }
-    Ok(values)
+    begin_array(out)?;
+    write_each(out, settings, members)?;
+    end_array(out)
 }
 
-fn member_value(alloc: Global, settings: &Settings, member: &Rejudged) -> Result<Value, AllocError>
-    ensures { IfOk result (λ v. view v ≡ member_data settings.now member.now) }
+fn write_each(out: &mut Writer, settings: &Settings, members: &[Rejudged]) -> Result<(), AllocError>
+    ensures { OnOk result (Wrote out.old out.new (flat_map (λ m. data_tokens (member_data settings.now m)) members.now)) }
+{
+    for member in members {
+        write_one(out, settings, member)?;
+    }
+    Ok(())
+}
+
+fn write_one(out: &mut Writer, settings: &Settings, member: &Rejudged) -> Result<(), AllocError>
+    ensures { OnOk result (Wrote out.old out.new (data_tokens (member_data settings.now member.now))) }
 {
     let submission = submission_id(member.team, member.number);
     let parts = MemberParts {
@@ -112,14 +88,14 @@ fn member_value(alloc: Global, settings: &Settings, member: &Rejudged) -> Result
         ready: is_ready(&member.state),
         submission: submission.as_str(),
     };
-    member_object(alloc, parts)
+    write_parts(out, parts)
 }
 
-fn member_object(alloc: Global, parts: MemberParts<'_>) -> Result<Value, AllocError>
-    ensures { IfOk result (λ v. view v ≡ object (member_parts (option_map (λ t. t.now) parts.entry.judgement_type) parts.entry.ready parts.entry.submission.now)) }
+fn write_parts(out: &mut Writer, parts: MemberParts<'_>) -> Result<(), AllocError>
+    ensures { OnOk result (Wrote out.old out.new (data_tokens (object (member_parts (option_map (λ t. t.now) parts.entry.judgement_type) parts.entry.ready parts.entry.submission.now)))) }
 {
-    object_of(
-        alloc,
+    write_object(
+        out,
         &[
             (
                 "judgement_type_id",

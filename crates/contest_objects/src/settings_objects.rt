@@ -1,16 +1,13 @@
 //! The rows of a contest's settings as they are served: everybody is served all of them alike.
-ghost use Rattle.std.specs.Prelude.{◌≡◌, false, IfOk, IfSome, map, option_map};
-ghost use Rattle.serde_json.specs.Data.{string};
-ghost use Rattle.serde_json.specs.View.{view};
-ghost use Rattle.serde_json.specs.Written.{has_float};
-ghost use Rattle.contest_types.specs.SettingsNames.{group_id_at};
+ghost use Rattle.std.specs.Prelude.{◌≡◌, IfOk, option_map};
+ghost use Rattle.serde_json.specs.Written.{compact_text};
 ghost use Rattle.contest_objects.specs.SettingsObjects.{problems_data, setting_found};
-ghost use Rattle.contest_objects.specs.SettingsObjects.{settings_data, team_item};
+ghost use Rattle.contest_objects.specs.SettingsObjects.{settings_data};
 
-use crate::collection::{Collection, Whole, get_whole, list_whole, value_at};
-use crate::members::{Member, object_of, put_all};
+use crate::collection::{Collection, Whole, get_whole, list_at, list_whole};
+use crate::members::{Member, write_object};
 use contest_types::{Group, JudgementType, Language, Problem, Settings, Team, problem_order};
-use serde_json::{Map, Value, put};
+use json::Writer;
 use std::alloc::{AllocError, Global};
 
 /// A collection of the settings (Contest API 2023-06, endpoints).
@@ -28,18 +25,17 @@ pub enum SettingsEndpoint {
     Teams,
 }
 
-/// The array of an endpoint's objects.
+/// The text of the array of an endpoint's objects.
 ///
 /// # Errors
 ///
 /// Want of memory alone.
-pub fn settings_value(
+pub fn settings_text(
     alloc: Global,
     settings: &Settings,
     endpoint: SettingsEndpoint,
-) -> Result<Value, AllocError>
-    ensures value { IfOk result (λ v. view v ≡ settings_data endpoint settings.now) }
-    ensures no_floats { IfOk result (λ v. has_float (view v) ≡ false) }
+) -> Result<Vec<u8>, AllocError>
+    ensures { IfOk result (λ text. text.items ≡ compact_text (settings_data endpoint settings.now)) }
 {
     match endpoint {
         SettingsEndpoint::Languages => list_whole(alloc, &Languages, settings.languages()),
@@ -49,24 +45,23 @@ pub fn settings_value(
             settings.judgement_types(),
         ),
         SettingsEndpoint::Groups => list_whole(alloc, &Groups, settings.groups()),
-        SettingsEndpoint::Problems => problems_value(alloc, settings),
+        SettingsEndpoint::Problems => problems_text(alloc, settings),
         SettingsEndpoint::Teams => list_whole(alloc, &Teams { settings }, settings.teams()),
     }
 }
 
-/// The object of an endpoint with an id, if there is one.
+/// The text of the object of an endpoint with an id, if there is one.
 ///
 /// # Errors
 ///
 /// Want of memory alone.
-pub fn setting_by_id(
+pub fn setting_text(
     alloc: Global,
     settings: &Settings,
     endpoint: SettingsEndpoint,
     id: &[u8],
-) -> Result<Option<Value>, AllocError>
-    ensures value { IfOk result (λ found. option_map view found ≡ setting_found endpoint settings.now id.now) }
-    ensures no_floats { IfOk result (λ found. IfSome found (λ v. has_float (view v) ≡ false)) }
+) -> Result<Option<Vec<u8>>, AllocError>
+    ensures { IfOk result (λ found. option_map (λ text. text.items) found ≡ option_map compact_text (setting_found endpoint settings.now id.now)) }
 {
     match endpoint {
         SettingsEndpoint::Languages => get_whole(alloc, &Languages, settings.languages(), id),
@@ -82,12 +77,11 @@ pub fn setting_by_id(
     }
 }
 
-fn problems_value(alloc: Global, settings: &Settings) -> Result<Value, AllocError>
-    ensures value { IfOk result (λ v. view v ≡ problems_data settings.now) }
-    ensures no_floats { IfOk result (λ v. has_float (view v) ≡ false) }
+fn problems_text(alloc: Global, settings: &Settings) -> Result<Vec<u8>, AllocError>
+    ensures { IfOk result (λ text. text.items ≡ compact_text (problems_data settings.now)) }
 {
     let places = problem_order(alloc, settings)?;
-    value_at(alloc, &Problems, settings.problems(), &places)
+    list_at(alloc, &Problems, settings.problems(), &places)
 }
 
 /// Judgement types (Contest API 2023-06, judgement-types): `id`, `name`, `penalty` and `solved`.
@@ -106,17 +100,16 @@ impl Collection for JudgementTypes {
         row.id.as_bytes() == id
     }
 
-    fn object(&self, alloc: Global, row: &JudgementType) -> Result<Option<Value>, AllocError> {
-        let value = object_of(
-            alloc,
+    fn write(&self, out: &mut Writer, row: &JudgementType) -> Result<(), AllocError> {
+        write_object(
+            out,
             &[
                 ("id", Member::Text(row.id.as_str())),
                 ("name", Member::Text(row.name.as_str())),
                 ("penalty", Member::Flag(row.penalty)),
                 ("solved", Member::Flag(row.solved)),
             ],
-        )?;
-        Ok(Some(value))
+        )
     }
 }
 
@@ -145,9 +138,9 @@ impl Collection for Languages {
         row.id.as_bytes() == id
     }
 
-    fn object(&self, alloc: Global, row: &Language) -> Result<Option<Value>, AllocError> {
-        let value = object_of(
-            alloc,
+    fn write(&self, out: &mut Writer, row: &Language) -> Result<(), AllocError> {
+        write_object(
+            out,
             &[
                 (
                     "entry_point_required",
@@ -156,8 +149,7 @@ impl Collection for Languages {
                 ("id", Member::Text(row.id.as_str())),
                 ("name", Member::Text(row.name.as_str())),
             ],
-        )?;
-        Ok(Some(value))
+        )
     }
 }
 
@@ -186,17 +178,16 @@ impl Collection for Problems {
         row.id.as_bytes() == id
     }
 
-    fn object(&self, alloc: Global, row: &Problem) -> Result<Option<Value>, AllocError> {
-        let value = object_of(
-            alloc,
+    fn write(&self, out: &mut Writer, row: &Problem) -> Result<(), AllocError> {
+        write_object(
+            out,
             &[
                 ("id", Member::Text(row.id.as_str())),
                 ("label", Member::Text(row.label.as_str())),
                 ("name", Member::Text(row.name.as_str())),
                 ("ordinal", Member::Number(u64::from(row.ordinal))),
             ],
-        )?;
-        Ok(Some(value))
+        )
     }
 }
 
@@ -225,15 +216,14 @@ impl Collection for Groups {
         row.id.as_bytes() == id
     }
 
-    fn object(&self, alloc: Global, row: &Group) -> Result<Option<Value>, AllocError> {
-        let value = object_of(
-            alloc,
+    fn write(&self, out: &mut Writer, row: &Group) -> Result<(), AllocError> {
+        write_object(
+            out,
             &[
                 ("id", Member::Text(row.id.as_str())),
                 ("name", Member::Text(row.name.as_str())),
             ],
-        )?;
-        Ok(Some(value))
+        )
     }
 }
 
@@ -264,10 +254,19 @@ impl<'a> Collection for Teams<'a> {
         row.id.as_bytes() == id
     }
 
-    #[tactic(auto, using(crate::proofs::SettingsObjectLemmas::team_has_none))]
-    fn object(&self, alloc: Global, row: &Team) -> Result<Option<Value>, AllocError> {
-        let value = team_value(alloc, self.settings, row)?;
-        Ok(Some(value))
+    fn write(&self, out: &mut Writer, row: &Team) -> Result<(), AllocError> {
+        write_object(
+            out,
+            &[
+                (
+                    "group_ids",
+                    Member::GroupIds(self.settings, row.groups.as_slice()),
+                ),
+                ("hidden", Member::Flag(row.hidden)),
+                ("id", Member::Text(row.id.as_str())),
+                ("name", Member::Text(row.name.as_str())),
+            ],
+        )
     }
 }
 
@@ -278,33 +277,4 @@ impl<'a> Whole for Teams<'a> {
     ghost whole = { λ c. team_item c.settings.now };
 
     ghost all = { λ c row. refl };
-}
-
-fn team_value(alloc: Global, settings: &Settings, row: &Team) -> Result<Value, AllocError>
-    ensures { IfOk result (λ v. view v ≡ (team_item settings.now row.now).object) }
-{
-    let groups = Value::Array(group_ids(alloc, settings, row.groups.as_slice())?);
-    let mut object = Map::new(alloc);
-    put_all(
-        &mut object,
-        alloc,
-        &[
-            ("hidden", Member::Flag(row.hidden)),
-            ("id", Member::Text(row.id.as_str())),
-            ("name", Member::Text(row.name.as_str())),
-        ],
-    )?;
-    put(&mut object, alloc, "group_ids", groups)?;
-    Ok(Value::Object(object))
-}
-
-// The ids of the groups at these places.
-fn group_ids(alloc: Global, settings: &Settings, groups: &[usize]) -> Result<Vec<Value>, AllocError>
-    ensures { IfOk result (λ v. map view v.items ≡ map (λ g. string (group_id_at settings.now g)) groups.now) }
-{
-    let mut ids = Vec::new(alloc);
-    for group in groups {
-        ids.push(Value::try_from_str(alloc, settings.group_id(*group))?)?;
-    }
-    Ok(ids)
 }

@@ -1,87 +1,97 @@
 //! Submissions as they are served.
-ghost use Rattle.std.specs.Prelude.{◌≡◌, IfOk, None, Some, false, if◌then◌else◌, option_map};
-ghost use Rattle.std.specs.Prelude.{string_bytes};
+ghost use Rattle.std.specs.Prelude.{◌≡◌, ◌≤◌, None, OnOk, Some, if◌then◌else◌, length};
+ghost use Rattle.std.specs.Prelude.{option_map};
 ghost use Rattle.serde_json.specs.Data.{object, string};
-ghost use Rattle.serde_json.specs.View.{view};
-ghost use Rattle.serde_json.specs.Written.{has_float};
-ghost use Rattle.contest_types.specs.Sight.{program_for};
-ghost use Rattle.contest_types.specs.VisibleIds.{submission_id};
+ghost use Rattle.contest_types.specs.MomentText.{moment_text};
+ghost use Rattle.contest_objects.specs.JsonTokens.{Wrote, data_tokens};
 ghost use Rattle.contest_objects.specs.Members.{shown as shown_as};
-ghost use Rattle.contest_objects.specs.Objects.{file_array, files_data, files_path};
-ghost use Rattle.contest_objects.specs.Objects.{submission_data, submission_members};
+ghost use Rattle.contest_objects.specs.Objects.{file_array, files_path, submission_members};
+ghost use Rattle.contest_objects.specs.Times.{contest_time_data};
 
-use crate::members::{Member, contest_time_value, moment_value, put_all, put_where};
+use crate::json_text::Served;
+use crate::members::{Member, write_object};
 use crate::visible_ids::submission_id;
-use contest_types::{Audience, Fixed, Name, Settings, Submission, knows_all_of};
-use serde_json::{Map, Value, json, put};
-use std::alloc::{AllocError, Global};
+use arrayvec::ArrayString;
+use contest_types::{Audience, Fixed, Id, Moment, Name, Submission, knows_all_of};
+use json::Writer;
+use std::alloc::AllocError;
+
+/// Room for the longest path of a file.
+const PATH: usize = 256;
+
+/// A submission that an audience sees (Contest API 2023-06, submission object): `contest_time`,
+/// `id`, `language_id`, `problem_id`, `team_id` and `time`; for the team itself and the jury also
+/// `files`, and `entry_point` where one was given.
+#[derive(Clone, Copy)]
+pub struct SubmissionObject<'a> {
+    /// The contest's settings and marks.
+    pub fixed: &'a Fixed,
+    /// Who sees it.
+    pub audience: Audience,
+    /// The submission.
+    pub submission: &'a Submission,
+}
 
 /// What stands in a submission's members.
 #[derive(Drop)]
 struct Members<'a> {
-    contest_time: Value,
     entry_point: Member<'a>,
-    files: Option<Value>,
+    files: Member<'a>,
     id: &'a str,
     language: &'a str,
     problem: &'a str,
+    start: &'a Option<Moment>,
     team: &'a str,
-    time: Value,
+    time: &'a Moment,
 }
 
-/// The JSON value of a submission that an audience sees (Contest API 2023-06, submission object):
-/// `contest_time`, `id`, `language_id`, `problem_id`, `team_id` and `time`; for the team itself and
-/// the jury also `files`, and `entry_point` where one was given.
-///
-/// # Errors
-///
-/// Want of memory alone.
-#[tactic(auto, using(crate::proofs::ObjectLemmas::has_no_float))]
-pub fn submission_value(
-    alloc: Global,
-    fixed: &Fixed,
-    audience: Audience,
-    submission: &Submission,
-) -> Result<Value, AllocError>
-    ensures value { IfOk result (λ v. view v ≡ submission_data fixed.now submission.now.team submission.now.number submission.now.time
-        submission.now.problem submission.now.language (program_for audience submission.now)) }
-    ensures no_floats { IfOk result (λ v. has_float (view v) ≡ false) }
-{
-    let settings = &fixed.settings;
-    let shown = knows_all_of(audience, submission.team);
-    let id = submission_id(submission.team, submission.number);
-    let members = Members {
-        contest_time: contest_time_value(alloc, fixed.marks.start, submission.time)?,
-        entry_point: entry_point_where(shown, &submission.entry_point),
-        files: files_where(alloc, shown, settings, id.as_str())?,
-        id: id.as_str(),
-        language: settings.language_id(submission.language),
-        problem: settings.problem_id(submission.problem),
-        team: settings.team_id(submission.team),
-        time: moment_value(alloc, submission.time)?,
-    };
-    submission_object(alloc, members)
+impl<'a> Served for SubmissionObject<'a> {
+    ghost use Rattle.contest_types.specs.Sight.{program_for};
+    ghost use Rattle.contest_objects.specs.Objects.{submission_data};
+
+    ghost value = { λ o. submission_data o.fixed.now o.submission.now.team o.submission.now.number o.submission.now.time
+        o.submission.now.problem o.submission.now.language (program_for o.audience o.submission.now) };
+
+    fn write(&self, out: &mut Writer) -> Result<(), AllocError> {
+        let (settings, submission) = (&self.fixed.settings, self.submission);
+        let shown = knows_all_of(self.audience, submission.team);
+        let id = submission_id(submission.team, submission.number);
+        let path = files_path(&settings.head().id, id.as_str());
+        let members = Members {
+            entry_point: entry_point_where(shown, &submission.entry_point),
+            files: file_where(shown, path.as_str()),
+            id: id.as_str(),
+            language: settings.language_id(submission.language),
+            problem: settings.problem_id(submission.problem),
+            start: &self.fixed.marks.start,
+            team: settings.team_id(submission.team),
+            time: &submission.time,
+        };
+        write_submission(out, members)
+    }
 }
 
 // The object with these members.
-#[tactic(auto, using(crate::proofs::ObjectLemmas::members_in_order))]
-fn submission_object(alloc: Global, members: Members<'_>) -> Result<Value, AllocError>
-    ensures { IfOk result (λ v. view v ≡ object (submission_members (view members.entry.contest_time) (shown_as members.entry.entry_point)
-        (option_map view members.entry.files) members.entry.id.now members.entry.language.now members.entry.problem.now members.entry.team.now (view members.entry.time))) }
+fn write_submission(out: &mut Writer, members: Members<'_>) -> Result<(), AllocError>
+    ensures { OnOk result (Wrote out.old out.new (data_tokens (object (submission_members (contest_time_data members.entry.start.now members.entry.time.now) (shown_as members.entry.entry_point)
+        (shown_as members.entry.files) members.entry.id.now members.entry.language.now members.entry.problem.now members.entry.team.now (string (moment_text members.entry.time.now)))))) }
 {
-    let mut object = Map::new(alloc);
-    let texts = [
-        ("entry_point", members.entry_point),
-        ("id", Member::Text(members.id)),
-        ("language_id", Member::Text(members.language)),
-        ("problem_id", Member::Text(members.problem)),
-        ("team_id", Member::Text(members.team)),
-    ];
-    put_all(&mut object, alloc, &texts)?;
-    put(&mut object, alloc, "contest_time", members.contest_time)?;
-    put_where(&mut object, alloc, "files", members.files)?;
-    put(&mut object, alloc, "time", members.time)?;
-    Ok(Value::Object(object))
+    write_object(
+        out,
+        &[
+            (
+                "contest_time",
+                Member::ContestTime(members.start, members.time),
+            ),
+            ("entry_point", members.entry_point),
+            ("files", members.files),
+            ("id", Member::Text(members.id)),
+            ("language_id", Member::Text(members.language)),
+            ("problem_id", Member::Text(members.problem)),
+            ("team_id", Member::Text(members.team)),
+            ("time", Member::Time(members.time)),
+        ],
+    )
 }
 
 // The entry point, where one was given and is shown.
@@ -95,35 +105,26 @@ fn entry_point_where(shown: bool, entry_point: &Option<Name>) -> Member<'_>
 }
 
 // The array of the one file, where it is shown.
-fn files_where(
-    alloc: Global,
-    shown: bool,
-    settings: &Settings,
-    id: &str,
-) -> Result<Option<Value>, AllocError>
-    ensures { IfOk result (λ v. option_map view v ≡ (if shown then Some (files_data settings.now.head.id id.now) else None)) }
+fn file_where(shown: bool, path: &str) -> Member<'_>
+    ensures { shown_as result ≡ (if shown then Some (file_array path.now) else None) }
 {
-    if !shown {
-        return Ok(None);
+    if shown {
+        Member::File(path)
+    } else {
+        Member::Absent
     }
-    Ok(Some(files_value(alloc, settings.head().id.as_str(), id)?))
 }
 
-fn files_value(alloc: Global, contest: &str, id: &str) -> Result<Value, AllocError>
-    ensures { IfOk result (λ v. view v ≡ files_data contest.now id.now) }
+// Where the file of the submission with an id is served.
+fn files_path(contest: &Id, id: &str) -> ArrayString<PATH>
+    requires { length id.now ≤ 160 }
+    ensures { result.bytes ≡ files_path contest.now id.now }
 {
-    let path = files_path(alloc, contest, id)?;
-    file_array(alloc, path.as_str())
-}
-
-fn files_path(alloc: Global, contest: &str, id: &str) -> Result<String, AllocError>
-    ensures { IfOk result (λ path. string_bytes path ≡ files_path contest.now id.now) }
-{
-    format!(in alloc; "contests/{contest}/submissions/{id}/files")
-}
-
-fn file_array(alloc: Global, href: &str) -> Result<Value, AllocError>
-    ensures { IfOk result (λ v. view v ≡ file_array href.now) }
-{
-    json!(in alloc; [{"href": href, "mime": "application/zip"}])
+    let mut path = ArrayString::new();
+    path.push_str("contests/");
+    path.push_str(contest.as_str());
+    path.push_str("/submissions/");
+    path.push_str(id);
+    path.push_str("/files");
+    path
 }

@@ -1,9 +1,8 @@
 //! What an audience that reads is answered. An endpoint of it is a variant in `operation`, and an
 //! arm of `array` and `object` here.
-ghost use Rattle.std.specs.Prelude.{◌≡◌, ℕ, false, true, IfOk, IfSome, Option, option_map};
+ghost use Rattle.std.specs.Prelude.{◌≡◌, ℕ, true, IfOk, Option, option_map};
 ghost use Rattle.serde_json.specs.Data.{Data};
-ghost use Rattle.serde_json.specs.View.{view};
-ghost use Rattle.serde_json.specs.Written.{compact_text, has_float};
+ghost use Rattle.serde_json.specs.Written.{compact_text};
 ghost use Rattle.contest_lists.specs.Lists.{loaded};
 ghost use Rattle.contest_types.specs.State.{ContestState};
 ghost use Rattle.contest_types.specs.Valid.{is_valid};
@@ -17,14 +16,13 @@ use crate::Reply;
 use crate::operation::{Endpoint, JuryReading, Reading};
 use crate::path::{jury_piece, object_piece};
 use contest_lists::Lists;
-use contest_objects::{setting_by_id, settings_value, whole_value};
+use contest_objects::{WholeContest, setting_text, settings_text, text_of};
 use contest_types::{Audience, Refusal, Rows};
 use contest_view::{
-    Seen, award_by_id, awards_value, clarification_by_id, clarifications_value, file_place,
-    group_scoreboard_text, judgement_by_id, judgements_value, named_submission, proposals_value,
-    rejudging_by_id, rejudgings_value, scoreboard_text, submission_by_id, submissions_value,
+    Seen, award_by_id, awards_text, clarification_by_id, clarifications_text, file_place,
+    group_scoreboard_text, judgement_by_id, judgements_text, named_submission, proposals_text,
+    rejudging_by_id, rejudgings_text, scoreboard_text, submission_by_id, submissions_text,
 };
-use serde_json::Value;
 use std::alloc::{AllocError, Global};
 
 /// Whose file is needed to answer an audience that reads a path: by the place of its team, from 0,
@@ -69,62 +67,59 @@ pub fn read(
 {
     match reading {
         Reading::Whole(endpoint) => {
-            let value = whole_value(alloc, seen.lists.fixed(), seen.now, endpoint)?;
-            tell(alloc, Some(value))
+            let (fixed, now) = (seen.lists.fixed(), seen.now);
+            let whole = WholeContest {
+                fixed,
+                now,
+                endpoint,
+            };
+            Ok(Reply::answer(text_of(alloc, &whole)?))
         }
-        Reading::List(endpoint) => {
-            let value = array(alloc, seen, endpoint)?;
-            tell(alloc, Some(value))
-        }
+        Reading::List(endpoint) => Ok(Reply::answer(array(alloc, seen, endpoint)?)),
         Reading::Object(endpoint) => {
             let found = object(alloc, seen, endpoint, object_piece(path))?;
-            tell(alloc, found)
+            Ok(tell(found))
         }
         Reading::File => Ok(tell_file(file)),
-        Reading::Scoreboard => {
-            let text = scoreboard_text(alloc, seen, None)?;
-            Ok(Reply::answer(text))
-        }
+        Reading::Scoreboard => Ok(Reply::answer(scoreboard_text(alloc, seen, None)?)),
         Reading::GroupScoreboard => {
             let found = group_scoreboard_text(alloc, seen, object_piece(path))?;
-            Ok(tell_text(found))
+            Ok(tell(found))
         }
         Reading::Jury(reading) => {
-            let found = jury_value(alloc, seen, reading, jury_piece(path))?;
-            tell(alloc, found)
+            let found = jury_text(alloc, seen, reading, jury_piece(path))?;
+            Ok(tell(found))
         }
     }
 }
 
-// The objects of an endpoint that an audience sees.
-fn array(alloc: Global, seen: &Seen<'_>, endpoint: Endpoint) -> Result<Value, AllocError>
-    ensures seen { (x : ContestState) → Shows seen.entry.now x → IfOk result (λ v. view v ≡ all_data seen.entry.now.audience seen.entry.now.now x endpoint) }
-    ensures no_floats { IfOk result (λ v. has_float (view v) ≡ false) }
+// The text of the objects of an endpoint that an audience sees.
+fn array(alloc: Global, seen: &Seen<'_>, endpoint: Endpoint) -> Result<Vec<u8>, AllocError>
+    ensures { (x : ContestState) → Shows seen.entry.now x → IfOk result (λ text. text.items ≡ compact_text (all_data seen.entry.now.audience seen.entry.now.now x endpoint)) }
 {
     match endpoint {
         Endpoint::Settings(endpoint) => {
-            settings_value(alloc, &seen.lists.fixed().settings, endpoint)
+            settings_text(alloc, &seen.lists.fixed().settings, endpoint)
         }
-        Endpoint::Submissions => submissions_value(alloc, seen),
-        Endpoint::Judgements => judgements_value(alloc, seen),
-        Endpoint::Clarifications => clarifications_value(alloc, seen),
-        Endpoint::Awards => awards_value(alloc, seen),
+        Endpoint::Submissions => submissions_text(alloc, seen),
+        Endpoint::Judgements => judgements_text(alloc, seen),
+        Endpoint::Clarifications => clarifications_text(alloc, seen),
+        Endpoint::Awards => awards_text(alloc, seen),
     }
 }
 
-// The one with an id, if the audience sees one.
+// The text of the one with an id, if the audience sees one.
 fn object(
     alloc: Global,
     seen: &Seen<'_>,
     endpoint: Endpoint,
     id: &[u8],
-) -> Result<Option<Value>, AllocError>
-    ensures seen { (x : ContestState) → Shows seen.entry.now x → IfOk result (λ found. option_map view found ≡ object_found seen.entry.now.audience seen.entry.now.now x endpoint id.now) }
-    ensures no_floats { IfOk result (λ found. IfSome found (λ v. has_float (view v) ≡ false)) }
+) -> Result<Option<Vec<u8>>, AllocError>
+    ensures { (x : ContestState) → Shows seen.entry.now x → IfOk result (λ found. option_map (λ text. text.items) found ≡ option_map compact_text (object_found seen.entry.now.audience seen.entry.now.now x endpoint id.now)) }
 {
     match endpoint {
         Endpoint::Settings(endpoint) => {
-            setting_by_id(alloc, &seen.lists.fixed().settings, endpoint, id)
+            setting_text(alloc, &seen.lists.fixed().settings, endpoint, id)
         }
         Endpoint::Submissions => submission_by_id(alloc, seen, id),
         Endpoint::Judgements => judgement_by_id(alloc, seen, id),
@@ -133,37 +128,24 @@ fn object(
     }
 }
 
-// What only the jury reads, if it is there.
-fn jury_value(
+// The text of what only the jury reads, if it is there.
+fn jury_text(
     alloc: Global,
     seen: &Seen<'_>,
     reading: JuryReading,
     id: &[u8],
-) -> Result<Option<Value>, AllocError>
-    ensures seen { (x : ContestState) → Shows seen.entry.now x → IfOk result (λ found. option_map view found ≡ jury_found seen.entry.now.audience seen.entry.now.now x reading id.now) }
-    ensures no_floats { IfOk result (λ found. IfSome found (λ v. has_float (view v) ≡ false)) }
+) -> Result<Option<Vec<u8>>, AllocError>
+    ensures { (x : ContestState) → Shows seen.entry.now x → IfOk result (λ found. option_map (λ text. text.items) found ≡ option_map compact_text (jury_found seen.entry.now.audience seen.entry.now.now x reading id.now)) }
 {
     match reading {
-        JuryReading::Proposals => Ok(Some(proposals_value(alloc, seen)?)),
-        JuryReading::Rejudgings => Ok(Some(rejudgings_value(alloc, seen)?)),
+        JuryReading::Proposals => Ok(Some(proposals_text(alloc, seen)?)),
+        JuryReading::Rejudgings => Ok(Some(rejudgings_text(alloc, seen)?)),
         JuryReading::Rejudging => rejudging_by_id(alloc, seen, id),
     }
 }
 
-// What is found is told; what isn't seen is as what isn't there.
-fn tell(alloc: Global, found: Option<Value>) -> Result<Reply, AllocError>
-    requires { IfSome found (λ v. has_float (view v) ≡ false) }
-    ensures told { IfOk result (λ reply. reply ≡ told (option_map view found)) }
-    ensures ordinary { IfOk result IsOrdinary }
-{
-    match found {
-        Some(value) => Ok(Reply::answer(value.to_vec(alloc)?)),
-        None => Ok(Reply::refused(Refusal::NotFound)),
-    }
-}
-
-// The text of what is found, where it is that of a value.
-fn tell_text(found: Option<Vec<u8>>) -> Reply
+// The text of what is found, where it is that of a value: what isn't seen is as what isn't there.
+fn tell(found: Option<Vec<u8>>) -> Reply
     ensures told { (value : Option Data) → option_map (λ text. text.items) found ≡ option_map compact_text value → result ≡ told value }
     ensures ordinary { IsOrdinary result }
 {

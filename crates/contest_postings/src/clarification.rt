@@ -1,9 +1,8 @@
 //! A team asks, and the jury answers or announces.
-ghost use Rattle.std.specs.Prelude.{◌≡◌, ◌&&◌, false, find, IfOk};
+ghost use Rattle.std.specs.Prelude.{◌≡◌, ◌&&◌, find, IfOk};
 ghost use Rattle.std.specs.Option.{option_map, option_and_then};
 ghost use Rattle.std.specs.Str.{bytes_eq};
-ghost use Rattle.serde_json.specs.View.{view};
-ghost use Rattle.serde_json.specs.Written.{has_float};
+ghost use Rattle.serde_json.specs.Written.{compact_text};
 ghost use Rattle.contest_types.specs.Sight.{sees_clarification};
 ghost use Rattle.contest_types.specs.VisibleIds.{clarification_id};
 ghost use Rattle.contest_rules.specs.Clarifying.{HasAudience, heard_clarification};
@@ -11,7 +10,7 @@ ghost use Rattle.contest_postings.specs.PostClarification.{own_clarification};
 
 use crate::posting::{Done, Posting};
 use contest_lists::Lists;
-use contest_objects::{clarification_value, has_clarification_id};
+use contest_objects::{ClarificationObject, has_clarification_id, text_of};
 use contest_rules::{
     Decision, RuleRefusal, SaidBefore, Sender, WantedClarification, clarification_on,
     decide_clarification,
@@ -20,7 +19,6 @@ use contest_types::{
     Audience, Clarification, Entry, Fixed, Id, Moment, Reference, Rows, Settings,
     sees_clarification,
 };
-use serde_json::Value;
 use std::alloc::{AllocError, Global};
 
 /// What somebody writes, as whom, and by which account.
@@ -81,28 +79,30 @@ impl<'a> Posting<'a> for Clarifying {
         let mut entries = Rows::new(alloc);
         let text = match done {
             Decision::Add(clarification) => {
-                let text = own_value(alloc, fixed, &clarification)?.to_vec(alloc)?;
+                let text = own_text(alloc, fixed, &clarification)?;
                 entries.push(Entry::NewClarification(clarification))?;
                 text
             }
-            Decision::Stands(before) => {
-                own_value(alloc, fixed, before.clarification)?.to_vec(alloc)?
-            }
+            Decision::Stands(before) => own_text(alloc, fixed, before.clarification)?,
         };
         Ok(Done { text, entries })
     }
 }
 
 // The clarification as who wrote it sees it, as the jury does.
-fn own_value(
+fn own_text(
     alloc: Global,
     fixed: &Fixed,
     clarification: &Clarification,
-) -> Result<Value, AllocError>
-    ensures value { IfOk result (λ v. view v ≡ own_clarification fixed.now clarification.now) }
-    ensures no_floats { IfOk result (λ v. has_float (view v) ≡ false) }
+) -> Result<Vec<u8>, AllocError>
+    ensures { IfOk result (λ text. text.items ≡ compact_text (own_clarification fixed.now clarification.now)) }
 {
-    clarification_value(alloc, fixed, Audience::Jury, clarification)
+    let object = ClarificationObject {
+        fixed,
+        audience: Audience::Jury,
+        clarification,
+    };
+    text_of(alloc, &object)
 }
 
 // The clarification that is answered, if one is and the sender hears it.

@@ -2,7 +2,7 @@
 use crate::judged::JudgedSoFar;
 use crate::posting::{Done, Posting};
 use contest_lists::Lists;
-use contest_objects::{contest_value, state_value};
+use contest_objects::{ContestObject, StateObject, text_of};
 use contest_rules::{ClockChange, RuleRefusal, WantedClock, decide_clock, decide_final};
 use contest_types::{Fixed, Moment, Rows};
 use std::alloc::{AllocError, Global};
@@ -44,8 +44,11 @@ impl<'a> Posting<'a> for SetClock {
     }
 
     fn tell(alloc: Global, fixed: &Fixed, done: ClockChange) -> Result<Done, AllocError> {
-        let value = contest_value(alloc, &fixed.settings, &done.marks)?;
-        let text = value.to_vec(alloc)?;
+        let object = ContestObject {
+            settings: &fixed.settings,
+            marks: &done.marks,
+        };
+        let text = text_of(alloc, &object)?;
         let mut entries = Rows::new(alloc);
         entries.push(done.entry)?;
         Ok(Done { text, entries })
@@ -94,8 +97,12 @@ impl<'a> Posting<'a> for Finalize {
 
     fn tell(alloc: Global, fixed: &Fixed, done: FinalResults) -> Result<Done, AllocError> {
         let FinalResults { now, change } = done;
-        let value = state_value(alloc, &fixed.settings, &change.marks, now)?;
-        let text = value.to_vec(alloc)?;
+        let object = StateObject {
+            settings: &fixed.settings,
+            marks: &change.marks,
+            now,
+        };
+        let text = text_of(alloc, &object)?;
         let mut entries = Rows::new(alloc);
         entries.push(change.entry)?;
         Ok(Done { text, entries })

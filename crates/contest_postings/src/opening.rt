@@ -3,7 +3,7 @@ use crate::judged::JudgedSoFar;
 use crate::named::named_submissions;
 use crate::posting::{Done, Posting};
 use contest_lists::Lists;
-use contest_objects::rejudging_value;
+use contest_objects::{RejudgingObject, text_of};
 use contest_rules::{RuleRefusal, WantedRejudging, decide_opening};
 use contest_types::{Entry, Fixed, Moment, Rejudging, Rows};
 use std::alloc::{AllocError, Global};
@@ -62,8 +62,12 @@ impl<'a> Posting<'a> for Opening {
     }
 
     fn tell(alloc: Global, fixed: &Fixed, done: OpenedRejudging) -> Result<Done, AllocError> {
-        let value = rejudging_value(alloc, &fixed.settings, done.number, &done.rejudging)?;
-        let text = value.to_vec(alloc)?;
+        let object = RejudgingObject {
+            settings: &fixed.settings,
+            number: done.number,
+            rejudging: &done.rejudging,
+        };
+        let text = text_of(alloc, &object)?;
         let mut entries = Rows::new(alloc);
         entries.push(Entry::NewRejudging(done.rejudging))?;
         Ok(Done { text, entries })

@@ -3,7 +3,7 @@ use crate::judged::JudgedSoFar;
 use crate::named::named_verdict;
 use crate::posting::{Done, Posting};
 use contest_lists::Lists;
-use contest_objects::proposal_value;
+use contest_objects::{ProposalObject, text_of};
 use contest_requests::JuryVerdict;
 use contest_rules::{NewVerdict, RuleRefusal, decide_proposal};
 use contest_types::{Fixed, Moment, Rows};
@@ -43,9 +43,12 @@ impl<'a> Posting<'a> for Proposing {
     }
 
     fn tell(alloc: Global, fixed: &Fixed, done: NewVerdict) -> Result<Done, AllocError> {
-        let released = done.release.is_some();
-        let value = proposal_value(alloc, &fixed.settings, &done.proposal, released)?;
-        let text = value.to_vec(alloc)?;
+        let object = ProposalObject {
+            settings: &fixed.settings,
+            proposal: &done.proposal,
+            released: done.release.is_some(),
+        };
+        let text = text_of(alloc, &object)?;
         let mut entries = Rows::new(alloc);
         done.push_into(&mut entries)?;
         Ok(Done { text, entries })

@@ -16,7 +16,7 @@ use crate::judged::JudgedSoFar;
 use crate::named::named_verdict;
 use crate::posting::{Done, Posting};
 use contest_lists::{CopyRow, Lists};
-use contest_objects::rejudging_value;
+use contest_objects::{RejudgingObject, text_of};
 use contest_requests::JuryVerdict;
 use contest_rules::{MemberChange, RuleRefusal, decide_apply, decide_cancel, decide_member};
 use contest_types::{
@@ -95,8 +95,12 @@ impl<'a> Posting<'a> for Rejudge<'a> {
             rejudging,
             entries,
         } = done;
-        let value = rejudging_value(alloc, &fixed.settings, number, &rejudging)?;
-        let text = value.to_vec(alloc)?;
+        let object = RejudgingObject {
+            settings: &fixed.settings,
+            number,
+            rejudging: &rejudging,
+        };
+        let text = text_of(alloc, &object)?;
         Ok(Done { text, entries })
     }
 }

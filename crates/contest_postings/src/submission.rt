@@ -1,16 +1,14 @@
 //! A team submits.
-ghost use Rattle.std.specs.Prelude.{◌≡◌, true, false, IfOk};
-ghost use Rattle.serde_json.specs.View.{view};
-ghost use Rattle.serde_json.specs.Written.{has_float};
+ghost use Rattle.std.specs.Prelude.{◌≡◌, IfOk};
+ghost use Rattle.serde_json.specs.Written.{compact_text};
 ghost use Rattle.contest_postings.specs.PostSubmission.{own_submission};
 
 use crate::own_so_far::own_so_far;
 use crate::posting::{Done, Posting};
 use contest_lists::Lists;
-use contest_objects::submission_value;
+use contest_objects::{SubmissionObject, text_of};
 use contest_rules::{Decision, RuleRefusal, Standing, WantedSubmission, decide_submission};
 use contest_types::{Audience, Entry, Fixed, Moment, Rows, Submission};
-use serde_json::Value;
 use std::alloc::{AllocError, Global};
 
 /// What a team asks for, with the file of the one that has its key.
@@ -62,11 +60,11 @@ impl<'a> Posting<'a> for Submitting<'a> {
         let mut entries = Rows::new(alloc);
         let text = match done {
             Decision::Add(submission) => {
-                let text = own_value(alloc, fixed, &submission)?.to_vec(alloc)?;
+                let text = own_text(alloc, fixed, &submission)?;
                 entries.push(Entry::NewSubmission(submission))?;
                 text
             }
-            Decision::Stands(standing) => standing_value(alloc, fixed, &standing)?.to_vec(alloc)?,
+            Decision::Stands(standing) => standing_text(alloc, fixed, &standing)?,
         };
         Ok(Done { text, entries })
     }
@@ -74,22 +72,25 @@ impl<'a> Posting<'a> for Submitting<'a> {
 
 // The submission as its own team sees it, with its program, as the jury does too.
 #[tactic(auto, using(crate::proofs::PostLemmas::own_as_jury))]
-fn own_value(alloc: Global, fixed: &Fixed, submission: &Submission) -> Result<Value, AllocError>
-    ensures value { IfOk result (λ v. view v ≡ own_submission fixed.now submission.now) }
-    ensures no_floats { IfOk result (λ v. has_float (view v) ≡ false) }
+fn own_text(alloc: Global, fixed: &Fixed, submission: &Submission) -> Result<Vec<u8>, AllocError>
+    ensures { IfOk result (λ text. text.items ≡ compact_text (own_submission fixed.now submission.now)) }
 {
-    submission_value(alloc, fixed, Audience::Jury, submission)
+    let object = SubmissionObject {
+        fixed,
+        audience: Audience::Jury,
+        submission,
+    };
+    text_of(alloc, &object)
 }
 
-// Its file isn't in its value.
+// Its file isn't in its text.
 #[tactic(auto, using(crate::proofs::PostLemmas::own_filed))]
-fn standing_value(
+fn standing_text(
     alloc: Global,
     fixed: &Fixed,
     standing: &Standing<'_>,
-) -> Result<Value, AllocError>
-    ensures value { IfOk result (λ v. view v ≡ own_submission fixed.now standing.now) }
-    ensures no_floats { IfOk result (λ v. has_float (view v) ≡ false) }
+) -> Result<Vec<u8>, AllocError>
+    ensures { IfOk result (λ text. text.items ≡ compact_text (own_submission fixed.now standing.now)) }
 {
-    own_value(alloc, fixed, standing.submission)
+    own_text(alloc, fixed, standing.submission)
 }

@@ -3,7 +3,7 @@ use crate::judged::JudgedSoFar;
 use crate::named::named_verdict;
 use crate::posting::{Done, Posting};
 use contest_lists::Lists;
-use contest_objects::judgement_value;
+use contest_objects::{JudgementObject, text_of};
 use contest_requests::JuryVerdict;
 use contest_rules::{RuleRefusal, decide_verify};
 use contest_types::{Entry, Fixed, Moment, Release, Rows};
@@ -43,8 +43,13 @@ impl<'a> Posting<'a> for Verifying {
     }
 
     fn tell(alloc: Global, fixed: &Fixed, done: Release) -> Result<Done, AllocError> {
-        let value = judgement_value(alloc, fixed, done.team, done.number, &done)?;
-        let text = value.to_vec(alloc)?;
+        let object = JudgementObject {
+            fixed,
+            team: done.team,
+            number: done.number,
+            release: &done,
+        };
+        let text = text_of(alloc, &object)?;
         let mut entries = Rows::new(alloc);
         entries.push(Entry::NewRelease(done))?;
         Ok(Done { text, entries })

@@ -1,16 +1,16 @@
 -- What is served of clarifications.
-use Rattle.std.proofs.Common.{◌≡◌, ◌∙◌, ◌<◌, ◌≤◌, ℕ, Bool, true, false, List, length, Option, Some, None, refl, sym, ap, subst, arith}
+use Rattle.std.proofs.Common.{◌≡◌, ◌∙◌, ◌<◌, ℕ, Bool, true, false, List, Option, Some, None, refl, sym, ap, subst, arith}
 use Rattle.std.specs.Prelude.{◌^◌, if◌then◌else◌}
 use Rattle.std.specs.List.{filter_map}
 use Rattle.std.specs.Option.{option_map, option_and_then}
 use Rattle.std.specs.Ordering.{eq_by_cmp}
 use Rattle.std.proofs.lemmas.List.{map-id}
 use Rattle.std.proofs.lemmas.Map.Lookups.{exact_bytes}
-use Rattle.serde_json.specs.Data.{Data}
+use Rattle.serde_json.specs.Written.{compact_text}
 use Rattle.contest_types.specs.Laws.{IsHeard}
 use Rattle.contest_types.specs.Order.{Has}
 use Rattle.contest_types.specs.Sight.{SeenClarification, clarification_cmp, seen_clarification, seen_clarifications, sees_clarification}
-use Rattle.contest_types.specs.State.{ContestState, same_addressee}
+use Rattle.contest_types.specs.State.{ContestState, FixedPart, same_addressee}
 use Rattle.contest_types.specs.Valid.{is_valid}
 use Rattle.contest_types.specs.VisibleIds.{clarification_id}
 use Rattle.contest_types.specs.declared.audience.Audience.{Audience}
@@ -19,8 +19,9 @@ use Rattle.contest_types.proofs.AddClarification.{addressed_itself}
 use Rattle.contest_types.proofs.HeardWhole.{goes_to, has_few, heard_listed, listed_heard, one_clarification, one_id, one_list, own_number, tests}
 use Rattle.contest_types.proofs.SeenWhole.{both_equal}
 use Rattle.contest_view.specs.Clarifications.{clarification_found, clarifications_data, heard_cmp, heard_row, heard_total, heard_where}
-use Rattle.contest_objects.specs.ClarificationObjects.{clarification_item}
-use Rattle.contest_objects.specs.Items.{Item, IsListed, array_of, found_in}
+use Rattle.contest_objects.specs.ClarificationObjects.{clarification_data, clarification_item}
+use Rattle.contest_objects.specs.Items.{Item, IsListed, array_of, found_in, object_in}
+use Rattle.contest_objects.specs.JsonTokens.{data_tokens, value_tokens}
 use Rattle.contest_view.proofs.Listed.{HaveOwnIds, IsSeenOf, Serves, array_is, found_is}
 use Rattle.contest_objects.proofs.ListingLemmas.{ShownOf, all_served, shown_where, where_shown}
 use Rattle.contest_view.proofs.SeriesApart.{apart}
@@ -68,11 +69,18 @@ own_ids a x valid c d i j hc hd ic jd same =
     let both = told_apart x valid c d hc hd (sym (id c i ic) ∙ (same ∙ id d j jd)) in
     one_clarification x c d valid hc hd both.0 both.1
 
-pub clarifications_are : (a : Audience) (x : ContestState) → is_valid x ≡ true → (d : Data) → IsListed (heard_row x.fixed a) heard_cmp x.clarifications d → d ≡ clarifications_data a x
-clarifications_are a x valid d l =
-    array_is x.clarifications (heard_where a x.fixed.settings) (λ c. c) heard_cmp clarification_cmp (seen_clarifications a x) (heard_of a x valid) (heard_row x.fixed a) (λ v. Some (clarification_item x.fixed v)) (serves a x) d
-    (subst (λ rows. IsListed (heard_row x.fixed a) heard_cmp rows d) (sym (map-id x.clarifications)) l)
-    ∙ ap array_of (all_served (clarification_item x.fixed) (seen_clarifications a x))
+-- the tokens of one that is heard are those of its row
+pub heard_tokens : (f : FixedPart) (a : Audience) (c : Clarification) → sees_clarification a f.settings c ≡ true → data_tokens (clarification_data f (seen_clarification a f.settings c)) ≡ value_tokens (object_in (heard_row f a c))
+heard_tokens f a c h =
+    let seen = seen_clarification a f.settings c in
+    let go : (b : Bool) → b ≡ true → data_tokens (clarification_data f seen) ≡ value_tokens (object_in (option_map (clarification_item f) (if b then Some seen else None))) = elim [ true ↦ λ e. refl | false ↦ λ e. absurd (cc e) ] in
+    go (sees_clarification a f.settings c) h
+
+pub clarifications_are : (a : Audience) (x : ContestState) → is_valid x ≡ true → (text : List ℕ) → IsListed (heard_row x.fixed a) heard_cmp x.clarifications text → text ≡ compact_text (clarifications_data a x)
+clarifications_are a x valid text l =
+    array_is x.clarifications (heard_where a x.fixed.settings) (λ c. c) heard_cmp clarification_cmp (seen_clarifications a x) (heard_of a x valid) (heard_row x.fixed a) (λ v. Some (clarification_item x.fixed v)) (serves a x) text
+    (subst (λ rows. IsListed (heard_row x.fixed a) heard_cmp rows text) (sym (map-id x.clarifications)) l)
+    ∙ ap (λ is. compact_text (array_of is)) (all_served (clarification_item x.fixed) (seen_clarifications a x))
 
 pub clarification_is : (a : Audience) (x : ContestState) → is_valid x ≡ true → (id : List ℕ) → found_in (filter_map (heard_row x.fixed a) x.clarifications) id ≡ clarification_found a x id
 clarification_is a x valid id =

@@ -7,7 +7,6 @@ use Rattle.serde_json.specs.View.{items_of}
 use Rattle.contest_types.specs.Judging.{Proposed, judged, open_proposals, seen_judgements}
 use Rattle.contest_types.specs.Masks.{is_jury}
 use Rattle.contest_types.specs.declared.audience.Audience.{Audience}
-use Rattle.contest_types.specs.declared.audience.Audience.TheVariants as audience
 use Rattle.contest_types.specs.State.{ContestState}
 use Rattle.contest_types.proofs.SightLemmas.{seen_alike, not_jury}
 use Rattle.contest_objects.specs.ProposalObjects.{proposal_data}

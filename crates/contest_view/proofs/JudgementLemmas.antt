@@ -3,7 +3,7 @@ use Rattle.std.proofs.Common.{◌≡◌, ◌∙◌, ◌≤◌, ℕ, Bool, true, 
 use Rattle.std.specs.Prelude.{if◌then◌else◌}
 use Rattle.std.specs.List.{filter_map, last_or}
 use Rattle.std.specs.Option.{option_map, option_and_then}
-use Rattle.serde_json.specs.Data.{Data}
+use Rattle.serde_json.specs.Written.{compact_text}
 use Rattle.contest_types.specs.Judging.{judged}
 use Rattle.contest_types.specs.Loads.{without_file, loaded_submissions}
 use Rattle.contest_types.specs.Masks.{mask_for, verdict_under}
@@ -71,9 +71,9 @@ own_ids a now x last valid s t i j hs ht is it same =
     one_submission x s t valid hs ht both.0 both.1
 
 pub judgements_are : (a : Audience) (now : ℕ) (x : ContestState) → is_valid x ≡ true → (last : ℕ → ℕ → Option Release) → ((team number : ℕ) → last team number ≡ last_row of_release x.releases team number)
-    → (d : Data) → IsListed (judgement_row a now x.fixed last) (row_cmp x.fixed.settings) (loaded_submissions x) d → d ≡ judgements_data a now x
-judgements_are a now x valid last lasts d l =
-    array_is a now x valid (judgement_row a now x.fixed last) (of_seen x.fixed) (serves a now x last lasts) d l ∙ ap array_of (mapped_served (item_of x.fixed) judged (seen_submissions a now x))
+    → (text : List ℕ) → IsListed (judgement_row a now x.fixed last) (row_cmp x.fixed.settings) (loaded_submissions x) text → text ≡ compact_text (judgements_data a now x)
+judgements_are a now x valid last lasts text l =
+    array_is a now x valid (judgement_row a now x.fixed last) (of_seen x.fixed) (serves a now x last lasts) text l ∙ ap (λ is. compact_text (array_of is)) (mapped_served (item_of x.fixed) judged (seen_submissions a now x))
 
 pub judgement_is : (a : Audience) (now : ℕ) (x : ContestState) → is_valid x ≡ true → (last : ℕ → ℕ → Option Release) → ((team number : ℕ) → last team number ≡ last_row of_release x.releases team number)
     → (id : List ℕ) → found_in (filter_map (judgement_row a now x.fixed last) (loaded_submissions x)) id ≡ judgement_found a now x id

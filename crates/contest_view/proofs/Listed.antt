@@ -11,7 +11,7 @@ use Rattle.std.proofs.lemmas.Cmp.{eq_by_cmp_equiv}
 use Rattle.std.proofs.lemmas.List.Sorted.{IsPermutation-sym}
 use Rattle.std.proofs.lemmas.Map.Keys.{IsDistinct-IsPermutation}
 use Rattle.std.proofs.lemmas.Slice.Eq.{bytes_eq-Decides}
-use Rattle.serde_json.specs.Data.{Data}
+use Rattle.serde_json.specs.Written.{compact_text}
 use Rattle.contest_types.specs.Order.{Has, IsInOrder}
 use Rattle.contest_types.proofs.InOrderLemmas.{map_has}
 use Rattle.contest_objects.specs.Items.{Item, IsListed, array_of, found_in}
@@ -45,11 +45,11 @@ Serves {X} show load item of = (x : X) → item (load x) ≡ option_and_then of 
 
 -- so the array of the rows is that of what is seen
 pub array_is : {X Y V : Type 0} (rows : List X) (show : X → Option V) (load : X → Y) (T : Y → Y → Ordering) (S : V → V → Ordering) (seen : List V) → IsSeenOf rows show (λ x y. T (load x) (load y)) S seen
-    → (item : Y → Option Item) (of : V → Option Item) → Serves show load item of → (d : Data) → IsListed item T (map load rows) d → d ≡ array_of (filter_map of seen)
-array_is rows show load T S seen s item of serves d l =
+    → (item : Y → Option Item) (of : V → Option Item) → Serves show load item of → (text : List ℕ) → IsListed item T (map load rows) text → text ≡ compact_text (array_of (filter_map of seen))
+array_is rows show load T S seen s item of serves text l =
     let u = unmap load rows l.order l.moved in
     let up : IsSorted (λ x y. T (load x) (load y)) u.from = sorted_unmap load (λ x y. is_lt (T x y)) u.from (subst (IsSorted T) u.is l.sorted) in
-    l.is ∙ ap array_of (ap (filter_map item) u.is ∙ (served_all item load show of serves u.from ∙ ap (filter_map of) (in_turn rows show (λ x y. T (load x) (load y)) S seen s u.from u.moved up)))
+    l.is ∙ ap (λ is. compact_text (array_of is)) (ap (filter_map item) u.is ∙ (served_all item load show of serves u.from ∙ ap (filter_map of) (in_turn rows show (λ x y. T (load x) (load y)) S seen s u.from u.moved up)))
 
 -- no two rows are served under one id
 abbrev pub HaveOwnIds : {X Y : Type 0} → List X → (load : X → Y) → (item : Y → Option Item) → Type 0

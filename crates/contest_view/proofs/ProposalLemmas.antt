@@ -1,11 +1,12 @@
 -- What is served of the proposals that stand.
-use Rattle.std.proofs.Common.{◌≡◌, ◌∙◌, ℕ, true, Option, Some, None, refl, ap}
+use Rattle.std.proofs.Common.{◌≡◌, ◌∙◌, ℕ, true, Option, Some, None, refl, ap, List}
 use Rattle.std.specs.Prelude.{is_some, if◌then◌else◌}
 use Rattle.std.specs.List.{filter_map, last_or}
 use Rattle.std.specs.Option.{option_map}
 use Rattle.std.proofs.lemmas.Simd.{map-map}
-use Rattle.serde_json.specs.Data.{Data, array}
+use Rattle.serde_json.specs.Data.{array}
 use Rattle.serde_json.specs.View.{items_of}
+use Rattle.serde_json.specs.Written.{compact_text}
 use Rattle.contest_types.specs.Loads.{loaded_submissions}
 use Rattle.contest_types.specs.Judging.{Proposed, waiting}
 use Rattle.contest_types.specs.Masks.{is_jury}
@@ -59,10 +60,10 @@ serves now x last released lasts releases s =
 
 pub proposals_are : (a : Audience) (now : ℕ) (x : ContestState) → is_valid x ≡ true → is_jury a ≡ true → (last : ℕ → ℕ → Option Proposal) (released : ℕ → ℕ → Option Release)
     → ((team number : ℕ) → last team number ≡ last_row of_proposal x.proposals team number) → ((team number : ℕ) → released team number ≡ last_row of_release x.releases team number)
-    → (d : Data) → IsListed (proposal_row x.fixed.settings last released) (row_cmp x.fixed.settings) (loaded_submissions x) d → d ≡ proposals_data a now x
-proposals_are Jury now x valid jury last released lasts releases d l =
+    → (text : List ℕ) → IsListed (proposal_row x.fixed.settings last released) (row_cmp x.fixed.settings) (loaded_submissions x) text → text ≡ compact_text (proposals_data a now x)
+proposals_are Jury now x valid jury last released lasts releases text l =
     let seen = seen_submissions Jury now x in
-    array_is Jury now x valid (proposal_row x.fixed.settings last released) (of_seen x) (serves now x last released lasts releases) d l
-    ∙ (ap array_of (mapped_served (proposed_item x.fixed.settings) (waiting x) seen) ∙ ap (λ ds. array (items_of ds)) (map-map (λ (i : Item). i.object) (proposed_item x.fixed.settings) (filter_map (waiting x) seen)))
-proposals_are Public now x valid jury last released lasts releases d l = absurd (cc jury)
-proposals_are (Team number) now x valid jury last released lasts releases d l = absurd (cc jury)
+    array_is Jury now x valid (proposal_row x.fixed.settings last released) (of_seen x) (serves now x last released lasts releases) text l
+    ∙ (ap (λ is. compact_text (array_of is)) (mapped_served (proposed_item x.fixed.settings) (waiting x) seen) ∙ ap (λ ds. compact_text (array (items_of ds))) (map-map (λ (i : Item). i.object) (proposed_item x.fixed.settings) (filter_map (waiting x) seen)))
+proposals_are Public now x valid jury last released lasts releases text l = absurd (cc jury)
+proposals_are (Team number) now x valid jury last released lasts releases text l = absurd (cc jury)

@@ -1,19 +1,15 @@
--- The rejudging that a number names is the one at its place, and no value of one is a float.
-use Rattle.std.proofs.Common.{◌≡◌, ◌∙◌, ◌+◌, ◌<◌, ◌≤◌, ◌∷◌, ◌++◌, ℕ, zero, suc, Bool, true, false, List, [], length, map, drop, get_or, Option, Some, None, refl, sym, ap, arith, inl, inr}
+-- The rejudging that a number names is the one at its place.
+use Rattle.std.proofs.Common.{◌≡◌, ◌∙◌, ◌+◌, ◌<◌, ◌≤◌, ◌∷◌, ◌++◌, ℕ, zero, suc, Bool, true, false, List, [], length, drop, get_or, Option, Some, None, refl, sym, ap, arith, inl, inr}
 use Rattle.std.specs.Prelude.{◌&&◌, ◌^◌, find, slice_get, if◌then◌else◌}
 use Rattle.std.specs.Fmt.{decimal}
-use Rattle.std.specs.List.{enumerate_from, list_all}
+use Rattle.std.specs.List.{enumerate_from, flat_map, list_all}
 use Rattle.std.specs.Option.{option_map}
 use Rattle.std.specs.Str.{bytes_eq}
 use Rattle.std.proofs.lemmas.Fmt.{decimal_injective}
 use Rattle.std.proofs.lemmas.List.{append_assoc, drop_more}
 use Rattle.std.proofs.lemmas.Slice.Eq.{bytes_eq-Decides}
 use Rattle.std.proofs.lemmas.Bool.{leb-true}
-use Rattle.serde_json.specs.Data.{array}
-use Rattle.serde_json.specs.View.{items_of}
-use Rattle.serde_json.specs.Written.{has_float}
 use Rattle.contest_types.specs.Order.{Has}
-use Rattle.contest_types.specs.Setup.{Setup}
 use Rattle.contest_types.specs.State.{ContestState}
 use Rattle.contest_types.specs.Valid.{is_valid}
 use Rattle.contest_types.specs.ValidRejudgings.{are_different_members, is_valid_rejudging, open_members}
@@ -21,8 +17,7 @@ use Rattle.contest_types.specs.declared.limits.TheConstants.{REJUDGINGS}
 use Rattle.contest_types.specs.declared.rejudging.Rejudging.{Rejudging}
 use Rattle.contest_types.proofs.PlaceLemmas.{and_right}
 use Rattle.contest_types.proofs.ValidParts.{parts}
-use Rattle.contest_objects.proofs.RejudgingObjectLemmas.{rejudging_has_no_float}
-use Rattle.contest_view.specs.Rejudgings.{named_rejudging, numbered_data}
+use Rattle.contest_view.specs.Rejudgings.{named_rejudging}
 
 abbrev has_this_number : (id : List ℕ) → ℕ × Rejudging → Bool
 has_this_number id p = bytes_eq (decimal p.0) id
@@ -91,21 +86,17 @@ counted_has (r ∷ rs) first id p h =
 pub named_has : (id : List ℕ) (rs : List Rejudging) (p : ℕ × Rejudging) → named_rejudging id rs ≡ Some p → Has rs p.1
 named_has id rs p h = counted_has rs 1 id p h
 
--- one value more, of rows that are counted from a first number on
-pub value_more : {X Y : Type 0} (make : ℕ × X → Y) (first : ℕ) (xs : List X) (i : ℕ) (x : X) (values more whole : List Y) (value : Y) → i < length xs → x ≡ get_or xs i x
-    → values ++ map make (enumerate_from (first + i) (drop i xs)) ≡ whole → more ≡ values ++ value ∷ [] → value ≡ make (first + i, x)
-    → more ++ map make (enumerate_from (first + (i + 1)) (drop (i + 1) xs)) ≡ whole
-value_more {X} {Y} make first xs i x values more whole value l at before adds is =
-    let rest : List Y = map make (enumerate_from (first + (i + 1)) (drop (i + 1) xs)) in
+-- of rows that are counted from a first number on the next one, and those behind it
+pub left_counted : {X : Type 0} (first : ℕ) (xs : List X) (i : ℕ) (x : X) → i < length xs → x ≡ get_or xs i x
+    → enumerate_from (first + i) (drop i xs) ≡ (first + i, x) ∷ enumerate_from (first + (i + 1)) (drop (i + 1) xs)
+left_counted {X} first xs i x l at =
     let two : first + i + 1 ≡ first + (i + 1) = omega arith in
-    let left : drop i xs ≡ x ∷ drop (i + 1) xs = drop_more xs i x l ∙ ap (λ (y : X). y ∷ drop (i + 1) xs) (sym at) in
-    let next : map make (enumerate_from (first + i) (drop i xs)) ≡ value ∷ rest =
-    ap (λ (ys : List X). map make (enumerate_from (first + i) ys)) left
-    ∙ (ap (λ (n : ℕ). make (first + i, x) ∷ map make (enumerate_from n (drop (i + 1) xs))) two
-    ∙ ap (λ (v : Y). v ∷ rest) (sym is)) in
-    ap (λ (vs : List Y). vs ++ rest) adds ∙ (append_assoc values (value ∷ []) rest ∙ (ap (λ (vs : List Y). values ++ vs) (sym next) ∙ before))
+    ap (enumerate_from (first + i)) (drop_more xs i x l ∙ ap (λ (y : X). y ∷ drop (i + 1) xs) (sym at)) ∙ ap (λ (n : ℕ). (first + i, x) ∷ enumerate_from n (drop (i + 1) xs)) two
 
--- no value is a float
-pub no_float_in : (s : Setup) (ps : List (ℕ × Rejudging)) → has_float (array (items_of (map (numbered_data s) ps))) ≡ false
-no_float_in s [] = refl
-no_float_in s (p ∷ ps) = rw (rejudging_has_no_float s p.0 p.1) (no_float_in s ps)
+-- what is made of one more of them
+pub made_more : {X Y : Type 0} (make : ℕ × X → List Y) (first : ℕ) (xs : List X) (i : ℕ) (x : X) (made more whole : List Y) → i < length xs → x ≡ get_or xs i x
+    → made ++ flat_map make (enumerate_from (first + i) (drop i xs)) ≡ whole → more ≡ made ++ make (first + i, x)
+    → more ++ flat_map make (enumerate_from (first + (i + 1)) (drop (i + 1) xs)) ≡ whole
+made_more {X} {Y} make first xs i x made more whole l at before adds =
+    let rest : List Y = flat_map make (enumerate_from (first + (i + 1)) (drop (i + 1) xs)) in
+    ap (λ (ys : List Y). ys ++ rest) adds ∙ (append_assoc made (make (first + i, x)) rest ∙ (ap (λ (ps : List (ℕ × X)). made ++ flat_map make ps) (sym (left_counted first xs i x l at)) ∙ before))

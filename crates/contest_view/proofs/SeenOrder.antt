@@ -1,7 +1,7 @@
 -- The submissions that an audience sees are seen of those that stand.
 use Rattle.std.proofs.Common.{◌≡◌, ◌∙◌, ℕ, true, List, Option, Some, sym, ap}
-use Rattle.serde_json.specs.Data.{Data}
 use Rattle.std.specs.List.{filter_map}
+use Rattle.serde_json.specs.Written.{compact_text}
 use Rattle.contest_types.specs.Loads.{without_file, loaded_submissions}
 use Rattle.contest_types.specs.Sight.{SeenSubmission, seen_submission, seen_submissions, sees_submission, submission_cmp}
 use Rattle.contest_types.specs.Laws.{IsSeen}
@@ -43,7 +43,7 @@ abbrev pub HaveOwnIds : ContestState → (Submission → Option Item) → Type 0
 HaveOwnIds x = OwnIds x.submissions without_file
 
 pub array_is : (a : Audience) (now : ℕ) (x : ContestState) → is_valid x ≡ true → (item : Submission → Option Item) (of : SeenSubmission → Option Item) → ServesSeen a now x item of
-    → (d : Data) → IsListed item (row_cmp x.fixed.settings) (loaded_submissions x) d → d ≡ array_of (filter_map of (seen_submissions a now x))
+    → (text : List ℕ) → IsListed item (row_cmp x.fixed.settings) (loaded_submissions x) text → text ≡ compact_text (array_of (filter_map of (seen_submissions a now x)))
 array_is a now x valid = rows_are x.submissions (seen_where a now x) without_file (row_cmp x.fixed.settings) (submission_cmp x.fixed.settings) (seen_submissions a now x) (seen_of a now x valid)
 
 pub found_is : (a : Audience) (now : ℕ) (x : ContestState) → is_valid x ≡ true → (item : Submission → Option Item) (of : SeenSubmission → Option Item) → ServesSeen a now x item of → HaveOwnIds x item

@@ -6,6 +6,7 @@ use Rattle.std.specs.Option.{option_and_then, option_to_list}
 use Rattle.std.proofs.lemmas.Bool.{cases_Bool}
 use Rattle.std.proofs.lemmas.Slice.Eq.{bytes_eq-Decides}
 use Rattle.serde_json.specs.Data.{Data}
+use Rattle.serde_json.specs.Written.{compact_text}
 use Rattle.contest_types.specs.Loads.{without_file, loaded_submissions}
 use Rattle.contest_types.specs.Masks.{knows_all_of}
 use Rattle.contest_types.specs.Order.{Has}
@@ -55,9 +56,9 @@ own_id f a s i e =
 own_ids : (a : Audience) (x : ContestState) → is_valid x ≡ true → HaveOwnIds x (row_item x.fixed a)
 own_ids a x valid s t i j hs ht is it same = one_with_id x valid s t hs ht (sym (own_id x.fixed a (without_file s) i is) ∙ (same ∙ own_id x.fixed a (without_file t) j it))
 
-pub submissions_are : (a : Audience) (now : ℕ) (x : ContestState) → is_valid x ≡ true → (d : Data) → IsListed (row_item x.fixed a) (row_cmp x.fixed.settings) (loaded_submissions x) d → d ≡ submissions_data a now x
-submissions_are a now x valid d l =
-    array_is a now x valid (row_item x.fixed a) (λ v. Some (submission_item x.fixed v)) (serves a now x) d l ∙ ap array_of (all_served (submission_item x.fixed) (seen_submissions a now x))
+pub submissions_are : (a : Audience) (now : ℕ) (x : ContestState) → is_valid x ≡ true → (text : List ℕ) → IsListed (row_item x.fixed a) (row_cmp x.fixed.settings) (loaded_submissions x) text → text ≡ compact_text (submissions_data a now x)
+submissions_are a now x valid text l =
+    array_is a now x valid (row_item x.fixed a) (λ v. Some (submission_item x.fixed v)) (serves a now x) text l ∙ ap (λ is. compact_text (array_of is)) (all_served (submission_item x.fixed) (seen_submissions a now x))
 
 -- among the rows that have an id there is the one that is named
 module _ (f : FixedPart) (a : Audience) (rows : List Submission) (one : (s t : Submission) → Has rows s → Has rows t → submission_id s.team s.number ≡ submission_id t.team t.number → s ≡ t) (id : List ℕ) where

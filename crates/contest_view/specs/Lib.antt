@@ -9,4 +9,3 @@ pub mod Proposals
 pub mod Rejudgings
 pub mod Awards
 pub mod Laws
-pub mod JsonTokens

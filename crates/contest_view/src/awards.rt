@@ -1,7 +1,6 @@
 //! The awards that an audience is shown: as a list, as they are served, and one by its id.
-ghost use Rattle.std.specs.Prelude.{◌≡◌, IfOk, IfSome, false, option_map};
-ghost use Rattle.serde_json.specs.View.{view};
-ghost use Rattle.serde_json.specs.Written.{has_float};
+ghost use Rattle.std.specs.Prelude.{◌≡◌, IfOk, option_map};
+ghost use Rattle.serde_json.specs.Written.{compact_text};
 ghost use Rattle.contest_types.specs.State.{ContestState};
 ghost use Rattle.contest_types.specs.declared.audience.Audience.TheVariants.{Jury};
 ghost use Rattle.contest_score.specs.Awards.{awards_of, shown_awards};
@@ -11,10 +10,10 @@ ghost use Rattle.contest_view.specs.SeenLists.{Shows};
 
 use crate::Seen;
 use crate::cells::{board_for, is_audience};
-use contest_objects::{Collection, Whole, award_value, get_whole, list_whole};
+use contest_objects::{AwardObject, Collection, Served, Whole, get_whole, list_whole};
 use contest_score::{Award, Awards, Solve, awards, can_be_scored, contest_solves, shows_awards};
 use contest_types::{Audience, Refusal, Rows, Settings};
-use serde_json::Value;
+use json::Writer;
 use std::alloc::{AllocError, Global};
 
 /// The awards that an audience is shown (Contest API 2023-06, awards): those of the jury's board,
@@ -99,10 +98,14 @@ impl<'a> Collection for ServedAwards<'a> {
         row.id.as_str().as_bytes() == id
     }
 
-    fn object(&self, alloc: Global, row: &Award) -> Result<Option<Value>, AllocError> {
-        let (id, citation) = (row.id.as_str(), row.citation.as_str());
-        let value = award_value(alloc, self.settings, id, citation, row.teams.as_slice())?;
-        Ok(Some(value))
+    fn write(&self, out: &mut Writer, row: &Award) -> Result<(), AllocError> {
+        let object = AwardObject {
+            settings: self.settings,
+            id: row.id.as_str(),
+            citation: row.citation.as_str(),
+            teams: row.teams.as_slice(),
+        };
+        object.write(out)
     }
 }
 
@@ -115,30 +118,28 @@ impl<'a> Whole for ServedAwards<'a> {
     ghost all = { λ c row. refl };
 }
 
-/// The array of the awards that an audience is shown, in their order (Contest API 2023-06, awards).
+/// The text of the array of the awards that an audience is shown, in their order (Contest API 2023-06, awards).
 ///
 /// # Errors
 ///
 /// Want of memory alone.
-pub fn awards_value(alloc: Global, seen: &Seen<'_>) -> Result<Value, AllocError>
-    ensures seen { (x : ContestState) → Shows seen.entry.now x → IfOk result (λ v. view v ≡ awards_data seen.entry.now.audience seen.entry.now.now x) }
-    ensures no_floats { IfOk result (λ v. has_float (view v) ≡ false) }
+pub fn awards_text(alloc: Global, seen: &Seen<'_>) -> Result<Vec<u8>, AllocError>
+    ensures { (x : ContestState) → Shows seen.entry.now x → IfOk result (λ text. text.items ≡ compact_text (awards_data seen.entry.now.audience seen.entry.now.now x)) }
 {
     let awards = awards_for(alloc, seen)?;
     let settings = &seen.lists.fixed().settings;
-    let value = list_whole(alloc, &ServedAwards { settings }, awards.as_slice())?;
-    Ok(value)
+    let text = list_whole(alloc, &ServedAwards { settings }, awards.as_slice())?;
+    Ok(text)
 }
 
-/// The award with an id, byte for byte, if the audience is shown it: one that isn't shown yet is as
+/// The text of the award with an id, byte for byte, if the audience is shown it: one that isn't shown yet is as
 /// one that isn't there. An award's id may be longer than an id.
 ///
 /// # Errors
 ///
 /// Want of memory alone.
-pub fn award_by_id(alloc: Global, seen: &Seen<'_>, id: &[u8]) -> Result<Option<Value>, AllocError>
-    ensures seen { (x : ContestState) → Shows seen.entry.now x → IfOk result (λ found. option_map view found ≡ award_found seen.entry.now.audience seen.entry.now.now x id.now) }
-    ensures no_floats { IfOk result (λ found. IfSome found (λ v. has_float (view v) ≡ false)) }
+pub fn award_by_id(alloc: Global, seen: &Seen<'_>, id: &[u8]) -> Result<Option<Vec<u8>>, AllocError>
+    ensures { (x : ContestState) → Shows seen.entry.now x → IfOk result (λ found. option_map (λ text. text.items) found ≡ option_map compact_text (award_found seen.entry.now.audience seen.entry.now.now x id.now)) }
 {
     let awards = awards_for(alloc, seen)?;
     let settings = &seen.lists.fixed().settings;

@@ -1,17 +1,17 @@
 //! The clarifications that an audience hears: all of them, and one by its id.
-ghost use Rattle.std.specs.Prelude.{◌≡◌, ℕ, IfOk, IfSome, false, option_map};
-ghost use Rattle.serde_json.specs.View.{view};
-ghost use Rattle.serde_json.specs.Written.{has_float};
+ghost use Rattle.std.specs.Prelude.{◌≡◌, ℕ, IfOk, option_map};
+ghost use Rattle.serde_json.specs.Written.{compact_text};
 ghost use Rattle.contest_types.specs.State.{ContestState};
 ghost use Rattle.contest_view.specs.Clarifications.{clarification_found, clarifications_data};
 ghost use Rattle.contest_view.specs.SeenLists.{Shows};
 
 use crate::seen::Seen;
 use contest_objects::{
-    Collection, Ordered, clarification_id, clarification_value, get, has_clarification_id, list,
+    ClarificationObject, Collection, Ordered, Served, clarification_id, get, has_clarification_id,
+    list,
 };
 use contest_types::{Clarification, sees_clarification};
-use serde_json::Value;
+use json::Writer;
 use std::alloc::{AllocError, Global};
 use std::cmp::Ordering;
 
@@ -34,13 +34,17 @@ impl<'a> Collection for Clarifications<'a> {
             && has_clarification_id(row.addressee, row.number, id)
     }
 
-    fn object(&self, alloc: Global, row: &Clarification) -> Result<Option<Value>, AllocError> {
+    fn write(&self, out: &mut Writer, row: &Clarification) -> Result<(), AllocError> {
         let fixed = self.seen.lists.fixed();
         if !sees_clarification(self.seen.audience, &fixed.settings, row) {
-            return Ok(None);
+            return Ok(());
         }
-        let value = clarification_value(alloc, fixed, self.seen.audience, row)?;
-        Ok(Some(value))
+        let object = ClarificationObject {
+            fixed,
+            audience: self.seen.audience,
+            clarification: row,
+        };
+        object.write(out)
     }
 }
 
@@ -59,22 +63,21 @@ impl<'a> Ordered for Clarifications<'a> {
     ghost total = { λ c. heard_total };
 }
 
-/// The array of the clarifications that an audience hears, by time and id (Contest API 2023-06,
+/// The text of the array of the clarifications that an audience hears, by time and id (Contest API 2023-06,
 /// clarifications).
 ///
 /// # Errors
 ///
 /// Want of memory alone.
-pub fn clarifications_value(alloc: Global, seen: &Seen<'_>) -> Result<Value, AllocError>
-    ensures seen { (x : ContestState) → Shows seen.entry.now x → IfOk result (λ v. view v ≡ clarifications_data seen.entry.now.audience x) }
-    ensures no_floats { IfOk result (λ v. has_float (view v) ≡ false) }
+pub fn clarifications_text(alloc: Global, seen: &Seen<'_>) -> Result<Vec<u8>, AllocError>
+    ensures { (x : ContestState) → Shows seen.entry.now x → IfOk result (λ text. text.items ≡ compact_text (clarifications_data seen.entry.now.audience x)) }
 {
     let rows = seen.lists.clarifications();
-    let value = list(alloc, &Clarifications { seen }, rows)?;
-    Ok(value)
+    let text = list(alloc, &Clarifications { seen }, rows)?;
+    Ok(text)
 }
 
-/// The clarification with an id, if the audience hears it: one that it doesn't hear is as one that
+/// The text of the clarification with an id, if the audience hears it: one that it doesn't hear is as one that
 /// isn't there.
 ///
 /// # Errors
@@ -84,9 +87,8 @@ pub fn clarification_by_id(
     alloc: Global,
     seen: &Seen<'_>,
     id: &[u8],
-) -> Result<Option<Value>, AllocError>
-    ensures seen { (x : ContestState) → Shows seen.entry.now x → IfOk result (λ found. option_map view found ≡ clarification_found seen.entry.now.audience x id.now) }
-    ensures no_floats { IfOk result (λ found. IfSome found (λ v. has_float (view v) ≡ false)) }
+) -> Result<Option<Vec<u8>>, AllocError>
+    ensures { (x : ContestState) → Shows seen.entry.now x → IfOk result (λ found. option_map (λ text. text.items) found ≡ option_map compact_text (clarification_found seen.entry.now.audience x id.now)) }
 {
     let rows = seen.lists.clarifications();
     let found = get(alloc, &Clarifications { seen }, rows, id)?;

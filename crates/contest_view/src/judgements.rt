@@ -1,7 +1,6 @@
 //! The judgements that an audience sees: all of them, and one by its id.
-ghost use Rattle.std.specs.Prelude.{◌≡◌, ℕ, IfOk, IfSome, false, option_map};
-ghost use Rattle.serde_json.specs.View.{view};
-ghost use Rattle.serde_json.specs.Written.{has_float};
+ghost use Rattle.std.specs.Prelude.{◌≡◌, ℕ, IfOk, option_map};
+ghost use Rattle.serde_json.specs.Written.{compact_text};
 ghost use Rattle.contest_types.specs.Masks.{verdict_under};
 ghost use Rattle.contest_types.specs.Sight.{judgement_of};
 ghost use Rattle.contest_types.specs.State.{ContestState, of_release};
@@ -10,9 +9,9 @@ ghost use Rattle.contest_view.specs.SeenLists.{Shows};
 ghost use Rattle.contest_view.specs.Judgements.{judgement_found, judgements_data, seen_of};
 
 use crate::{Seen, compare_submissions};
-use contest_objects::{Collection, Ordered, get, has_judgement_id, judgement_value, list};
+use contest_objects::{Collection, JudgementObject, Ordered, Served, get, has_judgement_id, list};
 use contest_types::{Fixed, Mask, Moment, Release, Submission, is_frozen, mask_for, sees_team};
-use serde_json::Value;
+use json::Writer;
 use std::alloc::{AllocError, Global};
 use std::cmp::Ordering;
 
@@ -56,14 +55,18 @@ impl<'a> Collection for Judgements<'a> {
         }
     }
 
-    fn object(&self, alloc: Global, row: &Submission) -> Result<Option<Value>, AllocError> {
+    fn write(&self, out: &mut Writer, row: &Submission) -> Result<(), AllocError> {
         match self.release(row) {
             Some(release) => {
-                let fixed = self.seen.lists.fixed();
-                let value = judgement_value(alloc, fixed, row.team, row.number, release)?;
-                Ok(Some(value))
+                let object = JudgementObject {
+                    fixed: self.seen.lists.fixed(),
+                    team: row.team,
+                    number: row.number,
+                    release,
+                };
+                object.write(out)
             }
-            None => Ok(None),
+            None => Ok(()),
         }
     }
 }
@@ -80,22 +83,21 @@ impl<'a> Ordered for Judgements<'a> {
     ghost total = { λ c. row_total c.seen.now.lists.now.fixed.settings };
 }
 
-/// The array of the judgements that an audience sees, one for each submission, in the order of the
+/// The text of the array of the judgements that an audience sees, one for each submission, in the order of the
 /// submissions (Contest API 2023-06, judgements).
 ///
 /// # Errors
 ///
 /// Want of memory alone.
-pub fn judgements_value(alloc: Global, seen: &Seen<'_>) -> Result<Value, AllocError>
-    ensures seen { (x : ContestState) → Shows seen.entry.now x → IfOk result (λ v. view v ≡ judgements_data seen.entry.now.audience seen.entry.now.now x) }
-    ensures no_floats { IfOk result (λ v. has_float (view v) ≡ false) }
+pub fn judgements_text(alloc: Global, seen: &Seen<'_>) -> Result<Vec<u8>, AllocError>
+    ensures { (x : ContestState) → Shows seen.entry.now x → IfOk result (λ text. text.items ≡ compact_text (judgements_data seen.entry.now.audience seen.entry.now.now x)) }
 {
     let rows = seen.lists.submissions();
-    let value = list(alloc, &Judgements { seen }, rows)?;
-    Ok(value)
+    let text = list(alloc, &Judgements { seen }, rows)?;
+    Ok(text)
 }
 
-/// The judgement with an id, if the audience sees one that has it: one that it doesn't see, or that
+/// The text of the judgement with an id, if the audience sees one that has it: one that it doesn't see, or that
 /// isn't the last of its submission, is as one that isn't there. The id is compared as a text.
 ///
 /// # Errors
@@ -105,9 +107,8 @@ pub fn judgement_by_id(
     alloc: Global,
     seen: &Seen<'_>,
     id: &[u8],
-) -> Result<Option<Value>, AllocError>
-    ensures seen { (x : ContestState) → Shows seen.entry.now x → IfOk result (λ found. option_map view found ≡ judgement_found seen.entry.now.audience seen.entry.now.now x id.now) }
-    ensures no_floats { IfOk result (λ found. IfSome found (λ v. has_float (view v) ≡ false)) }
+) -> Result<Option<Vec<u8>>, AllocError>
+    ensures { (x : ContestState) → Shows seen.entry.now x → IfOk result (λ found. option_map (λ text. text.items) found ≡ option_map compact_text (judgement_found seen.entry.now.audience seen.entry.now.now x id.now)) }
 {
     let rows = seen.lists.submissions();
     let found = get(alloc, &Judgements { seen }, rows, id)?;

@@ -5,7 +5,6 @@
 mod awards;
 mod cells;
 mod clarifications;
-mod json_members;
 mod judgements;
 pub mod laws;
 mod named;
@@ -15,13 +14,13 @@ mod scoreboard;
 mod seen;
 mod submissions;
 
-pub use awards::{audience_awards, award_by_id, awards_value};
+pub use awards::{audience_awards, award_by_id, awards_text};
 pub use cells::{board_for, board_found, cells_for};
-pub use clarifications::{clarification_by_id, clarifications_value};
-pub use judgements::{judgement_by_id, judgements_value};
+pub use clarifications::{clarification_by_id, clarifications_text};
+pub use judgements::{judgement_by_id, judgements_text};
 pub use named::{NumberedRejudging, named_rejudging, named_submission};
-pub use proposals::proposals_value;
-pub use rejudgings::{rejudging_by_id, rejudgings_value};
+pub use proposals::proposals_text;
+pub use rejudgings::{rejudging_by_id, rejudgings_text};
 pub use scoreboard::{group_scoreboard_text, scoreboard_text};
 pub use seen::Seen;
-pub use submissions::{compare_submissions, file_place, submission_by_id, submissions_value};
+pub use submissions::{compare_submissions, file_place, submission_by_id, submissions_text};

@@ -1,18 +1,17 @@
 //! What judges propose, as the jury sees it.
-ghost use Rattle.std.specs.Prelude.{◌≡◌, ℕ, IfOk, false, option_map};
-ghost use Rattle.serde_json.specs.View.{view};
-ghost use Rattle.serde_json.specs.Written.{has_float};
+ghost use Rattle.std.specs.Prelude.{◌≡◌, ℕ, IfOk, option_map};
+ghost use Rattle.serde_json.specs.Written.{compact_text};
 ghost use Rattle.contest_types.specs.State.{ContestState, of_proposal, of_release};
 ghost use Rattle.contest_lists.specs.RowsOn.{last_row};
 ghost use Rattle.contest_view.specs.SeenLists.{Shows};
 ghost use Rattle.contest_view.specs.Proposals.{open_of, proposals_data};
 
-use crate::seen::is_jury;
+use crate::seen::{empty_array, is_jury};
 use crate::{Seen, compare_submissions};
 use contest_lists::Lists;
-use contest_objects::{Collection, Ordered, has_submission_id, list, proposal_value};
+use contest_objects::{Collection, Ordered, ProposalObject, Served, has_submission_id, list};
 use contest_types::{Proposal, Submission};
-use serde_json::Value;
+use json::Writer;
 use std::alloc::{AllocError, Global};
 use std::cmp::Ordering;
 
@@ -51,14 +50,17 @@ impl<'a> Collection for Proposals<'a> {
         }
     }
 
-    fn object(&self, alloc: Global, row: &Submission) -> Result<Option<Value>, AllocError> {
+    fn write(&self, out: &mut Writer, row: &Submission) -> Result<(), AllocError> {
         match self.open(row) {
             Some(proposal) => {
-                let settings = &self.lists.fixed().settings;
-                let value = proposal_value(alloc, settings, proposal, false)?;
-                Ok(Some(value))
+                let object = ProposalObject {
+                    settings: &self.lists.fixed().settings,
+                    proposal,
+                    released: false,
+                };
+                object.write(out)
             }
-            None => Ok(None),
+            None => Ok(()),
         }
     }
 }
@@ -75,21 +77,20 @@ impl<'a> Ordered for Proposals<'a> {
     ghost total = { λ c. row_total c.lists.now.fixed.settings };
 }
 
-/// The array of the proposals that the jury has still to verify: the last one for each submission
+/// The text of the array of the proposals that the jury has still to verify: the last one for each submission
 /// without a release, in the order of the submissions (own). Who isn't of the jury sees none.
 ///
 /// # Errors
 ///
 /// Want of memory alone.
-pub fn proposals_value(alloc: Global, seen: &Seen<'_>) -> Result<Value, AllocError>
-    ensures seen { (x : ContestState) → Shows seen.entry.now x → IfOk result (λ v. view v ≡ proposals_data seen.entry.now.audience seen.entry.now.now x) }
-    ensures no_floats { IfOk result (λ v. has_float (view v) ≡ false) }
+pub fn proposals_text(alloc: Global, seen: &Seen<'_>) -> Result<Vec<u8>, AllocError>
+    ensures { (x : ContestState) → Shows seen.entry.now x → IfOk result (λ text. text.items ≡ compact_text (proposals_data seen.entry.now.audience seen.entry.now.now x)) }
 {
     if !is_jury(seen.audience) {
-        return Ok(Value::Array(Vec::new(alloc)));
+        return empty_array(alloc);
     }
     let lists = seen.lists;
     let rows = lists.submissions();
-    let value = list(alloc, &Proposals { lists }, rows)?;
-    Ok(value)
+    let text = list(alloc, &Proposals { lists }, rows)?;
+    Ok(text)
 }

@@ -1,28 +1,28 @@
 //! The scoreboard object, written straight from a board into its text: a board has many cells.
-ghost use Rattle.std.specs.Prelude.{◌≡◌, ◌++◌, ℕ, false, IfOk, OnOk};
+ghost use Rattle.std.specs.Prelude.{◌≡◌, ℕ, IfOk, OnOk, Some};
 ghost use Rattle.std.specs.Option.{option_map};
 ghost use Rattle.std.specs.List.{flat_map, zip};
-ghost use Rattle.serde_json.specs.View.{view};
-ghost use Rattle.serde_json.specs.Written.{compact_text, has_float};
+ghost use Rattle.serde_json.specs.Written.{compact_text};
 ghost use Rattle.contest_types.specs.State.{ContestState};
+ghost use Rattle.contest_objects.specs.ContestObjects.{whole_data};
+ghost use Rattle.contest_objects.specs.declared.contest_objects.ContestEndpoint.TheVariants.{State};
+ghost use Rattle.contest_objects.specs.JsonTokens.{Wrote, data_tokens};
+ghost use Rattle.contest_objects.specs.Members.{number_or_null, shown};
 ghost use Rattle.contest_score.specs.declared.cell.Cell.{Cell as TheCell};
-ghost use Rattle.contest_view.specs.JsonTokens.{Wrote, data_tokens};
 ghost use Rattle.contest_view.specs.SeenLists.{Shows};
-ghost use Rattle.contest_view.specs.Scoreboards.{board_data, cell_data, cells_data, row_data};
-ghost use Rattle.contest_view.specs.Scoreboards.{rows_data, score_data, group_scoreboard_found};
-ghost use Rattle.contest_view.specs.Scoreboards.{scoreboard_data};
+ghost use Rattle.contest_view.specs.Scoreboards.{cell_data, cells_data, group_scoreboard_found};
+ghost use Rattle.contest_view.specs.Scoreboards.{minute_data, minute_number, row_data, rows_data};
+ghost use Rattle.contest_view.specs.Scoreboards.{score_data, scoreboard_data};
 
 use crate::Seen;
 use crate::cells::board_for;
-use crate::json_members::{
-    begin_array, begin_object, end_array, end_object, write_count, write_is_some,
-    write_minute_or_null, write_minute_where, write_name, write_number, write_text,
+use contest_objects::{
+    Member, Served, StateObject, begin_array, begin_object, end_array, end_object, text_of,
+    write_member, write_name, write_number, write_object, write_string,
 };
-use contest_objects::{ContestEndpoint, contest_time_value, moment_value, whole_value};
 use contest_score::{Board, Cell, Row, Score};
-use contest_types::{Fixed, Moment, Settings};
+use contest_types::{Fixed, Minute, Moment, Settings};
 use json::Writer;
-use serde_json::Value;
 use std::alloc::{AllocError, Global};
 
 /// The text of the scoreboard as an audience is served it at a moment (Contest API 2023-06,
@@ -40,7 +40,12 @@ pub fn scoreboard_text(
     ensures { (x : ContestState) → Shows seen.entry.now x → IfOk result (λ text. text.items ≡ compact_text (scoreboard_data seen.entry.now.audience seen.entry.now.now group x)) }
 {
     let board = board_for(alloc, seen, group)?;
-    let text = object_text(alloc, seen.lists.fixed(), seen.now, &board)?;
+    let object = BoardObject {
+        fixed: seen.lists.fixed(),
+        now: seen.now,
+        board: &board,
+    };
+    let text = text_of(alloc, &object)?;
     Ok(text)
 }
 
@@ -65,53 +70,43 @@ pub fn group_scoreboard_text(
     }
 }
 
-// The text of a board of a contest as it is served at a moment.
-///
-/// # Errors
-///
-/// Want of memory alone.
-fn object_text(
-    alloc: Global,
-    fixed: &Fixed,
+/// A board of a contest as it is served at a moment.
+#[derive(Clone, Copy)]
+struct BoardObject<'a> {
+    fixed: &'a Fixed,
     now: Moment,
-    board: &Board,
-) -> Result<Vec<u8>, AllocError>
-    ensures { IfOk result (λ text. text.items ≡ compact_text (board_data fixed.now now board.now)) }
-{
-    let contest_time = contest_time_value(alloc, fixed.marks.start, now)?;
-    let state = whole_value(alloc, fixed, now, ContestEndpoint::State)?;
-    let time = moment_value(alloc, now)?;
-    let mut text = Vec::new(alloc);
-    put(&mut text, alloc, b"{\"contest_time\":", &contest_time)?;
-    text.extend_from_slice(b",\"rows\":")?;
-    let mut text = with_rows(text, &fixed.settings, board.columns(), board.rows())?;
-    put(&mut text, alloc, b",\"state\":", &state)?;
-    put(&mut text, alloc, b",\"time\":", &time)?;
-    text.extend_from_slice(b"}")?;
-    Ok(text)
+    board: &'a Board,
 }
 
-// Puts bytes at the end, and then the text of a value.
-fn put(text: &mut Vec<u8>, alloc: Global, front: &[u8], value: &Value) -> Result<(), AllocError>
-    requires { has_float (view value.now) ≡ false }
-    ensures { OnOk result (text.new.items ≡ text.old.items ++ front.now ++ compact_text (view value.now)) }
-{
-    text.extend_from_slice(front)?;
-    text.extend_from_slice(&value.to_vec(alloc)?)
+impl<'a> Served for BoardObject<'a> {
+    ghost use Rattle.contest_view.specs.Scoreboards.{board_data};
+
+    ghost value = { λ o. board_data o.fixed.now o.now o.board.now };
+
+    fn write(&self, out: &mut Writer) -> Result<(), AllocError> {
+        let (settings, marks) = (&self.fixed.settings, &self.fixed.marks);
+        let contest_time = Member::ContestTime(&marks.start, &self.now);
+        let time = Member::Time(&self.now);
+        begin_object(out)?;
+        write_member(out, "contest_time", contest_time)?;
+        write_name(out, "rows")?;
+        write_rows(out, settings, self.board.columns(), self.board.rows())?;
+        write_name(out, "state")?;
+        write_state(out, self.fixed, self.now)?;
+        write_member(out, "time", time)?;
+        end_object(out)
+    }
 }
 
-// The text with the array of the rows at the end.
-fn with_rows(
-    text: Vec<u8>,
-    settings: &Settings,
-    columns: &[usize],
-    rows: &[Row],
-) -> Result<Vec<u8>, AllocError>
-    ensures { IfOk result (λ longer. longer.items ≡ text.items ++ compact_text (rows_data settings.now columns.now rows.now)) }
+fn write_state(out: &mut Writer, fixed: &Fixed, now: Moment) -> Result<(), AllocError>
+    ensures { OnOk result (Wrote out.old out.new (data_tokens (whole_data State fixed.now now))) }
 {
-    let mut out = Writer::new(text);
-    write_rows(&mut out, settings, columns, rows)?;
-    Ok(out.into_inner())
+    let state = StateObject {
+        settings: &fixed.settings,
+        marks: &fixed.marks,
+        now,
+    };
+    state.write(out)
 }
 
 fn write_rows(
@@ -153,10 +148,12 @@ fn write_row(
     begin_object(out)?;
     write_name(out, "problems")?;
     write_cells(out, settings, columns, row.cells.as_slice())?;
-    write_count(out, "rank", row.rank)?;
+    write_name(out, "rank")?;
+    write_number(out, u64::from(row.rank))?;
     write_name(out, "score")?;
     write_score(out, &row.score)?;
-    write_text(out, "team_id", settings.team_id(row.team))?;
+    write_name(out, "team_id")?;
+    write_string(out, settings.team_id(row.team))?;
     end_object(out)
 }
 
@@ -164,11 +161,14 @@ fn write_row(
 fn write_score(out: &mut Writer, score: &Score) -> Result<(), AllocError>
     ensures { OnOk result (Wrote out.old out.new (data_tokens (score_data score.now))) }
 {
-    begin_object(out)?;
-    write_count(out, "num_solved", score.solved)?;
-    write_minute_or_null(out, "time", score.last)?;
-    write_number(out, "total_time", score.total)?;
-    end_object(out)
+    write_object(
+        out,
+        &[
+            ("num_solved", Member::Number(u64::from(score.solved))),
+            ("time", minute_or_null(score.last)),
+            ("total_time", Member::Number(score.total)),
+        ],
+    )
 }
 
 fn write_cells(
@@ -207,11 +207,32 @@ fn write_cell(
 ) -> Result<(), AllocError>
     ensures { OnOk result (Wrote out.old out.new (data_tokens (cell_data settings.now problem cell.now))) }
 {
-    begin_object(out)?;
-    write_count(out, "num_judged", cell.judged)?;
-    write_count(out, "num_pending", cell.pending)?;
-    write_text(out, "problem_id", settings.problem_id(problem))?;
-    write_is_some(out, "solved", cell.solved)?;
-    write_minute_where(out, "time", cell.solved)?;
-    end_object(out)
+    write_object(
+        out,
+        &[
+            ("num_judged", Member::Number(u64::from(cell.judged))),
+            ("num_pending", Member::Number(u64::from(cell.pending))),
+            ("problem_id", Member::Text(settings.problem_id(problem))),
+            ("solved", Member::Flag(cell.solved.is_some())),
+            ("time", minute_where(cell.solved)),
+        ],
+    )
+}
+
+fn minute_or_null(minute: Option<Minute>) -> Member<'static>
+    ensures { shown result ≡ Some (number_or_null (minute_number minute)) }
+{
+    match minute {
+        Some(minute) => Member::NumberOrNull(Some(u64::from(minute.0))),
+        None => Member::NumberOrNull(None),
+    }
+}
+
+fn minute_where(minute: Option<Minute>) -> Member<'static>
+    ensures { shown result ≡ minute_data minute }
+{
+    match minute {
+        Some(minute) => Member::Number(u64::from(minute.0)),
+        None => Member::Absent,
+    }
 }

@@ -1,8 +1,7 @@
 //! The submissions that an audience sees: all of them, and one by its id.
-ghost use Rattle.std.specs.Prelude.{◌≡◌, ℕ, List, IfOk, IfSome, false, true, option_map};
+ghost use Rattle.std.specs.Prelude.{◌≡◌, ℕ, List, IfOk, true, option_map};
 ghost use Rattle.std.specs.Option.{option_and_then};
-ghost use Rattle.serde_json.specs.View.{view};
-ghost use Rattle.serde_json.specs.Written.{has_float};
+ghost use Rattle.serde_json.specs.Written.{compact_text};
 ghost use Rattle.contest_types.specs.Loads.{loaded_submissions};
 ghost use Rattle.contest_types.specs.State.{ContestState};
 ghost use Rattle.contest_types.specs.Valid.{is_valid};
@@ -13,9 +12,11 @@ ghost use Rattle.contest_view.specs.Reads.{named_submission, submissions_data, s
 
 use crate::named::named_rows;
 use crate::seen::Seen;
-use contest_objects::{Collection, Ordered, get, has_submission_id, list, submission_value};
+use contest_objects::{
+    Collection, Ordered, Served, SubmissionObject, get, has_submission_id, list,
+};
 use contest_types::{Audience, Fixed, Settings, Submission, knows_all_of, sees_team};
-use serde_json::Value;
+use json::Writer;
 use std::alloc::{AllocError, Global};
 use std::cmp::Ordering;
 
@@ -59,13 +60,17 @@ impl<'a> Collection for Submissions<'a> {
             && has_submission_id(row.team, row.number, id)
     }
 
-    fn object(&self, alloc: Global, row: &Submission) -> Result<Option<Value>, AllocError> {
+    fn write(&self, out: &mut Writer, row: &Submission) -> Result<(), AllocError> {
         let fixed = self.seen.lists.fixed();
         if !sees_team(self.seen.audience, &fixed.settings, row.team) {
-            return Ok(None);
+            return Ok(());
         }
-        let value = submission_value(alloc, fixed, self.seen.audience, row)?;
-        Ok(Some(value))
+        let object = SubmissionObject {
+            fixed,
+            audience: self.seen.audience,
+            submission: row,
+        };
+        object.write(out)
     }
 }
 
@@ -81,22 +86,21 @@ impl<'a> Ordered for Submissions<'a> {
     ghost total = { λ c. row_total c.seen.now.lists.now.fixed.settings };
 }
 
-/// The array of the submissions that an audience sees, by time, team id and number (Contest API
+/// The text of the array of the submissions that an audience sees, by time, team id and number (Contest API
 /// 2023-06, submissions).
 ///
 /// # Errors
 ///
 /// Want of memory alone.
-pub fn submissions_value(alloc: Global, seen: &Seen<'_>) -> Result<Value, AllocError>
-    ensures seen { (x : ContestState) → Shows seen.entry.now x → IfOk result (λ v. view v ≡ submissions_data seen.entry.now.audience seen.entry.now.now x) }
-    ensures no_floats { IfOk result (λ v. has_float (view v) ≡ false) }
+pub fn submissions_text(alloc: Global, seen: &Seen<'_>) -> Result<Vec<u8>, AllocError>
+    ensures { (x : ContestState) → Shows seen.entry.now x → IfOk result (λ text. text.items ≡ compact_text (submissions_data seen.entry.now.audience seen.entry.now.now x)) }
 {
     let rows = seen.lists.submissions();
-    let value = list(alloc, &Submissions { seen }, rows)?;
-    Ok(value)
+    let text = list(alloc, &Submissions { seen }, rows)?;
+    Ok(text)
 }
 
-/// The submission with an id, if the audience sees it: one that it doesn't see is as one that isn't
+/// The text of the submission with an id, if the audience sees it: one that it doesn't see is as one that isn't
 /// there. It is as quick whatever was submitted.
 ///
 /// # Errors
@@ -106,9 +110,8 @@ pub fn submission_by_id(
     alloc: Global,
     seen: &Seen<'_>,
     id: &[u8],
-) -> Result<Option<Value>, AllocError>
-    ensures seen { (x : ContestState) → Shows seen.entry.now x → IfOk result (λ found. option_map view found ≡ submission_found seen.entry.now.audience seen.entry.now.now x id.now) }
-    ensures no_floats { IfOk result (λ found. IfSome found (λ v. has_float (view v) ≡ false)) }
+) -> Result<Option<Vec<u8>>, AllocError>
+    ensures { (x : ContestState) → Shows seen.entry.now x → IfOk result (λ found. option_map (λ text. text.items) found ≡ option_map compact_text (submission_found seen.entry.now.audience seen.entry.now.now x id.now)) }
 {
     let rows = named_rows(seen.lists, id);
     let found = get(alloc, &Submissions { seen }, rows, id)?;

@@ -1,23 +1,11 @@
-use Rattle.std.proofs.Common.{◌≡◌, ◌++◌, ◌∙◌, map}
-use Rattle.std.specs.Option.{option_map, option_to_list}
-use Rattle.serde_json.specs.View.{view}
-use Rattle.serde_json.proofs.Views.{view-Array}
-use Rattle.contest_objects.proofs.ListingLemmas.{all_made, made, next_made, no_float_where}
+use Rattle.std.proofs.Common.{map}
+use Rattle.std.specs.List.{filter_map}
+use Rattle.contest_objects.specs.Items.{array_of}
+use Rattle.contest_objects.proofs.WrittenLemmas.{served_written, text_written}
 use Rattle.contest_objects.proofs.collection.array.Goals as goal
 
-pub loop-row-preserved : goal.loop-row-preserved
-loop-row-preserved g c =
+pub returns : goal.returns
+returns g c =
     let item = g.C.Collection.item c.args.collection.now in
-    let old = map view c.loop-row.values.items in
-    let found = c.in_ok-found.found in
-    let grown : map view c.push_where.new.values.items ≡ old ++ option_to_list (option_map view found) = c.in_ok-push_where.ensures in
-    record {
-      made = next_made item (λ r. r.now) c.args.rows.now c.loop-row.row-index c.row-item.result (made item (λ r. r.now) c.args.rows.now) old (map view c.push_where.new.values.items)
-          c.loop-row-test.true c.row-item.is c.loop-row.invariant.made (rw c.in_ok-found.ensures.value at grown);
-      no_floats = rw grown (no_float_where view old found c.loop-row.invariant.no_floats c.in_ok-found.ensures.no_floats);
-    }
-
-pub returns-clause-value : goal.returns-clause-value
-returns-clause-value g c =
-    view-Array c.loop-row.values
-    ∙ all_made (g.C.Collection.item c.args.collection.now) (λ r. r.now) c.args.rows.now c.loop-row.row-index (map view c.loop-row.values.items) c.loop-row-test.false c.loop-row.invariant.made
+    text_written (array_of (filter_map item (map (λ r. r.now) c.args.rows.now))) c.new-out.result c.end_array.new.out _ c.into_inner.result.items c.new.ensures.items c.new-out.ensures.before c.new-out.ensures.tokens
+    (served_written item (λ r. r.now) c.args.rows.now c.in_ok-begin_array.ensures c.in_ok-write_each.ensures c.in_ok-end_array.ensures) c.into_inner.ensures.items

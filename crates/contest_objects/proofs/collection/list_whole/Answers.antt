@@ -1,9 +1,10 @@
 use Rattle.std.proofs.Common.{◌∙◌, ap}
+use Rattle.serde_json.specs.Written.{compact_text}
 use Rattle.contest_objects.specs.Items.{array_of}
 use Rattle.contest_objects.proofs.ListingLemmas.{each_served}
 use Rattle.contest_objects.proofs.collection.list_whole.Goals as goal
 
-pub returns-clause-value : goal.returns-clause-value
-returns-clause-value g c =
-    (rw (c.deref.ensures.value, c.in_ok-rows.ensures) at c.in_ok-value.ensures.value)
-    ∙ ap array_of (each_served (g.C.Collection.item c.args.collection.now) (g.C.Whole.whole c.args.collection.now) (g.met.C.Whole.all c.args.collection.now) c.args.rows.now)
+pub returns : goal.returns
+returns g c =
+    (rw (c.deref.ensures.value, c.in_ok-rows.ensures) at c.in_ok-text.ensures)
+    ∙ ap (λ is. compact_text (array_of is)) (each_served (g.C.Collection.item c.args.collection.now) (g.C.Whole.whole c.args.collection.now) (g.met.C.Whole.all c.args.collection.now) c.args.rows.now)

@@ -3,7 +3,7 @@ use Rattle.std.proofs.lemmas.Slice.Zip.{Zip-so_far, either_empty_from_Zip}
 use Rattle.std.specs.Iterator.Adapters.{zip_first, zip_second}
 use Rattle.std.specs.Slice.Iter.{iter_rest}
 use Rattle.contest_score.specs.declared.cell.Cell.{Cell}
-use Rattle.contest_view.specs.JsonTokens.{data_tokens}
+use Rattle.contest_objects.specs.JsonTokens.{data_tokens}
 use Rattle.contest_view.specs.Scoreboards.{cell_data}
 use Rattle.contest_view.proofs.BoardObjectLemmas.{all_written}
 use Rattle.contest_view.proofs.scoreboard.write_each_cell.Goals as goal

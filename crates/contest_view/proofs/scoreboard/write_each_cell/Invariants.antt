@@ -1,7 +1,7 @@
 use Rattle.std.proofs.Common.{◌≡◌, ◌++◌, ℕ, drop, length}
 use Rattle.std.specs.List.{flat_map, zip}
 use Rattle.contest_score.specs.declared.cell.Cell.{Cell}
-use Rattle.contest_view.specs.JsonTokens.{data_tokens}
+use Rattle.contest_objects.specs.JsonTokens.{data_tokens}
 use Rattle.contest_view.specs.Scoreboards.{cell_data}
 use Rattle.contest_view.proofs.scoreboard.write_each_cell.Given as goal
 

@@ -1,6 +1,6 @@
 use Rattle.std.proofs.Common.{◌≡◌, ◌++◌, take}
 use Rattle.std.specs.List.{flat_map}
-use Rattle.contest_view.specs.JsonTokens.{data_tokens}
+use Rattle.contest_objects.specs.JsonTokens.{data_tokens}
 use Rattle.contest_view.specs.Scoreboards.{row_data}
 use Rattle.contest_view.proofs.scoreboard.write_each_row.Given as goal
 
