@@ -40,6 +40,7 @@ pub fn text_of<S: Served>(alloc: Global, served: &S) -> Result<Vec<u8>, AllocErr
 /// # Errors
 ///
 /// Want of memory alone.
+#[inline]
 pub fn begin_object(out: &mut Writer) -> Result<(), AllocError>
     ensures { OnOk result (Wrote out.old out.new (begin_object ∷ [])) }
 {
@@ -51,6 +52,7 @@ pub fn begin_object(out: &mut Writer) -> Result<(), AllocError>
 /// # Errors
 ///
 /// Want of memory alone.
+#[inline]
 pub fn end_object(out: &mut Writer) -> Result<(), AllocError>
     ensures { OnOk result (Wrote out.old out.new (end_object ∷ [])) }
 {
@@ -62,6 +64,7 @@ pub fn end_object(out: &mut Writer) -> Result<(), AllocError>
 /// # Errors
 ///
 /// Want of memory alone.
+#[inline]
 pub fn begin_array(out: &mut Writer) -> Result<(), AllocError>
     ensures { OnOk result (Wrote out.old out.new (begin_array ∷ [])) }
 {
@@ -73,6 +76,7 @@ pub fn begin_array(out: &mut Writer) -> Result<(), AllocError>
 /// # Errors
 ///
 /// Want of memory alone.
+#[inline]
 pub fn end_array(out: &mut Writer) -> Result<(), AllocError>
     ensures { OnOk result (Wrote out.old out.new (end_array ∷ [])) }
 {
@@ -84,6 +88,7 @@ pub fn end_array(out: &mut Writer) -> Result<(), AllocError>
 /// # Errors
 ///
 /// Want of memory alone.
+#[inline]
 pub fn write_name(out: &mut Writer, name: &str) -> Result<(), AllocError>
     ensures { OnOk result (Wrote out.old out.new (key name.now ∷ [])) }
 {
@@ -96,6 +101,7 @@ pub fn write_name(out: &mut Writer, name: &str) -> Result<(), AllocError>
 ///
 /// Want of memory alone.
 #[tactic(auto, unfolding(crate::specs::JsonTokens::data_tokens))]
+#[inline]
 pub fn write_string(out: &mut Writer, text: &str) -> Result<(), AllocError>
     ensures { OnOk result (Wrote out.old out.new (data_tokens (string text.now))) }
 {
@@ -108,6 +114,7 @@ pub fn write_string(out: &mut Writer, text: &str) -> Result<(), AllocError>
 ///
 /// Want of memory alone.
 #[tactic(auto, unfolding(crate::specs::JsonTokens::data_tokens))]
+#[inline]
 pub fn write_number(out: &mut Writer, value: u64) -> Result<(), AllocError>
     ensures { OnOk result (Wrote out.old out.new (data_tokens (number (unsigned value)))) }
 {
@@ -120,6 +127,7 @@ pub fn write_number(out: &mut Writer, value: u64) -> Result<(), AllocError>
 ///
 /// Want of memory alone.
 #[tactic(auto, unfolding(crate::specs::JsonTokens::data_tokens))]
+#[inline]
 pub fn write_flag(out: &mut Writer, flag: bool) -> Result<(), AllocError>
     ensures { OnOk result (Wrote out.old out.new (data_tokens (boolean flag))) }
 {
@@ -132,6 +140,7 @@ pub fn write_flag(out: &mut Writer, flag: bool) -> Result<(), AllocError>
 ///
 /// Want of memory alone.
 #[tactic(auto, unfolding(crate::specs::JsonTokens::data_tokens))]
+#[inline]
 pub fn write_null(out: &mut Writer) -> Result<(), AllocError>
     ensures { OnOk result (Wrote out.old out.new (data_tokens null)) }
 {

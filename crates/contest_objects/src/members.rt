@@ -83,6 +83,7 @@ fn write_members(out: &mut Writer, members: &[(&str, Member<'_>)]) -> Result<(),
 /// # Errors
 ///
 /// Want of memory alone.
+#[inline(always)]
 pub fn write_member(out: &mut Writer, name: &str, member: Member<'_>) -> Result<(), AllocError>
     ensures { OnOk result (Wrote out.old out.new (member_tokens (name.now, shown member.entry))) }
 {
@@ -96,6 +97,7 @@ pub fn write_member(out: &mut Writer, name: &str, member: Member<'_>) -> Result<
 }
 
 // What stands under a name.
+#[inline(always)]
 fn write_value(out: &mut Writer, member: Member<'_>) -> Result<(), AllocError>
     ensures { OnOk result (Wrote out.old out.new (value_tokens (shown member.entry))) }
 {

@@ -1,7 +1,15 @@
--- What is written of two lists, side by side.
-use Rattle.std.proofs.Common.{◌≡◌, ◌∙◌, ◌⊎◌, ◌++◌, ℕ, List, [], ◌∷◌, ap, append-nil, drop, inl, inr, refl, sym}
+-- What is written of two lists, side by side, and of a cell.
+use Rattle.std.proofs.Common.{◌≡◌, ◌∙◌, ◌⊎◌, ◌++◌, ℕ, List, [], ◌∷◌, Option, Some, None, ap, append-nil, drop, inl, inr, refl, sym}
+use Rattle.std.specs.Prelude.{codes}
 use Rattle.std.specs.List.{flat_map, zip}
-use Rattle.json.specs.Token.{Token}
+use Rattle.json.specs.Token.{Token, end_object}
+use Rattle.json.specs.Tree.{members_tokens}
+use Rattle.serde_json.specs.Data.{no_members}
+use Rattle.serde_json.specs.Written.{members_outline}
+use Rattle.contest_types.specs.declared.minute.Minute.{Minute}
+use Rattle.contest_objects.specs.JsonTokens.{data_tokens, member_tokens}
+use Rattle.contest_objects.specs.Objects.{member_where}
+use Rattle.contest_view.specs.Scoreboards.{minute_data}
 
 -- where one of two lists has ended, nothing is left of both
 none_left : {X Y : Type 0} (xs : List X) (ys : List Y) → (xs ≡ []) ⊎ (ys ≡ []) → zip xs ys ≡ []
@@ -16,3 +24,9 @@ pub all_written : {X Y : Type 0} (g : X × Y → List Token) (xs : List X) (ys :
 all_written g xs ys n begun ts left right is_left is_right none h =
     let gone : zip (drop n xs) (drop n ys) ≡ [] = rw (← is_left, ← is_right) (none_left left right none) in
     sym (h ∙ (ap (λ ps. ts ++ flat_map g ps) gone ∙ append-nil ts))
+
+-- the last member of a cell, where it is there
+pub minute_last : (minute : Option Minute) → members_tokens (members_outline (member_where (minute_data minute) (codes "time") no_members)) ≡ member_tokens (codes "time", minute_data minute) ++ end_object ∷ []
+unfolding data_tokens
+minute_last None = refl
+minute_last (Some m) = refl

@@ -207,16 +207,14 @@ fn write_cell(
 ) -> Result<(), AllocError>
     ensures { OnOk result (Wrote out.old out.new (data_tokens (cell_data settings.now problem cell.now))) }
 {
-    write_object(
-        out,
-        &[
-            ("num_judged", Member::Number(u64::from(cell.judged))),
-            ("num_pending", Member::Number(u64::from(cell.pending))),
-            ("problem_id", Member::Text(settings.problem_id(problem))),
-            ("solved", Member::Flag(cell.solved.is_some())),
-            ("time", minute_where(cell.solved)),
-        ],
-    )
+    let problem = Member::Text(settings.problem_id(problem));
+    begin_object(out)?;
+    write_member(out, "num_judged", Member::Number(u64::from(cell.judged)))?;
+    write_member(out, "num_pending", Member::Number(u64::from(cell.pending)))?;
+    write_member(out, "problem_id", problem)?;
+    write_member(out, "solved", Member::Flag(cell.solved.is_some()))?;
+    write_member(out, "time", minute_where(cell.solved))?;
+    end_object(out)
 }
 
 fn minute_or_null(minute: Option<Minute>) -> Member<'static>
@@ -228,6 +226,7 @@ fn minute_or_null(minute: Option<Minute>) -> Member<'static>
     }
 }
 
+#[inline]
 fn minute_where(minute: Option<Minute>) -> Member<'static>
     ensures { shown result ≡ minute_data minute }
 {
