@@ -5,13 +5,14 @@ use Rattle.json.specs.Print.{print}
 use Rattle.json.specs.Token.{Token, begin_array, begin_object, end_array, end_object}
 use Rattle.json.specs.Tree.{items_tokens, members_tokens}
 use Rattle.json.specs.Written.{Written}
-use Rattle.serde_json.specs.Data.{Data, array, object}
+use Rattle.serde_json.specs.Data.{Data, Members, array, object}
 use Rattle.serde_json.specs.View.{items_of}
 use Rattle.serde_json.specs.Written.{compact_text, items_outline, members_outline}
 use Rattle.serde_json.proofs.Texts.{print-outline}
 use Rattle.contest_objects.specs.Items.{Item, array_of, object_in}
 use Rattle.contest_objects.specs.JsonTokens.{Wrote, data_tokens, member_tokens, value_tokens}
 use Rattle.contest_objects.specs.Members.{in_order}
+use Rattle.contest_objects.specs.Objects.{member_where}
 
 -- what is written behind other tokens
 pub behind : {old mid new : Written} {a b : List Token} → Wrote old mid a → Wrote mid new b → Wrote old new (a ++ b)
@@ -32,6 +33,12 @@ in_order_tokens [] = refl
 in_order_tokens ((name, None) ∷ rest) = in_order_tokens rest
 in_order_tokens ((name, Some d) ∷ rest) =
     ap (λ ts. member_tokens (name, Some d) ++ ts) (in_order_tokens rest) ∙ sym (append_assoc (member_tokens (name, Some d)) (flat_map member_tokens rest) (end_object ∷ []))
+
+-- a member that is only there with a value, and those behind it
+pub where_tokens : (o : Option Data) (name : List ℕ) (rest : Members) → members_tokens (members_outline (member_where o name rest)) ≡ member_tokens (name, o) ++ members_tokens (members_outline rest)
+unfolding data_tokens
+where_tokens None name rest = refl
+where_tokens (Some d) name rest = refl
 
 pub object_written : {old begun all new : Written} (ms : List (List ℕ × Option Data)) → Wrote old begun (begin_object ∷ []) → Wrote begun all (flat_map member_tokens ms) → Wrote all new (end_object ∷ [])
     → Wrote old new (data_tokens (object (in_order ms)))

@@ -4,8 +4,8 @@ ghost use Rattle.serde_json.specs.Data.{object};
 ghost use Rattle.contest_objects.specs.JsonTokens.{Wrote, data_tokens};
 ghost use Rattle.contest_objects.specs.JudgementObjects.{judgement_members};
 
-use crate::json_text::Served;
-use crate::members::{Member, write_object};
+use crate::json_text::{Served, begin_object, end_object};
+use crate::members::{Member, write_member};
 use crate::visible_ids::{judgement_id, submission_id};
 use contest_types::{Fixed, Moment, Release};
 use json::Writer;
@@ -56,21 +56,24 @@ impl<'a> Served for JudgementObject<'a> {
     }
 }
 
-// The object with these members.
+// The object with these members, one by one: a list has many of them, and this is faster than a
+// table of members.
 fn write_judgement(out: &mut Writer, members: Members<'_>) -> Result<(), AllocError>
     ensures { OnOk result (Wrote out.old out.new (data_tokens (object (judgement_members members.entry.id.now members.entry.judgement_type.now members.entry.start.now members.entry.submission.now members.entry.time.now)))) }
 {
     let contest_time = Member::ContestTime(members.start, members.time);
-    write_object(
+    let time = Member::Time(members.time);
+    begin_object(out)?;
+    write_member(out, "end_contest_time", contest_time)?;
+    write_member(out, "end_time", time)?;
+    write_member(out, "id", Member::Text(members.id))?;
+    write_member(
         out,
-        &[
-            ("end_contest_time", contest_time),
-            ("end_time", Member::Time(members.time)),
-            ("id", Member::Text(members.id)),
-            ("judgement_type_id", Member::Text(members.judgement_type)),
-            ("start_contest_time", contest_time),
-            ("start_time", Member::Time(members.time)),
-            ("submission_id", Member::Text(members.submission)),
-        ],
-    )
+        "judgement_type_id",
+        Member::Text(members.judgement_type),
+    )?;
+    write_member(out, "start_contest_time", contest_time)?;
+    write_member(out, "start_time", time)?;
+    write_member(out, "submission_id", Member::Text(members.submission))?;
+    end_object(out)
 }

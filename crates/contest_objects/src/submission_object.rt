@@ -8,8 +8,8 @@ ghost use Rattle.contest_objects.specs.Members.{shown as shown_as};
 ghost use Rattle.contest_objects.specs.Objects.{file_array, files_path, submission_members};
 ghost use Rattle.contest_objects.specs.Times.{contest_time_data};
 
-use crate::json_text::Served;
-use crate::members::{Member, write_object};
+use crate::json_text::{Served, begin_object, end_object};
+use crate::members::{Member, write_member};
 use crate::visible_ids::submission_id;
 use arrayvec::ArrayString;
 use contest_types::{Audience, Fixed, Id, Moment, Name, Submission, knows_all_of};
@@ -71,27 +71,23 @@ impl<'a> Served for SubmissionObject<'a> {
     }
 }
 
-// The object with these members.
+// The object with these members, one by one: a list has many of them, and this is faster than a
+// table of members.
 fn write_submission(out: &mut Writer, members: Members<'_>) -> Result<(), AllocError>
     ensures { OnOk result (Wrote out.old out.new (data_tokens (object (submission_members (contest_time_data members.entry.start.now members.entry.time.now) (shown_as members.entry.entry_point)
         (shown_as members.entry.files) members.entry.id.now members.entry.language.now members.entry.problem.now members.entry.team.now (string (moment_text members.entry.time.now)))))) }
 {
-    write_object(
-        out,
-        &[
-            (
-                "contest_time",
-                Member::ContestTime(members.start, members.time),
-            ),
-            ("entry_point", members.entry_point),
-            ("files", members.files),
-            ("id", Member::Text(members.id)),
-            ("language_id", Member::Text(members.language)),
-            ("problem_id", Member::Text(members.problem)),
-            ("team_id", Member::Text(members.team)),
-            ("time", Member::Time(members.time)),
-        ],
-    )
+    let contest_time = Member::ContestTime(members.start, members.time);
+    begin_object(out)?;
+    write_member(out, "contest_time", contest_time)?;
+    write_member(out, "entry_point", members.entry_point)?;
+    write_member(out, "files", members.files)?;
+    write_member(out, "id", Member::Text(members.id))?;
+    write_member(out, "language_id", Member::Text(members.language))?;
+    write_member(out, "problem_id", Member::Text(members.problem))?;
+    write_member(out, "team_id", Member::Text(members.team))?;
+    write_member(out, "time", Member::Time(members.time))?;
+    end_object(out)
 }
 
 // The entry point, where one was given and is shown.
