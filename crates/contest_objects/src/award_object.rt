@@ -1,6 +1,6 @@
 //! Awards as they are served.
 use crate::json_text::Served;
-use crate::members::{Member, write_object};
+use crate::members::{IdKind, Member, write_object};
 use contest_types::Settings;
 use json::Writer;
 use std::alloc::AllocError;
@@ -30,7 +30,10 @@ impl<'a> Served for AwardObject<'a> {
             &[
                 ("citation", Member::Text(self.citation)),
                 ("id", Member::Text(self.id)),
-                ("team_ids", Member::TeamIds(self.settings, self.teams)),
+                (
+                    "team_ids",
+                    Member::Ids(self.settings, IdKind::Team, self.teams),
+                ),
             ],
         )
     }

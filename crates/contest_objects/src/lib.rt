@@ -27,7 +27,7 @@ pub use json_text::{
     write_string,
 };
 pub use judgement_object::JudgementObject;
-pub use members::{Member, write_member, write_object};
+pub use members::{IdKind, Member, write_member, write_object};
 pub use proposal_object::ProposalObject;
 pub use rejudging_object::RejudgingObject;
 pub use settings_objects::{SettingsEndpoint, setting_text, settings_text};

@@ -4,11 +4,10 @@ ghost use Rattle.std.specs.List.{flat_map};
 ghost use Rattle.serde_json.specs.Data.{Data, object, string};
 ghost use Rattle.contest_types.specs.MomentText.{moment_text};
 ghost use Rattle.contest_types.specs.RelTimeText.{rel_time_text};
-ghost use Rattle.contest_types.specs.SettingsNames.{group_id_at};
-ghost use Rattle.contest_types.specs.TeamPlaces.{team_id_at};
 ghost use Rattle.contest_objects.specs.JsonTokens.{Wrote, data_tokens, member_tokens};
 ghost use Rattle.contest_objects.specs.JsonTokens.{value_tokens};
-ghost use Rattle.contest_objects.specs.Members.{in_order, number_or_null, shown, text_or_null};
+ghost use Rattle.contest_objects.specs.Members.{id_at, in_order, number_or_null, shown};
+ghost use Rattle.contest_objects.specs.Members.{text_or_null};
 ghost use Rattle.contest_objects.specs.Objects.{file_array, ids_data};
 ghost use Rattle.contest_objects.specs.Times.{contest_time_data, moment_or_null, span_data};
 ghost use Rattle.contest_objects.specs.Times.{span_or_null};
@@ -20,6 +19,15 @@ use crate::json_text::{
 use contest_types::{Moment, RelTime, Settings, TimeSpan, print_reltime, print_time};
 use json::Writer;
 use std::alloc::AllocError;
+
+/// Whose ids are served.
+#[derive(Clone, Copy)]
+pub enum IdKind {
+    /// Those of groups.
+    Group,
+    /// Those of teams.
+    Team,
+}
 
 /// What stands under a name.
 #[derive(Clone, Copy)]
@@ -47,10 +55,8 @@ pub enum Member<'a> {
     ContestTime(&'a Option<Moment>, &'a Moment),
     /// The array of the one zip file at a path.
     File(&'a str),
-    /// The array of the ids of the groups at these places.
-    GroupIds(&'a Settings, &'a [usize]),
-    /// The array of the ids of the teams at these places.
-    TeamIds(&'a Settings, &'a [usize]),
+    /// The array of the ids of what stands at these places, from 0.
+    Ids(&'a Settings, IdKind, &'a [usize]),
     /// Nothing: the object has no such name.
     Absent,
 }
@@ -113,8 +119,7 @@ fn write_value(out: &mut Writer, member: Member<'_>) -> Result<(), AllocError>
         Member::TimeOrNull(moment) => write_moment_or_null(out, *moment),
         Member::ContestTime(start, time) => write_contest_time(out, *start, *time),
         Member::File(href) => write_file(out, href),
-        Member::GroupIds(settings, groups) => write_group_ids(out, settings, groups),
-        Member::TeamIds(settings, teams) => write_team_ids(out, settings, teams),
+        Member::Ids(settings, kind, places) => write_ids(out, settings, kind, places),
         Member::Absent => Ok(()),
     }
 }
@@ -216,48 +221,39 @@ fn write_text(out: &mut Writer, name: &str, value: &str) -> Result<(), AllocErro
     write_string(out, value)
 }
 
-fn write_group_ids(
+fn write_ids(
     out: &mut Writer,
     settings: &Settings,
-    groups: &[usize],
+    kind: IdKind,
+    places: &[usize],
 ) -> Result<(), AllocError>
-    ensures { OnOk result (Wrote out.old out.new (data_tokens (ids_data (group_id_at settings.now) groups.now))) }
+    ensures { OnOk result (Wrote out.old out.new (data_tokens (ids_data (id_at settings.now kind) places.now))) }
 {
     begin_array(out)?;
-    write_each_group_id(out, settings, groups)?;
+    write_each_id(out, settings, kind, places)?;
     end_array(out)
 }
 
-fn write_each_group_id(
+fn write_each_id(
     out: &mut Writer,
     settings: &Settings,
-    groups: &[usize],
+    kind: IdKind,
+    places: &[usize],
 ) -> Result<(), AllocError>
-    ensures { OnOk result (Wrote out.old out.new (flat_map (λ g. data_tokens (string (group_id_at settings.now g))) groups.now)) }
+    ensures { OnOk result (Wrote out.old out.new (flat_map (λ place. data_tokens (string (id_at settings.now kind place))) places.now)) }
 {
-    for group in groups {
-        write_string(out, settings.group_id(*group))?;
+    for place in places {
+        write_string(out, id_at(settings, kind, *place))?;
     }
     Ok(())
 }
 
-fn write_team_ids(out: &mut Writer, settings: &Settings, teams: &[usize]) -> Result<(), AllocError>
-    ensures { OnOk result (Wrote out.old out.new (data_tokens (ids_data (team_id_at settings.now) teams.now))) }
+// The id of what stands at a place.
+fn id_at(settings: &Settings, kind: IdKind, place: usize) -> &str
+    ensures { result.now ≡ id_at settings.now kind place }
 {
-    begin_array(out)?;
-    write_each_team_id(out, settings, teams)?;
-    end_array(out)
-}
-
-fn write_each_team_id(
-    out: &mut Writer,
-    settings: &Settings,
-    teams: &[usize],
-) -> Result<(), AllocError>
-    ensures { OnOk result (Wrote out.old out.new (flat_map (λ t. data_tokens (string (team_id_at settings.now t))) teams.now)) }
-{
-    for team in teams {
-        write_string(out, settings.team_id(*team))?;
+    match kind {
+        IdKind::Group => settings.group_id(place),
+        IdKind::Team => settings.team_id(place),
     }
-    Ok(())
 }

@@ -5,7 +5,7 @@ ghost use Rattle.contest_objects.specs.SettingsObjects.{problems_data, setting_f
 ghost use Rattle.contest_objects.specs.SettingsObjects.{settings_data};
 
 use crate::collection::{Collection, Whole, get_whole, list_at, list_whole};
-use crate::members::{Member, write_object};
+use crate::members::{IdKind, Member, write_object};
 use contest_types::{Group, JudgementType, Language, Problem, Settings, Team, problem_order};
 use json::Writer;
 use std::alloc::{AllocError, Global};
@@ -260,7 +260,7 @@ impl<'a> Collection for Teams<'a> {
             &[
                 (
                     "group_ids",
-                    Member::GroupIds(self.settings, row.groups.as_slice()),
+                    Member::Ids(self.settings, IdKind::Group, row.groups.as_slice()),
                 ),
                 ("hidden", Member::Flag(row.hidden)),
                 ("id", Member::Text(row.id.as_str())),
