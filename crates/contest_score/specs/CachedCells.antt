@@ -1,7 +1,8 @@
 -- The cells that are kept of a contest: one under either mask for each team and problem that it has a submission at
 -- (own; DOMjudge keeps the same as its score cache).
-use Rattle.std.specs.Prelude.{◌≡◌, ◌<◌, ◌^◌, ℕ, Bool, ◌&&◌, ◌==◌, List, length, Option, Some, None, if◌then◌else◌}
-use Rattle.std.specs.HashMap.{get}
+use Rattle.std.specs.Prelude.{◌≡◌, ◌<◌, ◌^◌, ℕ, Bool, ◌&&◌, ◌==◌, List, length, Option, Some, None, if◌then◌else◌, get_or, slice_get}
+use Rattle.std.specs.Global.{Vec}
+use Rattle.std.specs.Option.{option_map_or}
 use Rattle.std.specs.List.{list_any}
 use Rattle.contest_types.specs.Masks.{mask_for}
 use Rattle.contest_types.specs.State.{ContestState, submissions_of}
@@ -18,9 +19,12 @@ use Rattle.contest_score.specs.MaskedCells.{attempt_under}
 use Rattle.contest_score.specs.ScoringLaws.{is_at}
 use Rattle.contest_score.specs.Table.{no_attempts}
 
--- what is kept for a team and a problem, if anything is
+-- in rows of cells, one a team, what is kept for a team and a problem, if anything is
+abbrev pub cell_in : List (Vec (Option MaskedCell)) → (team problem : ℕ) → Option MaskedCell
+cell_in rows team problem = option_map_or (λ row. get_or row.items problem None) (slice_get rows team) None
+
 abbrev pub cached_at : CachedCells → (team problem : ℕ) → Option MaskedCell
-cached_at c team problem = get (λ p q. (p.0 == q.0) && (p.1 == q.1)) c.cells (team, problem)
+cached_at c team problem = cell_in c.rows.items team problem
 
 abbrev pub cell_by : Mask → MaskedCell → Cell
 cell_by Held c = c.held

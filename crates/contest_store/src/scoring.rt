@@ -6,15 +6,15 @@
 //! 3. A submission or a release bears on one cell, under either mask; a proposal, a clarification,
 //!    a rejudging or an account on none (`scores_nothing`); all else on all cells.
 //! 4. A cell is counted from its own team's submissions at its problem, and from no other row
-//!    (`cell_of`).
+//!    (`masked_cell`).
 //! 5. After want of memory the cells are of no use (`score` says nothing of them then).
 ghost use Rattle.std.specs.Prelude.{◌≡◌, ◌<◌, ◌↔◌, ◌^◌, ◌==◌, ◌&&◌, ℕ, IfOk, IsTrue, None, OnOk};
 ghost use Rattle.std.specs.Prelude.{Some, if◌then◌else◌, length};
 ghost use Rattle.contest_types.specs.State.{ContestState};
 ghost use Rattle.contest_types.specs.Sight.{last_on, type_of};
+ghost use Rattle.contest_types.specs.declared.sight.Mask.TheVariants.{Full, Held};
 ghost use Rattle.contest_score.specs.CachedCells.{AreCellsOf, attempt_at, cached_at, cell_to_keep};
 ghost use Rattle.contest_score.specs.CachedCells.{has_number, masked_cell};
-ghost use Rattle.contest_score.specs.Contest.{contest_cell};
 ghost use Rattle.contest_score.specs.Counting.{HasRoom, cell_with};
 ghost use Rattle.contest_score.specs.MaskedCells.{start_of};
 ghost use Rattle.contest_store.specs.Grown.{IsGrown, scores_nothing};
@@ -35,7 +35,7 @@ pub(crate) fn cells_of(alloc: Global, lists: &Lists) -> Result<CachedCells, Allo
 {
     let mut cells = CachedCells::new(alloc);
     if has_few(lists) {
-        fill(&mut cells, lists)?;
+        fill(alloc, &mut cells, lists)?;
     }
     Ok(cells)
 }
@@ -60,8 +60,8 @@ pub(crate) fn score(
         return Ok(());
     }
     match entry {
-        Entry::NewSubmission(row) => count_again(cells, lists, row.team, row.problem),
-        Entry::NewRelease(row) => count_numbered(cells, lists, row.team, row.number),
+        Entry::NewSubmission(row) => count_again(alloc, cells, lists, row.team, row.problem),
+        Entry::NewRelease(row) => count_numbered(alloc, cells, lists, row.team, row.number),
         _ => {
             *cells = cells_of(alloc, lists)?;
             Ok(())
@@ -92,14 +92,14 @@ fn has_few(lists: &Lists) -> bool
 }
 
 // Puts the cell of each submission in, where none is there.
-fn fill(cells: &mut CachedCells, lists: &Lists) -> Result<(), AllocError>
+fn fill(alloc: Global, cells: &mut CachedCells, lists: &Lists) -> Result<(), AllocError>
     requires few { length lists.now.submissions < 2 ^ 32 }
     requires none { (t p : ℕ) → cached_at cells.old t p ≡ None }
     ensures { OnOk result ((t p : ℕ) → cached_at cells.new t p ≡ cell_to_keep lists.now t p) }
 {
     for submission in lists.submissions() {
         if !cells.has(submission.team, submission.problem) {
-            count_again(cells, lists, submission.team, submission.problem)?;
+            count_again(alloc, cells, lists, submission.team, submission.problem)?;
         }
     }
     Ok(())
@@ -107,6 +107,7 @@ fn fill(cells: &mut CachedCells, lists: &Lists) -> Result<(), AllocError>
 
 // Counts a team's cell at a problem again.
 fn count_again(
+    alloc: Global,
     cells: &mut CachedCells,
     lists: &Lists,
     team: usize,
@@ -115,12 +116,13 @@ fn count_again(
     requires { length lists.now.submissions < 2 ^ 32 }
     ensures { OnOk result ((t p : ℕ) → cached_at cells.new t p ≡ (if (team == t) && (problem == p) then Some (masked_cell lists.now team problem) else cached_at cells.old t p)) }
 {
-    cells.put(team, problem, masked_cell(lists, team, problem))
+    cells.put(alloc, team, problem, masked_cell(lists, team, problem))
 }
 
 // Counts again the cells of a team at the problems of its submissions with a number, of which there
 // is one in a valid contest.
 fn count_numbered(
+    alloc: Global,
     cells: &mut CachedCells,
     lists: &Lists,
     team: usize,
@@ -133,52 +135,48 @@ fn count_numbered(
     for place in lists.places_of(team) {
         let submission = &submissions[*place];
         if submission.number == number {
-            count_again(cells, lists, submission.team, submission.problem)?;
+            count_again(alloc, cells, lists, submission.team, submission.problem)?;
         }
     }
     Ok(())
 }
 
-// A team's cell at a problem under either mask.
+// A team's cell at a problem under either mask, from the team's own submissions.
 fn masked_cell(lists: &Lists, team: usize, problem: usize) -> MaskedCell
     requires { length lists.now.submissions < 2 ^ 32 }
     ensures { result ≡ masked_cell lists.now team problem }
 {
-    MaskedCell {
-        held: cell_of(lists, Mask::Held, team, problem),
-        full: cell_of(lists, Mask::Full, team, problem),
-    }
-}
-
-// Under one mask, from the team's own submissions.
-fn cell_of(lists: &Lists, mask: Mask, team: usize, problem: usize) -> Cell
-    requires { length lists.now.submissions < 2 ^ 32 }
-    ensures { result ≡ contest_cell mask lists.now team problem }
-{
-    let mut cell = Cell::new();
+    let mut cell = MaskedCell {
+        held: Cell::new(),
+        full: Cell::new(),
+    };
     let submissions = lists.submissions();
     for place in lists.places_of(team) {
-        cell = with_submission(cell, lists, mask, problem, &submissions[*place]);
+        cell = with_submission(cell, lists, problem, &submissions[*place]);
     }
     cell
 }
 
 // The cell with one more submission, if that is at the problem.
 fn with_submission(
-    cell: Cell,
+    cell: MaskedCell,
     lists: &Lists,
-    mask: Mask,
     problem: usize,
     submission: &Submission,
-) -> Cell
-    requires { HasRoom cell }
-    ensures { result ≡ (if submission.now.problem == problem then cell_with (start_of lists.now.fixed.marks) cell (attempt_at mask lists.now submission.now) else cell) }
+) -> MaskedCell
+    requires held { HasRoom cell.held }
+    requires full { HasRoom cell.full }
+    ensures held { result.held ≡ (if submission.now.problem == problem then cell_with (start_of lists.now.fixed.marks) cell.held (attempt_at Held lists.now submission.now) else cell.held) }
+    ensures full { result.full ≡ (if submission.now.problem == problem then cell_with (start_of lists.now.fixed.marks) cell.full (attempt_at Full lists.now submission.now) else cell.full) }
 {
-    if submission.problem == problem {
-        let start = start_of(&lists.fixed().marks);
-        with_attempt(cell, start, attempt_of(lists, mask, submission))
-    } else {
-        cell
+    if submission.problem != problem {
+        return cell;
+    }
+    let start = start_of(&lists.fixed().marks);
+    let verdict = last_verdict(lists, submission.team, submission.number);
+    MaskedCell {
+        held: with_attempt(cell.held, start, attempt_of(lists, Mask::Held, submission, verdict)),
+        full: with_attempt(cell.full, start, attempt_of(lists, Mask::Full, submission, verdict)),
     }
 }
 
@@ -192,12 +190,17 @@ fn start_of(marks: &Marks) -> Moment
     }
 }
 
-// A submission as an attempt.
-fn attempt_of(lists: &Lists, mask: Mask, submission: &Submission) -> Attempt
+// A submission with the verdict that was released last on it, as an attempt.
+fn attempt_of(
+    lists: &Lists,
+    mask: Mask,
+    submission: &Submission,
+    verdict: Option<usize>,
+) -> Attempt
+    requires { verdict ≡ type_of (last_on lists.now.releases submission.now.team submission.now.number) }
     ensures { result ≡ attempt_at mask lists.now submission.now }
 {
     let fixed = lists.fixed();
-    let verdict = last_verdict(lists, submission.team, submission.number);
     seen_attempt(
         mask,
         &fixed.settings,
