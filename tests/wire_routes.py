@@ -4,11 +4,11 @@
     wire_routes.py [--program PATH]
 
 The program is wire, which serves each connection over a contest in memory by itself; the contest is that of lib/rehearsal.py. Each
-path is asked by GET, HEAD, POST, PATCH and DELETE, for the public, two teams, a judge and an administrator, before the start, at 9:05,
-at 13:20 and beside final results, with a body and without. Every kind of file is imported. Then come bodies of each command whose JSON
-nests too deep, isn't UTF-8 or has numbers out of range, members that stand twice, files that are none or two, base64 off its form;
-and files of teams with a record that is cut, unclosed or no UTF-8. Each answer is that of the second opinions, byte for byte; none is
-503, and no call of the store fails.
+path is asked by GET, HEAD, POST, PATCH and DELETE, for the public, two teams, a judge, an administrator and an analyst, before the
+start, at 9:05, at 13:20 and beside final results, with a body and without. Every kind of file is imported. Then come bodies of each
+command whose JSON nests too deep, isn't UTF-8 or has numbers out of range, members that stand twice, files that are none or two,
+base64 off its form; and files of teams with a record that is cut, unclosed or no UTF-8. Each answer is that of the second opinions,
+byte for byte; none is 503, and no call of the store fails.
 
 Ends with the line `N passed, M failed`; the exit status is 0 if M is 0.
 """
@@ -30,7 +30,7 @@ from lib.wire import Wire
 
 SUBMISSIONS = f"{AT_REHEARSAL}/submissions"
 METHODS = ["GET", "HEAD", "POST", "PATCH", "DELETE"]
-WHO = ["public", "token-a1", "token-a9", "token-j1", "token-adm"]
+WHO = ["public", "token-a1", "token-a9", "token-j1", "token-adm", "token-o1"]
 COLLECTIONS = {"submissions": "s1-1", "judgements": "s1-1.1", "clarifications": "c1-1", "awards": "winner", "judgement-types": "AC",
                "languages": "cpp", "problems": "a", "groups": "north", "teams": "t1"}  # fmt: skip
 POST = compact({"problem_id": "a", "language_id": "cpp", "files": [{"data": "YWJj"}]})
@@ -41,7 +41,7 @@ OPENED = compact({"reason": "data", "submission_ids": ["s1-1"]})
 ROUTES = {
     **{f"{AT_REHEARSAL}/{name}": "" for name in COLLECTIONS}, **{f"{AT_REHEARSAL}/{name}/{one}": "" for name, one in COLLECTIONS.items()},
     SUBMISSIONS: POST, AT_ALL: QUESTION, f"{SUBMISSIONS}/s1-1/files": "", f"{AT_REHEARSAL}/scoreboard": "", f"{AT_REHEARSAL}/state": "",
-    f"{AT_REHEARSAL}/groups/north/scoreboard": "",     "/contests": "", AT_REHEARSAL: compact({"scoreboard_thaw_time": moment(END)}), "/jury/proposals": JUDGED, "/jury/verifications": JUDGED,
+    f"{AT_REHEARSAL}/groups/north/scoreboard": "", f"{AT_REHEARSAL}/account": "", "/contests": "", AT_REHEARSAL: compact({"scoreboard_thaw_time": moment(END)}), "/jury/proposals": JUDGED, "/jury/verifications": JUDGED,
     AT_REJUDGINGS: OPENED, f"{AT_REJUDGINGS}/1": "", f"{AT_REJUDGINGS}/1/verdicts": JUDGED, f"{AT_REJUDGINGS}/1/apply": "",
     f"{AT_REJUDGINGS}/1/cancel": "", "/jury/finalize": "",
 }  # fmt: skip
@@ -112,7 +112,7 @@ def try_imports(test):
         "judgement-types": b'[{"id":"TLE","name":"time","solved":false}]', "languages": b'[{"id":"py","name":"Python"}]',
         "problems": b'[{"id":"d","label":"D","name":"D","ordinal":7}]', "groups": b'[{"id":"south","name":"South"}]',
         "teams": b'[{"id":"t4","name":"Delta"}]', "teams-csv": b"id,name,group_ids,hidden\nt5,Epsilon,north,\n",
-        "accounts-csv": b"id,role,team_id,token\nj3,judge,,token-j3\n", "verdicts-csv": b"submission_id,judgement_type_id\ns1-1,AC\n",
+        "accounts-csv": b"id,role,team_id,token\nj3,judge,,token-j3\no2,analyst,,token-o2\n", "verdicts-csv": b"submission_id,judgement_type_id\ns1-1,AC\n",
     }  # fmt: skip
     for now in (START - 1, START + 300_000):
         session = Session(False)

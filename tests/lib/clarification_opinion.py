@@ -1,6 +1,6 @@
 """A second opinion on clarifications: who hears which, how they are served, and what becomes of one that is posted."""
 
-from .contest_opinion import is_jury, moment, owns, place_of
+from .contest_opinion import is_jury, moment, owns, place_of, sees_all
 from .import_opinion import Refused, is_id, json_of, member
 from .replay_opinion import Fault, reltime_text
 
@@ -29,8 +29,8 @@ def is_in(contest, caller, group):
 def hears(contest, caller, clarification):
     team, group = whose(clarification)
     if group is not None:
-        return is_jury(caller) or is_in(contest, caller, group)
-    return team is None or is_jury(caller) or owns(caller, team)
+        return sees_all(caller) or is_in(contest, caller, group)
+    return team is None or sees_all(caller) or owns(caller, team)
 
 
 def heard_clarifications(contest, caller):
@@ -87,7 +87,7 @@ def may_write(contest, now, caller):
 
 def clarify(contest, now, caller, key, body):
     """The clarification that a post stands for, new or old."""
-    if caller is None:
+    if caller is None or caller["role"] == "analyst":
         raise Refused("RoleForbids")
     if key is not None and not is_id(key):
         raise Refused("Malformed")

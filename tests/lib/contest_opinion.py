@@ -4,6 +4,12 @@ import datetime
 
 
 def is_jury(caller):
+    """Whether a caller judges: a judge or an administrator."""
+    return caller is not None and caller["role"] in ("judge", "admin")
+
+
+def sees_all(caller):
+    """Whether a caller reads what the jury reads: an analyst too."""
     return caller is not None and caller["role"] != "team"
 
 

@@ -14,7 +14,7 @@ from dataclasses import dataclass
 
 from . import awards_opinion, clock_opinion, rejudging_opinion
 from .clarification_opinion import clarification_object, clarify, heard_clarifications
-from .contest_opinion import is_jury, moment, owns, place_of
+from .contest_opinion import is_jury, moment, owns, place_of, sees_all
 from .import_opinion import COLLECTIONS, Refused, compact, has_come, is_id, is_name, member, json_of
 from .replay_opinion import Fault, reltime_text
 
@@ -81,7 +81,7 @@ def submission_object(contest, submission, caller):
         "team_id": submission["team"],
         "time": moment(submission["time"]),
     }
-    if is_jury(caller) or owns(caller, submission["team"]):
+    if sees_all(caller) or owns(caller, submission["team"]):
         href = f"contests/{contest['id']}/submissions/{shown['id']}/files"
         shown["files"] = [{"href": href, "mime": "application/zip"}]
         if submission["entry"] is not None:
@@ -94,7 +94,7 @@ def seen_submissions(contest, caller):
 
     def is_seen(submission):
         hidden = next(team["hidden"] for team in contest["teams"] if team["id"] == submission["team"])
-        return not hidden or is_jury(caller) or owns(caller, submission["team"])
+        return not hidden or sees_all(caller) or owns(caller, submission["team"])
 
     seen = [submission for submission in contest["submissions"] if is_seen(submission)]
     return sorted(seen, key=lambda one: (one["time"], one["team"].encode(), one["number"]))
@@ -106,7 +106,7 @@ def seen_release(contest, now, submission, caller):
     released = [one for one in contest["releases"] if one["submission"] == which]
     freeze = contest["start"] + contest["duration"] - contest["freeze"]
     is_held = submission["time"] >= freeze and not has_come(contest["thaw"], now)
-    if not released or (is_held and not is_jury(caller) and not owns(caller, submission["team"])):
+    if not released or (is_held and not sees_all(caller) and not owns(caller, submission["team"])):
         return None
     return released[-1]
 
@@ -193,7 +193,7 @@ def solves(contest):
 
 def awards(contest, now, caller):
     """Those of the jury's board, once the caller is shown them."""
-    if not awards_opinion.are_shown(contest, now, is_jury(caller)):
+    if not awards_opinion.are_shown(contest, now, sees_all(caller)):
         return []
     return awards_opinion.made(contest, scoreboard(contest, now, {"role": "judge", "team": None})["rows"], solves(contest))
 
@@ -313,7 +313,7 @@ def offered(contest, path):
         return rejudgings
     if path in ("/jury/proposals", "/jury/verifications"):
         return ["GET", "HEAD", "POST"] if pieces[2] == "proposals" else ["POST"], pieces[2], None
-    if pieces in (["", "contests", contest["id"], "state"], ["", "contests", contest["id"], "scoreboard"]):
+    if pieces[:3] == ["", "contests", contest["id"]] and pieces[3:] in (["account"], ["state"], ["scoreboard"]):
         return ["GET", "HEAD"], pieces[3], None
     if path == "/jury/finalize":
         return ["POST"], "finalize", None
@@ -379,8 +379,9 @@ def clock_set(asked):
 
 
 def rejudged(asked):
-    """What the jury is answered about rejudgings."""
-    if not is_jury(asked.caller):
+    """What the jury is answered about rejudgings, and an analyst who reads them."""
+    may = sees_all if asked.method in ("GET", "HEAD") else is_jury
+    if not may(asked.caller):
         raise Refused("RoleForbids")
     known = [submission_id(asked.contest, one) for one in asked.contest["submissions"]]
     return rejudging_opinion.answered(asked.contest, asked.now, asked.caller, known, asked.method, asked.name, asked.which, asked.body)
@@ -395,9 +396,17 @@ def clarified(asked):
 
 
 def proposals_read(asked):
-    if not is_jury(asked.caller):
+    if not sees_all(asked.caller):
         raise Refused("RoleForbids")
     return open_proposals(asked.contest, asked.caller)
+
+
+def account_read(asked):
+    """The caller's own account; the public has none."""
+    if asked.caller is None:
+        raise Refused("NotFound")
+    account, role, team = (asked.caller[part] for part in ("id", "role", "team"))
+    return {"id": account, "team_id": team, "type": role, "username": account}
 
 
 def group_scoreboard(asked):
@@ -431,6 +440,7 @@ CHANGES = {
 READS = {
     "contests": lambda asked: [contest_object(asked.contest)],
     "contest": lambda asked: contest_object(asked.contest),
+    "account": account_read,
     "state": lambda asked: state_object(asked.contest, asked.now),
     "scoreboard": lambda asked: scoreboard(asked.contest, asked.now, asked.caller),
     "group scoreboard": group_scoreboard,

@@ -14,7 +14,7 @@ SETTINGS = ["judgement-types", "languages", "groups", "problems", "teams"]
 NAMES = ["Alpha", "Beta", "Gamma, the third", 'The "Deltas"', "Łódź", "東京", ""]
 IDS = {"judgement-types": ["AC", "WA", "CE"], "languages": ["cpp", "java"], "groups": ["north", "south"],
        "problems": ["a", "b", "c"], "teams": ["t1", "t2", "t3", "t9"]}  # fmt: skip
-ACCOUNTS = ["a1", "b1", "a2", "a3", "a9", "j1", "j2", "adm"]
+ACCOUNTS = ["a1", "b1", "a2", "a3", "a9", "j1", "j2", "adm", "o1"]
 
 # What may or may not stand for a duration, and for the minutes of a penalty.
 WRONG_SPANS = ["5:00", "05:00:00.0", "5:60:00", "-5:00:00", "-0:00:00", f"{'0' * 20}5:00:00", f"{'9' * 20}:00:00", 18000,
@@ -72,7 +72,7 @@ class Director(Chance):
 
     def accounts_record(self):
         account = self.often(self.one(ACCOUNTS), ["j2", "-", "import"], 0.97)
-        role = {"a": "team", "b": "team", "j": "judge", "i": "judge"}.get(account[:1], "judge") if account != "adm" else "admin"
+        role = {"a": "team", "b": "team", "j": "judge", "i": "judge", "o": "analyst"}.get(account[:1], "judge") if account != "adm" else "admin"
         team = "t" + account[1:] if role == "team" else ""
         token = self.often(f"token-{account}", ["token-j1", "short", "token j1", "token-x==", "=token-x"], 0.95)
         return [account, self.often(role, ["Team", "judge", ""], 0.97), self.often(team, ["t1", "t7", ""], 0.96), token]

@@ -178,7 +178,7 @@ def csv_row(kind, fields, contest):
     row_id, role = replay_opinion.identifier(fields[0]), fields[1].decode("utf-8", "replace")
     team = replay_opinion.identifier(fields[2]) if role == "team" else None
     is_token = re.fullmatch(rb"[A-Za-z0-9._~+/-]+=*", fields[3]) and 8 <= len(fields[3]) <= 128
-    if row_id == "import" or role not in ("team", "judge", "admin") or (team is None and fields[2]) or not is_token:
+    if row_id == "import" or role not in ("team", "judge", "admin", "analyst") or (team is None and fields[2]) or not is_token:
         raise Fault("Malformed")
     if team is not None and all(one["id"] != team for one in contest["teams"]):
         raise Fault("UnknownReference")

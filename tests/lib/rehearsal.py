@@ -22,7 +22,7 @@ PROBLEMS = [{"id": "b", "label": "B", "name": "B", "ordinal": 1}, {"id": "c", "l
 GROUPS = [{"id": "north", "name": "North"}]
 TEAMS = [("t1", "Alpha", False, []), ("t2", "Beta", False, []), ("t9", "Staff", True, []), ("t3", "Gamma", False, ["north"])]
 ACCOUNTS = [("a1", "team", "t1"), ("a2", "team", "t2"), ("a3", "team", "t3"), ("a9", "team", "t9"), ("adm", "admin", ""),
-            ("b1", "team", "t1"), ("j1", "judge", ""), ("j2", "judge", "")]  # fmt: skip
+            ("b1", "team", "t1"), ("j1", "judge", ""), ("j2", "judge", ""), ("o1", "analyst", "")]  # fmt: skip
 
 
 def team_rows():

@@ -42,13 +42,13 @@ class Requester(Clarifier, Rejudger, Timekeeper):
             body = {"problem_id": self.one("abc"), "language_id": "cpp", "files": [{"data": self.one(["YWJj", "", "YWJk"])}]}
             return f"token-a{team}", self.often(None, ["k1", "k2", "k3"], 0.8), "POST", f"{AT_REHEARSAL}/submissions", compact(body)
         if role < 0.6:
-            judge = self.often(f"token-{self.one(['j1', 'j2', 'adm'])}", ["token-a1", "public"], 0.95)
+            judge = self.often(f"token-{self.one(['j1', 'j2', 'adm'])}", ["token-a1", "token-o1", "public"], 0.95)
             body = {"submission_id": self.submission(contest), "judgement_type_id": self.often(self.one(["AC", "WA"]), ["CE", "TLE"], 0.9)}
             return judge, None, "POST", self.one(["/jury/proposals", "/jury/verifications"]), compact(body)
         who = self.often(f"token-{self.one(ACCOUNTS)[0]}", ["public"], 0.75)
         which = self.submission(contest)
         group = self.often(self.one([row["id"] for row in contest["groups"]] or ["north"]), ["east", ""], 0.9)
         paths = ["scoreboard", f"groups/{group}/scoreboard", "judgements", f"judgements/{which}.{self.often('1', ['2', '2', '3', '01'], 0.7)}",
-                 "submissions", f"submissions/{which}", f"submissions/{which}/files", "state", "awards", "awards/winner"]  # fmt: skip
+                 "submissions", f"submissions/{which}", f"submissions/{which}/files", "state", "awards", "awards/winner", "account"]  # fmt: skip
         path = self.often(f"{AT_REHEARSAL}/{self.one(paths)}", ["/jury/proposals", "/jury/verifications"], 0.85)
         return who, None, self.often("GET", ["HEAD"], 0.95), path, ""

@@ -6,13 +6,13 @@ use Rattle.std.proofs.lemmas.Bool.{false≢true}
 use Rattle.contest_types.specs.Alike.{Alike}
 use Rattle.contest_types.specs.State.{ContestState, FixedPart, add_all}
 use Rattle.contest_types.specs.declared.audience.Audience.{Audience}
-use Rattle.contest_types.specs.declared.refusal.Refusal.TheVariants.{NotFound, RoleForbids}
+use Rattle.contest_types.specs.declared.refusal.Refusal.TheVariants.{NotFound}
 use Rattle.contest_operations.specs.Callers.{Caller, audience_of, caller_of}
 use Rattle.contest_operations.specs.Offers.{is_read, is_served, operation_of}
 use Rattle.contest_operations.specs.Replies.{refused}
 use Rattle.contest_operations.specs.Routes.{offer_at}
 use Rattle.contest_operations.specs.Step.{is_here, or_not_allowed, offered, asked_there, asked, or_refused, wish_or_reply_by, wish_or_reply, outcome_of, outcome, step}
-use Rattle.contest_operations.specs.Wishes.{may_read, wish_outcome}
+use Rattle.contest_operations.specs.Wishes.{may_read, named_by, unread_refusal, wish_outcome}
 use Rattle.contest_operations.specs.declared.wish.Wish.{Wish}
 use Rattle.contest_operations.specs.declared.wish.Wish.TheVariants.{Read, Do}
 use Rattle.contest_desk.specs.UnseenLaws.{IsUnnoticed}
@@ -96,7 +96,7 @@ wished_reads : (f : FixedPart) (who : Option Caller) (request : Request) (r : Re
 wished_reads f who request (Err reply) h = tt
 wished_reads f None request (Ok operation) h = tt
 wished_reads f (Some who) request (Ok (ToRead reading)) h =
-    let go : (b : Bool) → WishesToRead (or_refused (if b then Ok (Read reading (audience_of who) request.path) else Err RoleForbids)) = elim [ true ↦ tt | false ↦ tt ] in
+    let go : (b : Bool) → WishesToRead (or_refused (if b then Ok (Read reading (audience_of who) (named_by who reading request.path)) else Err (unread_refusal reading))) = elim [ true ↦ tt | false ↦ tt ] in
     go (may_read who reading)
 wished_reads f (Some who) request (Ok (ToDo command)) h = absurd h
 

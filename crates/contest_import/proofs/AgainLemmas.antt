@@ -314,6 +314,7 @@ role_itself : (r : Role) → same_role r r ≡ true
 role_itself (role.Team team) = eq-eqb team team refl
 role_itself role.Judge = refl
 role_itself role.Admin = refl
+role_itself role.Analyst = refl
 
 account_itself : (a : Account) → same_account a a ≡ true
 account_itself a = rw (bytes_same a.id, role_itself a.role, bytes_same a.digest) refl

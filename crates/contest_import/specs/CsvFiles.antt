@@ -70,13 +70,14 @@ team_record f row = team_or_malformed f.settings (option_and_then team_fields (f
 abbrev pub account_id : Text → Option (List ℕ)
 account_id text = if bytes_eq text (codes "import") then None else id_of text
 
--- `team` with the team's id, or `judge` or `admin` with none
+-- `team` with the team's id, or `judge`, `admin` or `analyst` with none
 abbrev pub named_role : (role team : Text) → Option NamedRole
 named_role role team =
     if bytes_eq role (codes "team") then option_map named.Team (id_of team)
     else (if not (is_empty team) then None
     else (if bytes_eq role (codes "judge") then Some named.Judge
-    else (if bytes_eq role (codes "admin") then Some named.Admin else None)))
+    else (if bytes_eq role (codes "admin") then Some named.Admin
+    else (if bytes_eq role (codes "analyst") then Some named.Analyst else None))))
 
 -- the digest of a token of 8 to 128 bytes; the token itself isn't kept
 abbrev pub token_digest : Text → Option (List ℕ)
@@ -94,6 +95,7 @@ abbrev pub role_of : Setup → NamedRole → Option Role
 role_of s (named.Team id) = option_map role.Team (place_of id (map (λ (t : Team). t.id) s.teams))
 role_of s named.Judge = Some role.Judge
 role_of s named.Admin = Some role.Admin
+role_of s named.Analyst = Some role.Analyst
 
 abbrev pub account_by : AccountRow → Option Role → Result Entry Cause
 account_by a None = Err cause.UnknownReference

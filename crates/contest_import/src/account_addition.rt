@@ -52,7 +52,7 @@ fn has_valid_role(settings: &Settings, role: Role) -> bool
 {
     match role {
         Role::Team(team) => team < settings.teams().len(),
-        Role::Judge | Role::Admin => true,
+        Role::Judge | Role::Admin | Role::Analyst => true,
     }
 }
 
@@ -74,7 +74,9 @@ fn is_same_role(a: Role, b: Role) -> bool
 {
     match (a, b) {
         (Role::Team(team), Role::Team(other)) => team == other,
-        (Role::Judge, Role::Judge) | (Role::Admin, Role::Admin) => true,
+        (Role::Judge, Role::Judge)
+        | (Role::Admin, Role::Admin)
+        | (Role::Analyst, Role::Analyst) => true,
         _ => false,
     }
 }

@@ -64,6 +64,7 @@ fn role_of(settings: &Settings, role: &NamedRole) -> Option<Role>
         },
         NamedRole::Judge => Some(Role::Judge),
         NamedRole::Admin => Some(Role::Admin),
+        NamedRole::Analyst => Some(Role::Analyst),
     }
 }
 
@@ -111,6 +112,8 @@ fn named_role(alloc: Global, role: &[u8], team: &[u8]) -> Result<Option<NamedRol
         Ok(Some(NamedRole::Judge))
     } else if role == b"admin".as_slice() {
         Ok(Some(NamedRole::Admin))
+    } else if role == b"analyst".as_slice() {
+        Ok(Some(NamedRole::Analyst))
     } else {
         Ok(None)
     }

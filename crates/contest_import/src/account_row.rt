@@ -10,6 +10,8 @@ pub enum NamedRole {
     Judge,
     /// It judges and keeps the clock.
     Admin,
+    /// It reads what the jury reads.
+    Analyst,
 }
 
 /// An account whose team, if it has one, is told by its id.

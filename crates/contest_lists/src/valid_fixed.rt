@@ -70,7 +70,7 @@ fn has_valid_role(settings: &Settings, role: Role) -> bool
 {
     match role {
         Role::Team(team) => team < settings.teams().len(),
-        Role::Judge | Role::Admin => true,
+        Role::Judge | Role::Admin | Role::Analyst => true,
     }
 }
 

@@ -11,3 +11,4 @@ pub mod ClarificationObjects
 pub mod JudgementObjects
 pub mod RejudgingObjects
 pub mod AwardObjects
+pub mod AccountObjects

@@ -2,6 +2,7 @@
 //! its order, and looked up by id.
 #![tactic(auto)]
 
+mod account_object;
 mod award_object;
 mod clarification_object;
 mod collection;
@@ -17,6 +18,7 @@ mod state_object;
 mod submission_object;
 mod visible_ids;
 
+pub use account_object::AccountObject;
 pub use award_object::AwardObject;
 pub use clarification_object::ClarificationObject;
 pub use collection::{Collection, Ordered, Whole, get, get_whole, list, list_whole, refs};

@@ -42,6 +42,7 @@ role_there : (s : Setup) (r : Role) → has_valid_role s r ≡ true → IfSome (
 role_there s (role.Team team) h = ltb-true team _ h
 role_there s role.Judge h = tt
 role_there s role.Admin h = tt
+role_there s role.Analyst h = tt
 
 held_there : (f : FixedPart) (who : Caller) (o : Option Account) → ((a : Account) → o ≡ Some a → is_valid_account f.settings a ≡ true)
     → option_map Some o ≡ Some who → IfSome (team_of who) (λ team. team < length f.settings.teams)
@@ -91,6 +92,7 @@ named_judge : (accounts : List Account) (id : List ℕ) (r : Role) → is_some (
 named_judge accounts id (role.Team team) there = tt
 named_judge accounts id role.Judge there = there
 named_judge accounts id role.Admin there = there
+named_judge accounts id role.Analyst there = tt
 
 held_judge : (accounts : List Account) (p : Account → Bool) (who : Caller) (o : Option Account) → find p accounts ≡ o → option_map Some o ≡ Some who → IfSome (judge_of who) (λ account. is_some (account_named accounts account) ≡ true)
 held_judge accounts p who None at is = absurd (cc is)

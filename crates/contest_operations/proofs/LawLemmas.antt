@@ -20,12 +20,12 @@ use Rattle.contest_operations.specs.Laws.{StayAlike, ReadsAlike, StepAlike, Step
 use Rattle.contest_operations.specs.Outcomes.{replying}
 use Rattle.contest_operations.specs.Paths.{jury_piece, object_piece}
 use Rattle.contest_operations.specs.Commands.{post_outcome}
-use Rattle.contest_operations.specs.Readings.{file_told, read, told}
+use Rattle.contest_operations.specs.Readings.{account_found, file_told, read, told}
 use Rattle.contest_operations.specs.Step.{wish_or_reply, outcome_of, outcome}
 use Rattle.contest_operations.specs.Wishes.{wish_outcome, IsSound}
 use Rattle.contest_operations.specs.declared.operation.Endpoint.TheVariants.{Settings, Submissions, Judgements, Clarifications, Awards}
 use Rattle.contest_operations.specs.declared.operation.JuryReading.TheVariants.{Proposals, Rejudgings, Rejudging}
-use Rattle.contest_operations.specs.declared.operation.Reading.TheVariants.{Whole, List as AllOf, Object, File, Scoreboard, GroupScoreboard, Jury as ForJury}
+use Rattle.contest_operations.specs.declared.operation.Reading.TheVariants.{Whole, List as AllOf, Object, File, Scoreboard, GroupScoreboard, Account as OwnAccount, Jury as ForJury}
 use Rattle.contest_operations.specs.declared.reply.Reply.{Reply}
 use Rattle.contest_requests.specs.declared.request.Credential.{Credential}
 use Rattle.contest_requests.specs.declared.request.Request.{Request}
@@ -49,6 +49,7 @@ reads_alike a now x y (Object Awards) path held h = ap told ((awards_alike a now
 reads_alike a now x y File path held h = ap file_told (files_alike a now x y (object_piece path) held h)
 reads_alike a now x y Scoreboard path held h = ap (λ d. told (Some d)) ((scoreboard_alike a now x y held h).0 None)
 reads_alike a now x y GroupScoreboard path held h = ap told ((scoreboard_alike a now x y held h).1 (object_piece path))
+reads_alike a now x y OwnAccount id held h = ap (λ (f : FixedPart). told (account_found f id)) h.fixed
 reads_alike a now x y (ForJury Proposals) path held h = ap (λ d. told (Some d)) (proposals_alike a now x y held h)
 reads_alike a now x y (ForJury Rejudgings) path held h = ap (λ d. told (Some d)) ((only_the_jury a x held.no_jury).0 ∙ sym (only_the_jury a y held.no_jury).0)
 reads_alike a now x y (ForJury Rejudging) path held h = ap told ((only_the_jury a x held.no_jury).1 (jury_piece path) ∙ sym ((only_the_jury a y held.no_jury).1 (jury_piece path)))

@@ -2,16 +2,17 @@
 use Rattle.std.proofs.Common.{◌≡◌, Bool, true, false, List, ℕ, Option, Some, None, Result, Ok, Err, refl}
 use Rattle.std.specs.Prelude.{is_some, if◌then◌else◌}
 use Rattle.contest_types.specs.State.{FixedPart}
-use Rattle.contest_types.specs.declared.refusal.Refusal.TheVariants.{RoleForbids}
+use Rattle.contest_types.specs.declared.refusal.Refusal.{Refusal}
 use Rattle.contest_operations.specs.Callers.{Caller, audience_of, caller_of, is_admin, judge_of, team_of}
 use Rattle.contest_operations.specs.Commands.{if_admin, if_judge, post_takes_memory, posted_as, posted_by}
 use Rattle.contest_requests.specs.ClockBodies.{posted_clock}
 use Rattle.contest_requests.specs.JuryVerdicts.{posted_verdict}
 use Rattle.contest_requests.specs.RejudgingBodies.{posted_rejudging}
-use Rattle.contest_operations.specs.PostedClarifications.{posted_clarification}
+use Rattle.contest_operations.specs.PostedClarifications.{clarifying_from, may_write, posted_clarification, sender_for}
+use Rattle.contest_rules.specs.declared.clarifying.Sender.{Sender}
 use Rattle.contest_operations.specs.PostedSubmissions.{posted_submission}
 use Rattle.contest_operations.specs.Step.{asked, may_take_memory, or_refused, takes_memory_by, wish_or_reply, wish_or_reply_by}
-use Rattle.contest_operations.specs.Wishes.{may_read, wish_to_do}
+use Rattle.contest_operations.specs.Wishes.{may_read, named_by, unread_refusal, wish_to_do}
 use Rattle.contest_operations.specs.declared.command.Command.{Command}
 use Rattle.contest_operations.specs.declared.command.Command.TheVariants.{Submit, Clarify, Propose, Verify, OpenRejudging, JudgeRejudging, ApplyRejudging, CancelRejudging, SetClock, Finalize}
 use Rattle.contest_operations.specs.declared.command.Posted.{Posted}
@@ -49,9 +50,13 @@ final_takes : (wish : Wish) (admin : Bool) → or_refused (wish_to_do (if_admin 
 final_takes wish false h = absurd (cc h)
 final_takes wish true h = refl
 
-clarification_takes : (f : FixedPart) (request : Request) (wish : Wish) (who : Caller) → or_refused (wish_to_do (posted_as Clarification (posted_clarification f who request))) ≡ Ok wish → is_some who ≡ true
+writing_takes : (f : FixedPart) (account : List ℕ) (request : Request) (wish : Wish) (o : Option Sender) → or_refused (wish_to_do (posted_as Clarification (clarifying_from f account request o))) ≡ Ok wish → is_some o ≡ true
+writing_takes f account request wish None h = absurd (cc h)
+writing_takes f account request wish (Some s) h = refl
+
+clarification_takes : (f : FixedPart) (request : Request) (wish : Wish) (who : Caller) → or_refused (wish_to_do (posted_as Clarification (posted_clarification f who request))) ≡ Ok wish → may_write who ≡ true
 clarification_takes f request wish None h = absurd (cc h)
-clarification_takes f request wish (Some account) h = refl
+clarification_takes f request wish (Some account) h = writing_takes f account.id request wish (sender_for account.role) h
 
 -- one line is a command's
 post_takes : (f : FixedPart) (who : Caller) (command : Command) (request : Request) (wish : Wish) → or_refused (wish_to_do (posted_by f who command request)) ≡ Ok wish → post_takes_memory who command ≡ true
@@ -66,14 +71,14 @@ post_takes f who CancelRejudging request wish h = judge_takes _ wish (judge_of w
 post_takes f who SetClock request wish h = clock_takes f.settings.head.id request.body wish (is_admin who) h
 post_takes f who Finalize request wish h = final_takes wish (is_admin who) h
 
-read_takes : (r wish : Wish) (b : Bool) → or_refused (if b then Ok r else Err RoleForbids) ≡ Ok wish → b ≡ true
-read_takes r wish true h = refl
-read_takes r wish false h = absurd (cc h)
+read_takes : (r wish : Wish) (refusal : Refusal) (b : Bool) → or_refused (if b then Ok r else Err refusal) ≡ Ok wish → b ≡ true
+read_takes r wish refusal true h = refl
+read_takes r wish refusal false h = absurd (cc h)
 
 by_takes : (f : FixedPart) (o : Option Caller) (request : Request) (r : Result Operation Reply) (wish : Wish) → wish_or_reply_by f o request r ≡ Ok wish → takes_memory_by o r ≡ true
 by_takes f o request (Err reply) wish h = absurd (cc h)
 by_takes f None request (Ok operation) wish h = absurd (cc h)
-by_takes f (Some who) request (Ok (ToRead reading)) wish h = read_takes (Read reading (audience_of who) request.path) wish (may_read who reading) h
+by_takes f (Some who) request (Ok (ToRead reading)) wish h = read_takes (Read reading (audience_of who) (named_by who reading request.path)) wish (unread_refusal reading) (may_read who reading) h
 by_takes f (Some who) request (Ok (ToDo command)) wish h = post_takes f who command request wish h
 
 pub wished_takes : (f : FixedPart) (credential : Credential) (request : Request) (wish : Wish) → wish_or_reply f credential request ≡ Ok wish → may_take_memory f credential request ≡ true

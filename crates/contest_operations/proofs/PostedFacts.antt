@@ -36,6 +36,7 @@ role_sight : (r : Role) (team : ℕ) → team_for r ≡ Some team → audience_f
 role_sight (role.Team t) team is = let e : t ≡ team = cc is in ap (λ u. audience.Team (u + 1)) e
 role_sight role.Judge team is = absurd (cc is)
 role_sight role.Admin team is = absurd (cc is)
+role_sight role.Analyst team is = absurd (cc is)
 
 pub team_sight : (who : Caller) (team : ℕ) → team_of who ≡ Some team → audience_of who ≡ audience.Team (team + 1)
 team_sight None team is = absurd (cc is)
@@ -45,6 +46,7 @@ judging_sight : (r : Role) (id account : List ℕ) → judging_id r id ≡ Some 
 judging_sight (role.Team team) id account is = absurd (cc is)
 judging_sight role.Judge id account is = refl
 judging_sight role.Admin id account is = refl
+judging_sight role.Analyst id account is = absurd (cc is)
 
 pub jury_sight : (who : Caller) (account : List ℕ) → judge_of who ≡ Some account → audience_of who ≡ audience.Jury
 jury_sight None account is = absurd (cc is)
@@ -54,6 +56,7 @@ admin_by_sight : (r : Role) → is_admin_by r ≡ true → audience_for r ≡ au
 admin_by_sight (role.Team team) is = absurd (cc is)
 admin_by_sight role.Judge is = absurd (cc is)
 admin_by_sight role.Admin is = refl
+admin_by_sight role.Analyst is = absurd (cc is)
 
 pub admin_sight : (who : Caller) → is_admin who ≡ true → audience_of who ≡ audience.Jury
 admin_sight None is = absurd (cc is)

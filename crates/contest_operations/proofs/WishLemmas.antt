@@ -1,22 +1,25 @@
 -- A wish that is read is its caller's, and is sound; what refuses it is no failure.
 use Rattle.std.proofs.Common.{◌≡◌, ◌∙◌, ℕ, Bool, true, false, List, Option, Some, None, Result, Ok, Err, refl, sym, ap, subst}
-use Rattle.std.specs.Prelude.{IfSome, if◌then◌else◌}
+use Rattle.std.specs.Prelude.{IfSome, ◌==◌, if◌then◌else◌}
 use Rattle.contest_types.specs.State.{ContestState, FixedPart}
 use Rattle.contest_types.specs.Valid.{is_valid}
 use Rattle.contest_types.specs.declared.audience.Audience.{Audience}
+use Rattle.contest_types.specs.Refusals.{status_of}
 use Rattle.contest_types.specs.declared.refusal.Refusal.{Refusal}
-use Rattle.contest_types.specs.declared.refusal.Refusal.TheVariants.{NotFound, RoleForbids}
+use Rattle.contest_types.specs.declared.refusal.Refusal.TheVariants.{NotFound}
 use Rattle.contest_operations.specs.Callers.{Caller, caller_of, audience_of}
 use Rattle.contest_operations.specs.Offers.{is_served, operation_of}
 use Rattle.contest_operations.specs.Replies.{refused, IsOrdinary}
 use Rattle.contest_operations.specs.Routes.{offer_at}
 use Rattle.contest_operations.specs.Step.{is_here, or_not_allowed, offered, asked_there, asked, or_refused, wish_or_reply_by, wish_or_reply}
 use Rattle.contest_operations.specs.Commands.{posted_by, poster}
-use Rattle.contest_operations.specs.Wishes.{may_read, wish_to_do, wish_of, IsSound}
+use Rattle.contest_operations.specs.Wishes.{may_read, named_by, unread_refusal, wish_to_do, wish_of, IsSound}
 use Rattle.contest_operations.specs.declared.offer.Offer.{Offer}
 use Rattle.contest_operations.specs.declared.command.Posted.{Posted}
 use Rattle.contest_operations.specs.declared.operation.Operation.{Operation}
 use Rattle.contest_operations.specs.declared.operation.Operation.TheVariants.{Read as ToRead, Do as ToDo}
+use Rattle.contest_operations.specs.declared.operation.Reading.{Reading}
+use Rattle.contest_operations.specs.declared.operation.Reading.TheVariants.{Whole, List as AllOf, Object, File, Scoreboard, GroupScoreboard, Account as OwnAccount, Jury as ForJury}
 use Rattle.contest_operations.specs.declared.reply.Reply.{Reply}
 use Rattle.contest_requests.specs.declared.request.Credential.{Credential}
 use Rattle.contest_requests.specs.declared.request.Method.{Method}
@@ -50,7 +53,7 @@ to_do_known f who (Ok posted) h = record { sound = h.sound; speaks = h.speaks }
 
 pub wish_known : (f : FixedPart) (who : Caller) (operation : Operation) (request : Request) → IsThere f who → IfKnown f (Some who) (wish_of f who operation request)
 wish_known f who (ToRead reading) request there =
-    let go : (b : Bool) → IfKnown {E = Refusal} f (Some who) (if b then Ok (Read reading (audience_of who) request.path) else Err RoleForbids) = elim [ true ↦ record { sound = tt; speaks = refl } | false ↦ tt ] in
+    let go : (b : Bool) → IfKnown {E = Refusal} f (Some who) (if b then Ok (Read reading (audience_of who) (named_by who reading request.path)) else Err (unread_refusal reading)) = elim [ true ↦ record { sound = tt; speaks = refl } | false ↦ tt ] in
     go (may_read who reading)
 wish_known f who (ToDo command) request there = to_do_known f who (posted_by f who command request) (post_known f who command request there)
 
@@ -99,9 +102,19 @@ to_do_ordinary : (r : Result Posted Refusal) → OrdinaryRefusal r → OrdinaryR
 to_do_ordinary (Err e) h = h
 to_do_ordinary (Ok posted) h = tt
 
+unread_ordinary : (reading : Reading) → (status_of (unread_refusal reading) == 503) ≡ false
+unread_ordinary (Whole endpoint) = refl
+unread_ordinary (AllOf endpoint) = refl
+unread_ordinary (Object endpoint) = refl
+unread_ordinary File = refl
+unread_ordinary Scoreboard = refl
+unread_ordinary GroupScoreboard = refl
+unread_ordinary OwnAccount = refl
+unread_ordinary (ForJury reading) = refl
+
 pub wish_ordinary : (f : FixedPart) (who : Caller) (operation : Operation) (request : Request) → OrdinaryRefusal (wish_of f who operation request)
 wish_ordinary f who (ToRead reading) request =
-    let go : (b : Bool) → OrdinaryRefusal (if b then Ok (Read reading (audience_of who) request.path) else Err RoleForbids) = elim [ true ↦ tt | false ↦ refl ] in
+    let go : (b : Bool) → OrdinaryRefusal (if b then Ok (Read reading (audience_of who) (named_by who reading request.path)) else Err (unread_refusal reading)) = elim [ true ↦ tt | false ↦ unread_ordinary reading ] in
     go (may_read who reading)
 wish_ordinary f who (ToDo command) request = to_do_ordinary (posted_by f who command request) (post_refusal_ordinary f who command request)
 

@@ -31,6 +31,7 @@ abbrev pub audience_for : Role → Audience
 audience_for (role.Team team) = audience_at team
 audience_for role.Judge = audience.Jury
 audience_for role.Admin = audience.Jury
+audience_for role.Analyst = audience.Jury
 
 -- the audience that a caller is
 abbrev pub audience_of : Caller → Audience
@@ -41,12 +42,14 @@ abbrev pub team_for : Role → Option ℕ
 team_for (role.Team team) = Some team
 team_for role.Judge = None
 team_for role.Admin = None
+team_for role.Analyst = None
 
 -- a judge and an administrator judge by the id of their account
 abbrev pub judging_id : Role → (id : List ℕ) → Option (List ℕ)
 judging_id (role.Team team) id = None
 judging_id role.Judge id = Some id
 judging_id role.Admin id = Some id
+judging_id role.Analyst id = None
 
 -- the id of the account that a caller judges by
 abbrev pub judge_of : Caller → Option (List ℕ)
@@ -60,7 +63,19 @@ abbrev pub is_admin_by : Role → Bool
 is_admin_by (role.Team team) = false
 is_admin_by role.Judge = false
 is_admin_by role.Admin = true
+is_admin_by role.Analyst = false
 
 -- the caller is an administrator
 abbrev pub is_admin : Caller → Bool
 is_admin who = option_map_or (λ (a : Account). is_admin_by a.role) who false
+
+-- an analyst reads what the jury reads, and posts nothing
+abbrev pub reads_all_by : Role → Bool
+reads_all_by (role.Team team) = false
+reads_all_by role.Judge = true
+reads_all_by role.Admin = true
+reads_all_by role.Analyst = true
+
+-- the caller reads what only the jury reads
+abbrev pub reads_all : Caller → Bool
+reads_all who = option_map_or (λ (a : Account). reads_all_by a.role) who false

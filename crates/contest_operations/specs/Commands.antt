@@ -19,7 +19,7 @@ use Rattle.contest_operations.specs.Paths.{jury_piece}
 use Rattle.contest_requests.specs.ClockBodies.{posted_clock}
 use Rattle.contest_requests.specs.JuryVerdicts.{IsSoundVerdict, posted_verdict}
 use Rattle.contest_requests.specs.RejudgingBodies.{IsSoundRejudging, posted_rejudging}
-use Rattle.contest_operations.specs.PostedClarifications.{posted_clarification}
+use Rattle.contest_operations.specs.PostedClarifications.{may_write, posted_clarification}
 use Rattle.contest_postings.specs.PostClarification.{clarification_done}
 use Rattle.contest_postings.specs.PostClock.{clock_done, final_done}
 use Rattle.contest_postings.specs.PostProposal.{proposal_done}
@@ -101,7 +101,7 @@ post_outcome now posted x = told (post_done now posted x)
 -- reading the body, or building the reply, may take memory: not where the caller's role forbids it
 abbrev pub post_takes_memory : Caller → Command → Bool
 post_takes_memory who Submit = is_some (team_of who)
-post_takes_memory who Clarify = is_some who
+post_takes_memory who Clarify = may_write who
 post_takes_memory who Propose = is_some (judge_of who)
 post_takes_memory who Verify = is_some (judge_of who)
 post_takes_memory who OpenRejudging = is_some (judge_of who)

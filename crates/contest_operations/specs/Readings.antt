@@ -1,7 +1,9 @@
 -- Reading (Contest API 2023-06): what an audience reads of a contest, and how it is answered.
 use Rattle.std.specs.Prelude.{ℕ, List, Option, Some, None}
+use Rattle.std.specs.Option.{option_map}
 use Rattle.serde_json.specs.Data.{Data}
-use Rattle.contest_types.specs.State.{ContestState}
+use Rattle.contest_types.specs.Accounts.{account_named}
+use Rattle.contest_types.specs.State.{ContestState, FixedPart}
 use Rattle.contest_types.specs.declared.audience.Audience.{Audience}
 use Rattle.contest_types.specs.declared.refusal.Refusal.TheVariants.{NotFound}
 use Rattle.contest_view.specs.Scoreboards.{group_scoreboard_found, scoreboard_data}
@@ -10,6 +12,7 @@ use Rattle.contest_view.specs.Clarifications.{clarifications_data, clarification
 use Rattle.contest_view.specs.Judgements.{judgements_data, judgement_found}
 use Rattle.contest_view.specs.Proposals.{proposals_data}
 use Rattle.contest_view.specs.Rejudgings.{rejudgings_data, rejudging_found}
+use Rattle.contest_objects.specs.AccountObjects.{account_data}
 use Rattle.contest_objects.specs.ContestObjects.{whole_data}
 use Rattle.contest_view.specs.FileReads.{file_found, file_place}
 use Rattle.contest_view.specs.Reads.{submissions_data, submission_found}
@@ -21,7 +24,7 @@ use Rattle.contest_operations.specs.declared.operation.Endpoint.TheVariants.{Set
 use Rattle.contest_operations.specs.declared.operation.JuryReading.{JuryReading}
 use Rattle.contest_operations.specs.declared.operation.JuryReading.TheVariants.{Proposals, Rejudgings, Rejudging}
 use Rattle.contest_operations.specs.declared.operation.Reading.{Reading}
-use Rattle.contest_operations.specs.declared.operation.Reading.TheVariants.{Whole, List as AllOf, Object, File, Scoreboard, GroupScoreboard, Jury as ForJury}
+use Rattle.contest_operations.specs.declared.operation.Reading.TheVariants.{Whole, List as AllOf, Object, File, Scoreboard, GroupScoreboard, Account as OwnAccount, Jury as ForJury}
 use Rattle.contest_operations.specs.declared.reply.Reply.{Reply}
 
 -- the array of an endpoint's objects that an audience sees
@@ -46,6 +49,10 @@ jury_found a now x Proposals id = Some (proposals_data a now x)
 jury_found a now x Rejudgings id = Some (rejudgings_data a x)
 jury_found a now x Rejudging id = rejudging_found a x id
 
+-- the account with an id
+abbrev pub account_found : FixedPart → (id : List ℕ) → Option Data
+account_found f id = option_map (account_data f.settings) (account_named f.accounts id)
+
 -- what isn't seen is answered as what isn't there
 abbrev pub told : Option Data → Reply
 told None = refused NotFound
@@ -56,22 +63,24 @@ abbrev pub file_told : Option (List ℕ) → Reply
 file_told None = refused NotFound
 file_told (Some bytes) = file_answer bytes
 
--- what an audience that reads a path is answered
-abbrev pub read : Audience → ℕ → ContestState → Reading → (path : List ℕ) → Reply
+-- what an audience that reads what a path names, or its own account by the id, is answered
+abbrev pub read : Audience → ℕ → ContestState → Reading → (named : List ℕ) → Reply
 read a now x (Whole endpoint) path = told (Some (whole_data endpoint x.fixed now))
 read a now x (AllOf endpoint) path = told (Some (all_data a now x endpoint))
 read a now x (Object endpoint) path = told (object_found a now x endpoint (object_piece path))
 read a now x File path = file_told (file_found a now x (object_piece path))
 read a now x Scoreboard path = told (Some (scoreboard_data a now None x))
 read a now x GroupScoreboard path = told (group_scoreboard_found a now x (object_piece path))
+read a now x OwnAccount id = told (account_found x.fixed id)
 read a now x (ForJury reading) path = told (jury_found a now x reading (jury_piece path))
 
 -- whose file is looked at, by its team and its number: one that the audience may read, or none
-abbrev pub read_file : Audience → Reading → (path : List ℕ) → ContestState → Option (ℕ × ℕ)
+abbrev pub read_file : Audience → Reading → (named : List ℕ) → ContestState → Option (ℕ × ℕ)
 read_file a (Whole endpoint) path x = None
 read_file a (AllOf endpoint) path x = None
 read_file a (Object endpoint) path x = None
 read_file a File path x = file_place a x.fixed x.submissions (object_piece path)
 read_file a Scoreboard path x = None
 read_file a GroupScoreboard path x = None
+read_file a OwnAccount id x = None
 read_file a (ForJury reading) path x = None

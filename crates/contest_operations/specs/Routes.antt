@@ -16,7 +16,7 @@ use Rattle.contest_operations.specs.declared.offer.Offer.{Offer}
 use Rattle.contest_operations.specs.declared.command.Command.TheVariants.{Submit, Clarify, Propose, Verify, OpenRejudging, JudgeRejudging, ApplyRejudging, CancelRejudging, SetClock, Finalize}
 use Rattle.contest_operations.specs.declared.operation.Endpoint.TheVariants.{Settings, Submissions, Judgements, Clarifications, Awards}
 use Rattle.contest_operations.specs.declared.operation.JuryReading.TheVariants.{Proposals, Rejudgings, Rejudging}
-use Rattle.contest_operations.specs.declared.operation.Reading.TheVariants.{Whole, List as AllOf, Object, File, Scoreboard, GroupScoreboard, Jury as ForJury}
+use Rattle.contest_operations.specs.declared.operation.Reading.TheVariants.{Whole, List as AllOf, Object, File, Scoreboard, GroupScoreboard, Account as OwnAccount, Jury as ForJury}
 
 -- each route's text, and what is offered there
 abbrev pub route_rows : List (List ℕ × Offer)
@@ -24,6 +24,7 @@ route_rows =
     (codes "/contests", reads (Whole Contests))
     ∷ (codes "/contests/{contest}", record (reads (Whole Contest)) { patch = Some SetClock })
     ∷ (codes "/contests/{contest}/state", reads (Whole State))
+    ∷ (codes "/contests/{contest}/account", reads OwnAccount)
     ∷ (codes "/contests/{contest}/scoreboard", reads Scoreboard)
     ∷ (codes "/contests/{contest}/judgement-types", reads (AllOf (Settings JudgementTypes)))
     ∷ (codes "/contests/{contest}/judgement-types/{id}", reads (Object (Settings JudgementTypes)))

@@ -7,17 +7,19 @@ ghost use Rattle.contest_operations.specs.Callers.{team_of};
 ghost use Rattle.contest_operations.specs.Routes.{routes};
 ghost use Rattle.contest_operations.specs.Replies.{IsOrdinary};
 ghost use Rattle.contest_operations.specs.Step.{may_take_memory, wish_or_reply};
-ghost use Rattle.contest_operations.specs.Wishes.{may_read, takes_memory, wish_of};
+ghost use Rattle.contest_operations.specs.Wishes.{may_read, named_by, takes_memory, unread_refusal};
+ghost use Rattle.contest_operations.specs.Wishes.{wish_of, wish_to_read};
 
 use crate::Reply;
 use crate::asked::asked;
-use crate::caller::{Caller, audience_of, caller_of, judge_of};
+use crate::caller::{Caller, account_of, audience_of, caller_of, reads_all};
 use crate::command::post;
 use crate::offer::Offer;
 use crate::operation::{Operation, Reading};
 use crate::wish::Wish;
+use contest_lists::copied_bytes;
 use contest_requests::{Credential, Request};
-use contest_types::{Fixed, Refusal};
+use contest_types::{Fixed, Refusal, Rows};
 use matchit::Router;
 use std::alloc::{AllocError, Global};
 
@@ -67,23 +69,76 @@ fn wish_of(
     ensures memory { IfErr result (λ e. e ≡ Refusal.Memory → takes_memory caller.now operation ≡ true) }
 {
     match operation {
-        Operation::Read(reading) => {
-            if may_read(caller, reading) {
-                Ok(Wish::Read(reading, audience_of(caller), request.path))
-            } else {
-                Err(Refusal::RoleForbids)
-            }
-        }
+        Operation::Read(reading) => wish_to_read(alloc, caller, reading, request.path),
         Operation::Do(command) => Ok(Wish::Do(post(alloc, fixed, caller, command, request)?)),
     }
 }
 
-// Whether a caller's role lets it read.
+// What a caller wishes that reads.
+fn wish_to_read(
+    alloc: Global,
+    caller: &Caller<'_>,
+    reading: Reading,
+    path: Rows<u8>,
+) -> Result<Wish, Refusal>
+    ensures ok { IfSome (team_of caller.now) (λ team. team + 1 < 2 ^ 64) → IfOk result (λ wish. wish_to_read caller.now reading path ≡ Ok wish) }
+    ensures err { IfErr result (λ e. (e ≡ Refusal.Memory) ⊎ (wish_to_read caller.now reading path ≡ Err e)) }
+    ensures memory { IfErr result (λ e. e ≡ Refusal.Memory → may_read caller.now reading ≡ true) }
+{
+    if may_read(caller, reading) {
+        let named = named_by(alloc, caller, reading, path)?;
+        Ok(Wish::Read(reading, audience_of(caller), named))
+    } else {
+        Err(unread_refusal(reading))
+    }
+}
+
+// What is named: by the path, or, of the caller's own account, by its id.
+fn named_by(
+    alloc: Global,
+    caller: &Caller<'_>,
+    reading: Reading,
+    path: Rows<u8>,
+) -> Result<Rows<u8>, AllocError>
+    ensures { IfOk result (λ named. named ≡ named_by caller.now reading path) }
+{
+    match reading {
+        Reading::Account => match account_of(caller) {
+            Some(account) => copied_bytes(alloc, account.id.as_bytes()),
+            None => Ok(path),
+        },
+        Reading::Whole(_)
+        | Reading::List(_)
+        | Reading::Object(_)
+        | Reading::File
+        | Reading::Scoreboard
+        | Reading::GroupScoreboard
+        | Reading::Jury(_) => Ok(path),
+    }
+}
+
+fn unread_refusal(reading: Reading) -> Refusal
+    ensures { result ≡ unread_refusal reading }
+{
+    match reading {
+        Reading::Account => Refusal::NotFound,
+        Reading::Whole(_)
+        | Reading::List(_)
+        | Reading::Object(_)
+        | Reading::File
+        | Reading::Scoreboard
+        | Reading::GroupScoreboard
+        | Reading::Jury(_) => Refusal::RoleForbids,
+    }
+}
+
+// Whether a caller may read.
 fn may_read(caller: &Caller<'_>, reading: Reading) -> bool
     ensures { result ≡ may_read caller.now reading }
 {
     match reading {
-        Reading::Jury(_) => judge_of(caller).is_some(),
+        Reading::Jury(_) => reads_all(caller),
+        Reading::Account => account_of(caller).is_some(),
         Reading::Whole(_)
         | Reading::List(_)
         | Reading::Object(_)

@@ -4,8 +4,8 @@ ghost use Rattle.std.specs.Option.{option_map};
 ghost use Rattle.contest_types.specs.declared.account.Account.{Account as TheAccount};
 ghost use Rattle.contest_types.specs.Masks.{audience_at};
 ghost use Rattle.contest_operations.specs.Callers.{audience_of, audience_for, caller_of, holder_of};
-ghost use Rattle.contest_operations.specs.Callers.{is_admin, is_admin_by, judge_of, team_for};
-ghost use Rattle.contest_operations.specs.Callers.{team_of};
+ghost use Rattle.contest_operations.specs.Callers.{is_admin, is_admin_by, judge_of, reads_all};
+ghost use Rattle.contest_operations.specs.Callers.{reads_all_by, team_for, team_of};
 
 use contest_requests::Credential;
 use contest_types::{Account, Audience, Fixed, Id, Role};
@@ -66,7 +66,7 @@ fn audience_for(role: Role) -> Audience
 {
     match role {
         Role::Team(team) => audience_at(team),
-        Role::Judge | Role::Admin => Audience::Jury,
+        Role::Judge | Role::Admin | Role::Analyst => Audience::Jury,
     }
 }
 
@@ -89,7 +89,7 @@ fn team_for(role: Role) -> Option<usize>
 {
     match role {
         Role::Team(team) => Some(team),
-        Role::Judge | Role::Admin => None,
+        Role::Judge | Role::Admin | Role::Analyst => None,
     }
 }
 
@@ -106,8 +106,8 @@ pub fn judge_of<'a>(caller: &Caller<'a>) -> Option<&'a Id>
 {
     let account = caller.account?;
     match account.role {
-        Role::Team(_) => None,
         Role::Judge | Role::Admin => Some(&account.id),
+        Role::Team(_) | Role::Analyst => None,
     }
 }
 
@@ -126,6 +126,25 @@ fn is_admin_by(role: Role) -> bool
 {
     match role {
         Role::Admin => true,
-        Role::Team(_) | Role::Judge => false,
+        Role::Team(_) | Role::Judge | Role::Analyst => false,
+    }
+}
+
+/// Whether a caller reads what only the jury reads.
+pub fn reads_all(caller: &Caller<'_>) -> bool
+    ensures { result ≡ reads_all caller.now }
+{
+    match caller.account {
+        Some(account) => reads_all_by(account.role),
+        None => false,
+    }
+}
+
+fn reads_all_by(role: Role) -> bool
+    ensures { result ≡ reads_all_by role }
+{
+    match role {
+        Role::Judge | Role::Admin | Role::Analyst => true,
+        Role::Team(_) => false,
     }
 }

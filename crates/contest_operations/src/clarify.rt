@@ -1,7 +1,7 @@
 //! A team asks, or the jury writes: what it posts.
 ghost use Rattle.std.specs.Prelude.{◌≡◌, ◌⊎◌, Some, None, Ok, Err, true, is_some, IfOk, IfErr};
 ghost use Rattle.contest_requests.specs.ClarificationBodies.{asked_in};
-ghost use Rattle.contest_operations.specs.PostedClarifications.{clarifying_by};
+ghost use Rattle.contest_operations.specs.PostedClarifications.{clarifying_by, may_write};
 ghost use Rattle.contest_operations.specs.PostedClarifications.{posted_clarification, sender_for};
 ghost use Rattle.contest_operations.specs.PostedClarifications.{writing_team};
 
@@ -12,7 +12,7 @@ use contest_rules::{Sender, WantedClarification};
 use contest_types::{Account, Fixed, Refusal, Role};
 use std::alloc::Global;
 
-/// What a caller posts, if it holds an account: it writes as its team, or as the jury.
+/// What a caller posts, if its role lets it write: as its team, or as the jury.
 ///
 /// # Errors
 ///
@@ -25,7 +25,7 @@ pub fn post_clarification(
 ) -> Result<Clarifying, Refusal>
     ensures ok { IfOk result (λ c. posted_clarification fixed.now caller.now request ≡ Ok c) }
     ensures err { IfErr result (λ e. (e ≡ Refusal.Memory) ⊎ (posted_clarification fixed.now caller.now request ≡ Err e)) }
-    ensures forbids { IfErr result (λ e. e ≡ Refusal.Memory → is_some caller.now ≡ true) }
+    ensures forbids { IfErr result (λ e. e ≡ Refusal.Memory → may_write caller.now ≡ true) }
 {
     match account_of(caller) {
         Some(account) => clarifying_by(alloc, fixed, account, request),
@@ -41,8 +41,11 @@ fn clarifying_by(
 ) -> Result<Clarifying, Refusal>
     ensures ok { IfOk result (λ c. clarifying_by fixed.now account.now request ≡ Ok c) }
     ensures err { IfErr result (λ e. (e ≡ Refusal.Memory) ⊎ (clarifying_by fixed.now account.now request ≡ Err e)) }
+    ensures forbids { IfErr result (λ e. e ≡ Refusal.Memory → is_some (sender_for account.now.role) ≡ true) }
 {
-    let sender = sender_for(account.role);
+    let Some(sender) = sender_for(account.role) else {
+        return Err(Refusal::RoleForbids);
+    };
     let wanted = wanted_by(alloc, fixed, sender, request)?;
     let account = account.id.clone()?;
     Ok(Clarifying {
@@ -70,11 +73,12 @@ fn wanted_by(
     }
 }
 
-fn sender_for(role: Role) -> Sender
+fn sender_for(role: Role) -> Option<Sender>
     ensures { result ≡ sender_for role }
 {
     match role {
-        Role::Team(team) => Sender::Team(team),
-        Role::Judge | Role::Admin => Sender::Jury,
+        Role::Team(team) => Some(Sender::Team(team)),
+        Role::Judge | Role::Admin => Some(Sender::Jury),
+        Role::Analyst => None,
     }
 }

@@ -32,6 +32,8 @@ pub enum Reading {
     Scoreboard,
     /// The scoreboard of a group, by the group's id (own).
     GroupScoreboard,
+    /// The caller's own account (Contest API 2023-06, account).
+    Account,
     /// What only the jury reads.
     Jury(JuryReading),
 }

@@ -4,20 +4,21 @@ ghost use Rattle.std.specs.Prelude.{◌≡◌, ℕ, true, IfOk, Option, option_m
 ghost use Rattle.serde_json.specs.Data.{Data};
 ghost use Rattle.serde_json.specs.Written.{compact_text};
 ghost use Rattle.contest_lists.specs.Lists.{loaded};
+ghost use Rattle.contest_types.specs.Accounts.{account_named};
 ghost use Rattle.contest_types.specs.State.{ContestState};
 ghost use Rattle.contest_types.specs.Valid.{is_valid};
 ghost use Rattle.contest_view.specs.SeenLists.{Shows};
 ghost use Rattle.contest_postings.specs.OwnSubmissions.{file_at};
-ghost use Rattle.contest_operations.specs.Readings.{all_data, file_told, jury_found, object_found};
-ghost use Rattle.contest_operations.specs.Readings.{read, read_file, told};
+ghost use Rattle.contest_operations.specs.Readings.{account_found, all_data, file_told, jury_found};
+ghost use Rattle.contest_operations.specs.Readings.{object_found, read, read_file, told};
 ghost use Rattle.contest_operations.specs.Replies.{IsOrdinary};
 
 use crate::Reply;
 use crate::operation::{Endpoint, JuryReading, Reading};
 use crate::path::{jury_piece, object_piece};
 use contest_lists::Lists;
-use contest_objects::{WholeContest, setting_text, settings_text, text_of};
-use contest_types::{Audience, Refusal, Rows};
+use contest_objects::{AccountObject, WholeContest, setting_text, settings_text, text_of};
+use contest_types::{Account, Audience, Fixed, Refusal, Rows};
 use contest_view::{
     Seen, award_by_id, awards_text, clarification_by_id, clarifications_text, file_place,
     group_scoreboard_text, judgement_by_id, judgements_text, named_submission, proposals_text,
@@ -45,6 +46,7 @@ pub fn read_file(
         | Reading::Object(_)
         | Reading::Scoreboard
         | Reading::GroupScoreboard
+        | Reading::Account
         | Reading::Jury(_) => None,
     }
 }
@@ -84,6 +86,10 @@ pub fn read(
         Reading::Scoreboard => Ok(Reply::answer(scoreboard_text(alloc, seen, None)?)),
         Reading::GroupScoreboard => {
             let found = group_scoreboard_text(alloc, seen, object_piece(path))?;
+            Ok(tell(found))
+        }
+        Reading::Account => {
+            let found = account_text(alloc, seen.lists.fixed(), path)?;
             Ok(tell(found))
         }
         Reading::Jury(reading) => {
@@ -126,6 +132,23 @@ fn object(
         Endpoint::Clarifications => clarification_by_id(alloc, seen, id),
         Endpoint::Awards => award_by_id(alloc, seen, id),
     }
+}
+
+// The text of the account with an id.
+fn account_text(alloc: Global, fixed: &Fixed, id: &[u8]) -> Result<Option<Vec<u8>>, AllocError>
+    ensures { IfOk result (λ found. option_map (λ text. text.items) found ≡ option_map compact_text (account_found fixed.now id.now)) }
+{
+    let Some(account) = account_named(fixed.accounts.as_slice(), id) else {
+        return Ok(None);
+    };
+    let settings = &fixed.settings;
+    Ok(Some(text_of(alloc, &AccountObject { settings, account })?))
+}
+
+fn account_named<'a>(accounts: &'a [Account], id: &[u8]) -> Option<&'a Account>
+    ensures { option_map (λ a. a.now) result ≡ account_named accounts.now id.now }
+{
+    accounts.iter().find(|account| account.id.as_bytes() == id)
 }
 
 // The text of what only the jury reads, if it is there.

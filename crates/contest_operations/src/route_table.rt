@@ -19,7 +19,7 @@ const NOTHING: Offer = Offer {
 
 /// The text of each route, as matchit reads it, and what is offered there (paths are the Contest
 /// API 2023-06's; a group's scoreboard and those under `/jury/` are own).
-static ROUTES: [(&str, Offer); 32] = [
+static ROUTES: [(&str, Offer); 33] = [
     (
         "/contests",
         Offer {
@@ -39,6 +39,13 @@ static ROUTES: [(&str, Offer); 32] = [
         "/contests/{contest}/state",
         Offer {
             get: Some(Reading::Whole(ContestEndpoint::State)),
+            ..NOTHING
+        },
+    ),
+    (
+        "/contests/{contest}/account",
+        Offer {
+            get: Some(Reading::Account),
             ..NOTHING
         },
     ),
@@ -251,7 +258,7 @@ static ROUTES: [(&str, Offer); 32] = [
     ),
 ];
 
-fn rows() -> &'static [(&'static str, Offer); 32]
+fn rows() -> &'static [(&'static str, Offer); 33]
     ensures { map (λ row. (row.0.now, row.1)) result.now ≡ route_rows }
 {
     &ROUTES

@@ -211,6 +211,7 @@ sender_team : (s : Setup) (r : Role) (c : Clarification) → may_send s r c ≡ 
 sender_team s (role.Team t) c h = (t, refl)
 sender_team s role.Judge c h = absurd (false≢true h)
 sender_team s role.Admin c h = absurd (false≢true h)
+sender_team s role.Analyst c h = absurd (false≢true h)
 
 sent_by : (f : FixedPart) (c : Clarification) → is_well_sent f c ≡ true → c.from_jury ≡ false → (t : ℕ) × (may_send f.settings (role.Team t) c ≡ true)
 sent_by f c sent mine =

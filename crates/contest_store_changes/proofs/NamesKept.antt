@@ -106,6 +106,7 @@ module _ (s t : Setup) (fronts : HasFronts s t) where
   role_kept (role.Team team) h = ap Some (kept (λ (u : Team). u.id) s.teams t.teams team fronts.teams (ltb-true team _ h))
   role_kept role.Judge h = refl
   role_kept role.Admin h = refl
+  role_kept role.Analyst h = refl
 
   accounts_kept : (accounts : List Account) → AllByRecursion (IsWritableAccount s) accounts → map (account_row t) accounts ≡ map (account_row s) accounts
   accounts_kept [] all = refl

@@ -25,6 +25,7 @@ role_read : (s : Setup) → IsValid s → (r : Role) → has_valid_role s r ≡ 
 role_read s valid (role.Team team) there = ap role.Team (place_back (λ (t : Team). t.id) s.teams team valid.teams (grind (arith, nat_tests, there)))
 role_read s valid role.Judge there = refl
 role_read s valid role.Admin there = refl
+role_read s valid role.Analyst there = refl
 
 account_is_said : (s : Setup) → IsValid s → (a : Account) → IsWritableAccount s a → account_said s (account_row s a) ≡ Some a
 account_is_said s valid a w =

@@ -20,7 +20,7 @@ digest_in (Blob b) = if length b == 32 then Some b else None
 digest_in _ = None
 
 abbrev pub role_in : (number team : ℕ) → Role
-role_in number team = if number == 0 then role.Team team else if number == 1 then role.Judge else role.Admin
+role_in number team = if number == 0 then role.Team team else if number == 1 then role.Judge else if number == 2 then role.Admin else role.Analyst
 
 -- what the cells say, if the id and the digest are some
 abbrev pub account_said : Setup → Row → Option Account

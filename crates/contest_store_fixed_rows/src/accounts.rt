@@ -34,6 +34,7 @@ fn role_number(role: Role) -> u64
         Role::Team(_) => 0,
         Role::Judge => 1,
         Role::Admin => 2,
+        Role::Analyst => 3,
     }
 }
 
@@ -42,7 +43,7 @@ fn role_team(settings: &Settings, role: Role) -> ValueRef<'_>
 {
     match role {
         Role::Team(team) => ValueRef::Text(settings.team_id(team).as_bytes()),
-        Role::Judge | Role::Admin => ValueRef::Null,
+        Role::Judge | Role::Admin | Role::Analyst => ValueRef::Null,
     }
 }
 
@@ -71,7 +72,8 @@ fn role_in(number: u64, team: usize) -> Role
     match number {
         0 => Role::Team(team),
         1 => Role::Judge,
-        _ => Role::Admin,
+        2 => Role::Admin,
+        _ => Role::Analyst,
     }
 }
 

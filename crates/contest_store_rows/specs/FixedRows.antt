@@ -70,12 +70,14 @@ abbrev pub role_number : Role → ℕ
 role_number (role.Team team) = 0
 role_number role.Judge = 1
 role_number role.Admin = 2
+role_number role.Analyst = 3
 
 -- the id of the account's team
 abbrev pub role_team : Setup → Role → Option (List ℕ)
 role_team s (role.Team team) = Some (team_id_at s team)
 role_team s role.Judge = None
 role_team s role.Admin = None
+role_team s role.Analyst = None
 
 abbrev pub account_row : Setup → Account → Row
 account_row s a = Text a.id ∷ number (role_number a.role) ∷ or_null Text (role_team s a.role) ∷ Blob a.digest ∷ []

@@ -73,7 +73,7 @@ fn may_send(settings: &Settings, role: Role, clarification: &Clarification) -> b
         Role::Team(team) => {
             is_to(team, clarification.addressee) && may_answer(settings, team, clarification.reply)
         }
-        Role::Judge | Role::Admin => false,
+        Role::Judge | Role::Admin | Role::Analyst => false,
     }
 }
 

@@ -90,6 +90,7 @@ role_wider : (m n : Setup) → IsFront m.teams n.teams → (r : Role) → has_va
 role_wider m n l (role.Team team) h = still_below _ _ team l h
 role_wider m n l role.Judge h = refl
 role_wider m n l role.Admin h = refl
+role_wider m n l role.Analyst h = refl
 
 pub account_wider : (m n : Setup) → IsFront m.teams n.teams → (a : Account) → is_valid_account m a ≡ true → is_valid_account n a ≡ true
 account_wider m n l a h = weaker (role_wider m n l a.role) kept h
@@ -104,6 +105,7 @@ sends_wider : (f g : FixedPart) → Wider f g → (r : Role) (c : Clarification)
 sends_wider f g w (role.Team team) c h = weaker kept (replies_wider (audience_at team) f.settings g.settings (w.heard (audience_at team)) c.reply) h
 sends_wider f g w role.Judge c h = h
 sends_wider f g w role.Admin c h = h
+sends_wider f g w role.Analyst c h = h
 
 sender_wider : (f g : FixedPart) → Wider f g → (found more : Option Account) (c : Clarification) → ((a : Account) → found ≡ Some a → more ≡ Some a)
     → option_map_or (λ a. may_send f.settings a.role c) found false ≡ true → option_map_or (λ a. may_send g.settings a.role c) more false ≡ true

@@ -99,6 +99,12 @@ same_account_again = refl
 other_role : account_addition settings accounts (account_for (codes "j1") role.Admin) ≡ Err KeyReused
 other_role = refl
 
+analyst_added : account_addition settings accounts (account_for (codes "b1") role.Analyst) ≡ Ok true
+analyst_added = refl
+
+analyst_isnt_judge : account_addition settings accounts (account_for (codes "j1") role.Analyst) ≡ Err KeyReused
+analyst_isnt_judge = refl
+
 -- another account has the token
 token_held : account_addition settings accounts (record { id = codes "b1"; role = role.Judge; digest = codes "j1" }) ≡ Err KeyReused
 token_held = refl

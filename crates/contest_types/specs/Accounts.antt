@@ -30,11 +30,13 @@ abbrev pub has_valid_role : Setup → Role → Bool
 has_valid_role s (role.Team team) = nat_lt team (length s.teams)
 has_valid_role s role.Judge = true
 has_valid_role s role.Admin = true
+has_valid_role s role.Analyst = true
 
 abbrev pub same_role : Role → Role → Bool
 same_role (role.Team t) (role.Team u) = t == u
 same_role role.Judge role.Judge = true
 same_role role.Admin role.Admin = true
+same_role role.Analyst role.Analyst = true
 same_role _ _ = false
 
 abbrev pub same_account : Account → Account → Bool

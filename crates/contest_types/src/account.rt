@@ -11,6 +11,8 @@ pub enum Role {
     Judge,
     /// It judges and keeps the clock.
     Admin,
+    /// It reads what the jury reads, and posts nothing (own; balloons, presenters, observers).
+    Analyst,
 }
 
 /// An account. Its token is known by its digest alone.

@@ -7,7 +7,7 @@ pub enum Audience {
     Public,
     /// The team with this number, counted from 1 in the order of import.
     Team(usize),
-    /// Judges and administrators.
+    /// Judges, administrators and analysts.
     Jury,
 }
 

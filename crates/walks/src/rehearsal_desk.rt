@@ -15,13 +15,14 @@ use std::rc::Rc;
 use std::test::Fail;
 
 /// The accounts, by id. The token of each is `token-` and its id.
-static ACCOUNTS: [(&str, Role); 6] = [
+static ACCOUNTS: [(&str, Role); 7] = [
     ("a1", Role::Team(0)),
     ("a2", Role::Team(1)),
     ("a3", Role::Team(3)),
     ("a9", Role::Team(2)),
     ("adm", Role::Admin),
     ("j1", Role::Judge),
+    ("o1", Role::Analyst),
 ];
 
 /// Two judgement types, two languages, three problems, a group and four teams. The problems come
