@@ -5,9 +5,9 @@
 
 The demo contest, with verification and with names that look like markup or run from right to left, is served by the
 program behind Debian's nginx; the clock is set by faketime. In one tab each: a director sets the start, a team
-submits and asks, one judge proposes and answers, another verifies, the public looks at the board before, in and after
-the freeze. A post whose reply breaks off, or whose desk is away, is sent again by a page that was loaded anew. With
---shots the pages are kept as pictures in that folder, wide and narrow.
+submits and asks, one judge proposes and answers, another verifies, an analyst watches, the public looks at the board
+before, in and after the freeze. A post whose reply breaks off, or whose desk is away, is sent again by a page that was
+loaded anew. With --shots the pages are kept as pictures in that folder, wide and narrow.
 
 Takes nginx, openssl, chromium, chromium-driver and faketime. Ends with the line `N passed, M failed`; the exit status
 is 0 if M is 0.
@@ -26,14 +26,15 @@ NAMES = {"t1,Alpha": f"t1,{MARKUP}", "t2,Beta": f"t2,{RIGHT}", "t3,Gamma": f"t3,
 
 
 def files():
-    """The demo contest's, with these names, a second judge's eye, and no start yet."""
+    """The demo contest's, with these names, an analyst, a second judge's eye, and no start yet."""
     teams, problems = demo.FILES["teams-csv"], demo.FILES["problems"].replace("Apples", IMAGE.replace('"', '\\"'))
     for old, new in NAMES.items():
         teams = teams.replace(old, new)
     contest = demo.CONTEST.replace('"duration"', '"verification":true,"duration"').replace(
         "Demo Cup", f"Demo {MARKUP} Cup"
     )
-    return {**demo.FILES, "init": contest, "teams-csv": teams, "problems": problems}
+    accounts = demo.FILES["accounts-csv"] + "o1,analyst,,token-o1\n"
+    return {**demo.FILES, "init": contest, "teams-csv": teams, "problems": problems, "accounts-csv": accounts}
 
 
 class Day(Pages):
@@ -101,6 +102,7 @@ def try_verdicts(pages):
     for who in ("judge1", "judge2"):
         pages.sign_in(who, "jury", f"token-j{who[-1]}")
         pages.sees("what waits", "#tab-Judging", "Judging (2)")
+        pages.sees("who is signed in", "#who", f"j{who[-1]} (judge)")
     pages.judges("judge1", "s1-1", "WA", "propose")
     pages.sees("a proposal", "#told", "s1-1: WA is proposed.")
     pages.sees("its row", '[data-id="s1-1"]', "WA by j1")
@@ -208,6 +210,25 @@ def try_freeze(pages):
     pages.lacks("the jury's board", "#board .pending")
 
 
+def try_analyst(pages):
+    """An analyst sees what the jury sees, and is shown nothing to do; a post of it is refused."""
+    browser = pages.browser
+    pages.sign_in("watcher", "jury", "token-o1")
+    pages.sees("who is signed in", "#who", "o1 (analyst)")
+    pages.lacks("the jury's board", "#board .pending")
+    pages.sees("what was asked", '#clarifications [data-id="c1-1"]', MARKUP)
+    for tab in ("Judging", "Questions", "Rejudgings", "Judged", "Board", "Clock"):
+        browser.click(f"#tab-{tab}")
+        shown = browser.run(
+            "const all = [...document.querySelectorAll('#inside section :is(button, input, select, textarea)')];"
+            "return all.filter((one) => one.checkVisibility() && !('look' in one.dataset)).map((one) => one.outerHTML)"
+        )
+        pages.same(f"what an analyst may do by the tab {tab}", shown, [])
+    browser.look_at("judge1")
+    browser.click("#tab-Questions")
+    pages.note(browser.run("return document.getElementById('answer').checkVisibility()"), "a judge may answer")
+
+
 def try_end(pages):
     """Final results and the thaw; then the public sees all, and the awards."""
     browser = pages.browser
@@ -254,7 +275,7 @@ def try_markup(pages):
     pages.same("the names at the desk", names[:3], [MARKUP, RIGHT, TURNED])
 
 
-PARTS = [try_start, try_team, try_verdicts, try_questions, try_rejudging, try_freeze, try_end, try_markup]
+PARTS = [try_start, try_team, try_verdicts, try_questions, try_rejudging, try_freeze, try_analyst, try_end, try_markup]
 
 
 if __name__ == "__main__":

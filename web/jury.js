@@ -4,7 +4,7 @@
 import { ANSWER, beginAnswers, showAnswerChoices, showClarifications } from "./answers.js";
 import { awardItem, showBoard, showState } from "./board.js";
 import { beginClock, CLOCK, showMoments } from "./clock.js";
-import { ask } from "./desk.js";
+import { ask, Refusal } from "./desk.js";
 import { at, button, fill } from "./elements.js";
 import { beginJudging, showJudged, showVerdictChoices, showWaiting, VERDICT } from "./judging.js";
 import { sendKept } from "./posts.js";
@@ -62,4 +62,12 @@ async function begin() {
   await jury.renew();
 }
 
-signIn(() => ask("jury/proposals"), begin);
+// This page is for the accounts of the jury. What an analyst may not do isn't shown (desk.css).
+async function check() {
+  const account = await ask(`${jury.path}/account`);
+  if (account.type === "team") throw new Refusal(403, "RoleForbids");
+  at("who").textContent = `${account.username} (${account.type})`;
+  document.body.dataset.account = account.type;
+}
+
+signIn(check, begin);

@@ -25,6 +25,7 @@ const SUBMISSION = {
 const QUESTION = { name: "question", buttons: "#question-button", words: () => "The jury has your question." };
 
 const path = await contestPath();
+let team = null;
 let settings = null;
 let renewNow = null;
 
@@ -77,13 +78,6 @@ function showSubmissions(submissions, judgements) {
   fill(at("submissions"), listParts(["Id", "Time", "Problem", "Language", "Verdict"], rows.reverse()));
 }
 
-// The team whose page this is, once anything of its own tells that: a submission of which it is shown the file, or a
-// clarification that isn't for all, since it hears those of no other team.
-function ownTeam(own, clarifications) {
-  const heard = clarifications.map((one) => one.from_team_id ?? one.to_team_id);
-  return [...own.map((one) => one.team_id), ...heard].find((id) => id !== null) ?? null;
-}
-
 async function renew() {
   const names = ["", "/scoreboard", "/submissions", "/judgements", "/clarifications", "/awards"];
   const replies = await Promise.all(names.map((name) => ask(path + name)));
@@ -92,8 +86,7 @@ async function renew() {
   if (settings === null) await showSettings();
   // The desk shows the files of a team's own submissions alone.
   const own = submissions.filter((one) => "files" in one);
-  const team = ownTeam(own, clarifications);
-  fill(at("who"), [freeText(team === null ? "" : nameIn(settings.teams, team))]);
+  fill(at("who"), [freeText(nameIn(settings.teams, team))]);
   showSubmissions(own, judgements);
   fill(at("clarifications"), clarifications.map((one) => clarificationItem(settings, one, clarifications)).reverse());
   showBoard(at("board"), settings, { board, awards, team });
@@ -121,14 +114,11 @@ async function begin() {
   await renewNow();
 }
 
-// The jury is shown the files of all teams, so this page would take it for one of them.
+// This page is for the accounts of teams.
 async function check() {
-  await ask(`${path}/submissions`);
-  const isOfJury = await ask("jury/proposals").then(() => true, (refusal) => {
-    if (!(refusal instanceof Refusal) || refusal.isAway) throw refusal;
-    return false;
-  });
-  if (isOfJury) throw new Refusal(403, "NoTeam");
+  const account = await ask(`${path}/account`);
+  if (account.type !== "team") throw new Refusal(403, "NoTeam");
+  team = account.team_id;
 }
 
 signIn(check, begin);
