@@ -1,14 +1,14 @@
 -- The same rows, added in another order, leave a contest alike for everybody.
-use Rattle.std.proofs.Common.{◌≡◌, ◌∙◌, ◌++◌, ℕ, Bool, true, false, List, [], ◌∷◌, map, refl, sym, ap, subst, inl, inr}
+use Rattle.std.proofs.Common.{◌≡◌, ◌∙◌, ◌++◌, ℕ, Bool, true, List, [], ◌∷◌, map, refl, sym, ap, subst, inl, inr}
 use Rattle.std.specs.Prelude.{filter, if◌then◌else◌}
 use Rattle.std.proofs.lemmas.List.{append-nil, append_assoc}
 use Rattle.std.proofs.lemmas.List.Elements.{filter-append}
 use Rattle.contest_types.specs.Addable.{are_addable}
-use Rattle.contest_types.specs.Alike.{Alike, OwnRecord, OpenRecord, own_record, open_record, sight_of, Whole, Open, Nothing}
+use Rattle.contest_types.specs.Alike.{Alike, own_record, open_record, sight_of, Whole, Open, Nothing}
 use Rattle.contest_types.specs.Clock.{is_frozen}
 use Rattle.contest_types.specs.Masks.{owns}
-use Rattle.contest_types.specs.Sight.{Judgement, judgement_of, judgements_on}
-use Rattle.contest_types.specs.State.{ContestState, FixedPart, add, add_all, names, of_release, releases_on, submissions_of}
+use Rattle.contest_types.specs.Sight.{judgement_of, judgements_on}
+use Rattle.contest_types.specs.State.{ContestState, add, add_all, names, of_release, releases_on, submissions_of}
 use Rattle.contest_types.specs.TeamPlaces.{is_public}
 use Rattle.contest_types.specs.declared.account.Account.{Account}
 use Rattle.contest_types.specs.declared.audience.Audience.{Audience}

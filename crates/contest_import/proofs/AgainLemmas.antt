@@ -1,6 +1,6 @@
 -- What a file adds stands afterwards, so the same file adds nothing more.
 use Rattle.std.proofs.Common.{◌≡◌, ◌∙◌, ℕ, ◌+◌, Bool, true, false, List, [], ◌∷◌, ◌++◌, map, filter, option_and_then, Option, Some, None, Result, Ok, Err, refl, sym, ap, subst}
-use Rattle.std.specs.Prelude.{IfOk, IfSome, codes, find, length, nat_le, if◌then◌else◌}
+use Rattle.std.specs.Prelude.{IfOk, find, length, nat_le, if◌then◌else◌}
 use Rattle.std.specs.Option.{option_or}
 use Rattle.std.specs.Str.{bytes_eq}
 use Rattle.std.specs.Ordering.{nat_cmp, is_lt, ordering_reverse}
@@ -42,12 +42,12 @@ use Rattle.contest_types.specs.declared.refusal.Cause.TheVariants as cause
 use Rattle.contest_types.specs.declared.refusal.Refusal.{Refusal}
 use Rattle.contest_types.proofs.AccountLemmas.{named_still}
 use Rattle.contest_types.proofs.PlaceLemmas.{same_bytes, bytes_same}
-use Rattle.contest_files.specs.JsonMembers.{flag_in, flag_or_false, id_in, items_in, name_in, number_in}
+use Rattle.contest_files.specs.JsonMembers.{items_in}
 use Rattle.contest_import.specs.CsvFiles.{account_by, account_fields, account_names, account_or_malformed, account_record, four_of, role_of, team_names, team_record}
 use Rattle.contest_import.specs.Files.{csv_records, or_off_form, rows_in}
 use Rattle.contest_import.specs.RowAdditions.{Additions, after_addition, after_record, after_records, none_yet, or_first_fault, row_addition, rows_of, rows_or_refusal, with_row}
-use Rattle.contest_import.specs.SettingsObjects.{group_in, language_in, object_row, or_malformed, problem_in, team_in, type_in}
-use Rattle.contest_import.specs.Teams.{group_places, team_by, team_or_malformed}
+use Rattle.contest_import.specs.SettingsObjects.{object_row, team_in}
+use Rattle.contest_import.specs.Teams.{team_by, team_or_malformed}
 use Rattle.contest_import.specs.declared.account_row.AccountRow.{AccountRow}
 use Rattle.contest_import.specs.declared.team_row.TeamRow.{TeamRow}
 use Rattle.contest_import.proofs.RowLemmas.{Fits, IsSoundRow, records_fit}

@@ -175,8 +175,16 @@ fn with_submission(
     let start = start_of(&lists.fixed().marks);
     let verdict = last_verdict(lists, submission.team, submission.number);
     MaskedCell {
-        held: with_attempt(cell.held, start, attempt_of(lists, Mask::Held, submission, verdict)),
-        full: with_attempt(cell.full, start, attempt_of(lists, Mask::Full, submission, verdict)),
+        held: with_attempt(
+            cell.held,
+            start,
+            attempt_of(lists, Mask::Held, submission, verdict),
+        ),
+        full: with_attempt(
+            cell.full,
+            start,
+            attempt_of(lists, Mask::Full, submission, verdict),
+        ),
     }
 }
 
@@ -191,12 +199,7 @@ fn start_of(marks: &Marks) -> Moment
 }
 
 // A submission with the verdict that was released last on it, as an attempt.
-fn attempt_of(
-    lists: &Lists,
-    mask: Mask,
-    submission: &Submission,
-    verdict: Option<usize>,
-) -> Attempt
+fn attempt_of(lists: &Lists, mask: Mask, submission: &Submission, verdict: Option<usize>) -> Attempt
     requires { verdict ≡ type_of (last_on lists.now.releases submission.now.team submission.now.number) }
     ensures { result ≡ attempt_at mask lists.now submission.now }
 {

@@ -1,4 +1,4 @@
-use Rattle.std.proofs.Common.{◌≡◌, ℕ, None, length}
+use Rattle.std.proofs.Common.{◌≡◌, ℕ, length}
 use Rattle.contest_score.specs.CachedCells.{cell_in}
 use Rattle.contest_score.proofs.cached_cells.make_row.Given as goal
 

@@ -1,13 +1,10 @@
 use Rattle.std.proofs.Common.{◌≡◌, ◌∙◌, ◌<◌, Some, arith, ap, length, refl}
 use Rattle.std.specs.Prelude.{slice_get}
 use Rattle.contest_types.specs.State.{submissions_of}
-use Rattle.contest_types.specs.declared.sight.Mask.{Mask}
 use Rattle.contest_types.specs.declared.sight.Mask.TheVariants.{Full, Held}
 use Rattle.contest_lists.proofs.TeamRowLemmas.{as_many, next_own, taken_all}
 use Rattle.contest_score.specs.Contest.{contest_cell}
-use Rattle.contest_score.specs.Counting.{HasRoom}
-use Rattle.contest_score.specs.declared.cell.Cell.{Cell}
-use Rattle.contest_score.proofs.OwnCells.{own_cell, own_cell_next, own_cell_room, own_cell_whole}
+use Rattle.contest_score.proofs.OwnCells.{own_cell_next, own_cell_room, own_cell_whole}
 use Rattle.contest_store.proofs.scoring.masked_cell.Goals as goal
 
 pub with_submission-cell-requires-clause-held : goal.with_submission-cell-requires-clause-held
@@ -30,9 +27,10 @@ loop-place-preserved c =
     let k = c.loop-place.place-index in
     let own = submissions_of c.args.team rows in
     let row = c.index-submissions-place.result in
-    let at : slice_get own k ≡ Some row = next_own c.args.team rows c.places_of-place-items.result.now k row c.places_of-place-items.ensures.places c.places_of-place-items.ensures.within c.loop-place-test.true (rw c.submissions-submissions.ensures at c.index-submissions-place.is) in
-    (c.with_submission-cell.ensures.held ∙ (rw c.loop-place.invariant.0 (own_cell_next Held c.args.lists.now c.args.problem own k row at)),
-    c.with_submission-cell.ensures.full ∙ (rw c.loop-place.invariant.1 (own_cell_next Full c.args.lists.now c.args.problem own k row at)))
+    let at : slice_get own k ≡ Some row = next_own c.args.team rows c.places_of-place-items.result.now k row c.places_of-place-items.ensures.places c.places_of-place-items.ensures.within c.loop-place-test.true (rw c.submissions-submissions.ensures at c.index-submissions-place.is) in (
+      c.with_submission-cell.ensures.held ∙ (rw c.loop-place.invariant.0 (own_cell_next Held c.args.lists.now c.args.problem own k row at)),
+      c.with_submission-cell.ensures.full ∙ (rw c.loop-place.invariant.1 (own_cell_next Full c.args.lists.now c.args.problem own k row at)),
+    )
 
 pub returns : goal.returns
 returns c =
