@@ -5,8 +5,8 @@ well.
     desk_faults.py [--program PATH] [--every N]
 
 What lib/trials.py tells is done again and again: `desk init`, imports of teams and of two verdicts, a board that
-fills the cells; and, by a server, a submission with a key, a verdict, a rejudging of three that is applied, and a
-thaw.
+fills the cells; and, by a server, a submission with a key, a verdict, a rejudging of three that is applied, a thaw, a
+late team and an account.
 
 - Each call on the files (each Nth) fails, alone and with all later ones (lib/fail_disk.c), up to a run in which none
   does.
@@ -14,8 +14,8 @@ thaw.
 
 Each time the answer is that of a whole run, or a refusal: a line of status 1, or a reply 503. sqlite3 shows the
 contest before or after the command or request, as a whole run leaves it at the same moment, and right cells; what was
-answered as done stands. Once the disk is well and has room the same ends as a whole run does, and a submission that
-is posted again with its key gets its first reply and stands once.
+answered as done stands. Once the disk is well and has room the same ends as a whole run does: a submission that is
+posted again with its key, a team and an account get their first reply and stand once.
 
 Takes faketime, sqlite3 and a C compiler, and runs as root, which may mount disks. Ends with the line `N passed, M
 failed`; the exit status is 0 if M is 0.

@@ -15,6 +15,7 @@ import re
 import sys
 
 from lib import desk_opinion, program, verdict_file_opinion
+from lib.adder import Adder
 from lib.clarifier import Clarifier
 from lib.demo import AT_REHEARSAL, REHEARSAL, START
 from lib.desk_opinion import moment
@@ -28,7 +29,7 @@ KEYS = [None, None, "k1", "k2", "k3", "?"]
 FILES = [b"abc", b"", b"abd", bytes(7)]
 
 
-class Asker(Clarifier, Director, Rejudger, Timekeeper):
+class Asker(Adder, Clarifier, Director, Rejudger, Timekeeper):
     """What is asked next, by a seed."""
 
     def post(self):
@@ -76,6 +77,8 @@ def next_request(chance, contest):
     what = chance.random.random()
     if what > 0.95:
         return chance.about_clock(contest, ACCOUNTS)
+    if what > 0.92:
+        return chance.about_rows(contest, ACCOUNTS)
     if what < 0.5:
         return (chance.about_clarifications if what < 0.25 else chance.about_rejudgings)(contest, ACCOUNTS)
     who = chance.often(f"token-{chance.one(ACCOUNTS)}", ["public", "bad token", "token-none"], 0.85)

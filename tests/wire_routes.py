@@ -37,6 +37,8 @@ POST = compact({"problem_id": "a", "language_id": "cpp", "files": [{"data": "YWJ
 QUESTION = compact({"text": "Is 0 allowed?"})
 JUDGED = compact({"submission_id": "s1-1", "judgement_type_id": "AC"})
 OPENED = compact({"reason": "data", "submission_ids": ["s1-1"]})
+ACCOUNT = compact({"id": "n1", "role": "team", "team_id": "t1", "token": "token-n1"})
+TEAM = compact({"id": "t5", "name": "Late", "group_ids": ["north"]})
 # Each path of the table of routes, with a body that its command takes.
 ROUTES = {
     **{f"{AT_REHEARSAL}/{name}": "" for name in COLLECTIONS}, **{f"{AT_REHEARSAL}/{name}/{one}": "" for name, one in COLLECTIONS.items()},
@@ -44,6 +46,7 @@ ROUTES = {
     f"{AT_REHEARSAL}/groups/north/scoreboard": "", f"{AT_REHEARSAL}/account": "", "/contests": "", AT_REHEARSAL: compact({"scoreboard_thaw_time": moment(END)}), "/jury/proposals": JUDGED, "/jury/verifications": JUDGED,
     AT_REJUDGINGS: OPENED, f"{AT_REJUDGINGS}/1": "", f"{AT_REJUDGINGS}/1/verdicts": JUDGED, f"{AT_REJUDGINGS}/1/apply": "",
     f"{AT_REJUDGINGS}/1/cancel": "", "/jury/finalize": "",
+    "/jury/accounts": ACCOUNT, "/jury/teams": TEAM,
 }  # fmt: skip
 MOMENTS = {"before the start": START - 1, "at 9:05": START + 300_000, "at 13:20": FREEZE + 1_200_000, "final": END}
 # One of each command comes first, so that there is something to read.

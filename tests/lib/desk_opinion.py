@@ -15,7 +15,7 @@ from dataclasses import dataclass
 from . import awards_opinion, clock_opinion, rejudging_opinion
 from .clarification_opinion import clarification_object, clarify, heard_clarifications
 from .contest_opinion import is_jury, moment, owns, place_of, sees_all
-from .import_opinion import COLLECTIONS, Refused, compact, has_come, is_id, is_name, member, json_of
+from .import_opinion import COLLECTIONS, Refused, compact, has_come, is_id, is_name, is_new, json_of, member, posted_account, row_of
 from .replay_opinion import Fault, reltime_text
 
 FILE_LIMIT = 1_048_576
@@ -315,8 +315,8 @@ def offered(contest, path):
         return ["GET", "HEAD", "POST"] if pieces[2] == "proposals" else ["POST"], pieces[2], None
     if pieces[:3] == ["", "contests", contest["id"]] and pieces[3:] in (["account"], ["state"], ["scoreboard"]):
         return ["GET", "HEAD"], pieces[3], None
-    if path == "/jury/finalize":
-        return ["POST"], "finalize", None
+    if path in ("/jury/finalize", "/jury/accounts", "/jury/teams"):
+        return ["POST"], pieces[2], None
     if path == "/contests":
         return ["GET", "HEAD"], "contests", None
     if pieces == ["", "contests", contest["id"]]:
@@ -401,12 +401,42 @@ def proposals_read(asked):
     return open_proposals(asked.contest, asked.caller)
 
 
+def account_object(account):
+    return {"id": account["id"], "team_id": account["team"], "type": account["role"], "username": account["id"]}
+
+
 def account_read(asked):
     """The caller's own account; the public has none."""
     if asked.caller is None:
         raise Refused("NotFound")
-    account, role, team = (asked.caller[part] for part in ("id", "role", "team"))
-    return {"id": account, "team_id": team, "type": role, "username": account}
+    return account_object(asked.caller)
+
+
+def is_over(contest, now):
+    """Whether the contest has ended, or a moment of final results is set."""
+    start = contest["start"]
+    return (start is not None and now >= start + contest["duration"]) or contest["finalized"] is not None
+
+
+def row_added(asked):
+    """The account or the team that an administrator adds, or that stands already."""
+    contest, which = asked.contest, asked.name
+    if asked.caller is None or asked.caller["role"] != "admin":
+        raise Refused("RoleForbids")
+    is_closed = which == "teams" and is_over(contest, asked.now)
+    try:
+        said = json_of(asked.body)
+        row = posted_account(said, contest) if which == "accounts" else row_of("teams", said, contest)[1]
+        added = is_new(contest[which], which, row)
+    except Fault as fault:
+        if str(fault) == "TableFull":
+            raise Refused("NotOpen" if is_closed else "TeamLimit")
+        raise Refused(str(fault))
+    if added and is_closed:
+        raise Refused("NotOpen")
+    if added:
+        contest[which].append(row)
+    return account_object(row) if which == "accounts" else row
 
 
 def group_scoreboard(asked):
@@ -431,6 +461,8 @@ REJUDGINGS = dict.fromkeys(("rejudgings", *rejudging_opinion.STEPS), rejudged)
 CHANGES = {
     "contest": clock_set,
     "finalize": clock_set,
+    "accounts": row_added,
+    "teams": row_added,
     "submissions": submitted,
     "clarifications": clarified,
     "proposals": lambda asked: propose(asked.contest, asked.now, asked.caller, asked.body),

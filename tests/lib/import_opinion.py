@@ -185,6 +185,14 @@ def csv_row(kind, fields, contest):
     return "accounts", {"id": row_id, "role": role, "team": team, "digest": hashlib.sha256(fields[3]).hexdigest()}
 
 
+def posted_account(row, contest):
+    """An account that a posted object says."""
+    row_id, team = member(row, "id", is_id), member(row, "team_id", is_id, "")
+    role, token = (member(row, name, lambda text: isinstance(text, str)) for name in ("role", "token"))
+    fields = [text.encode("utf-8", "replace") for text in (row_id, role, team, token)]
+    return csv_row("accounts-csv", fields, contest)[1]
+
+
 def is_new(rows, which, row):
     """Whether a row is added to those that stand."""
     for other in rows:

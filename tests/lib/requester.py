@@ -1,6 +1,7 @@
 """What all who may ask ask of the rehearsal, by a seed."""
 
 from . import desk_opinion
+from .adder import Adder
 from .clarifier import Clarifier
 from .demo import AT_REHEARSAL
 from .import_opinion import compact
@@ -22,7 +23,7 @@ def closing(contest):
     return asked + [("token-adm", None, "POST", "/jury/finalize", "")]
 
 
-class Requester(Clarifier, Rejudger, Timekeeper):
+class Requester(Adder, Clarifier, Rejudger, Timekeeper):
     """What is asked next."""
 
     def submission(self, contest):
@@ -34,6 +35,8 @@ class Requester(Clarifier, Rejudger, Timekeeper):
         what, accounts = self.random.random(), [row for row, _, _ in ACCOUNTS]
         if what > 0.96:
             return self.about_clock(contest, accounts)
+        if what > 0.93:
+            return self.about_rows(contest, accounts)
         if what < 0.5:
             return (self.about_clarifications if what < 0.25 else self.about_rejudgings)(contest, accounts)
         role = self.random.random()

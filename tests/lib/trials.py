@@ -32,6 +32,8 @@ REJUDGED += [(32, "token-j1", "/jury/rejudgings/1/verdicts", judged(which, "WA")
 APPLY = ("token-j1", None, "POST", "/jury/rejudgings/1/apply", "")
 THAWED = compact({"id": "rehearsal", "scoreboard_thaw_time": clock.moment(END + 60_000)})
 THAW = ("token-adm", None, "PATCH", AT_REHEARSAL, THAWED)
+LATE = ("token-adm", None, "POST", "/jury/teams", compact({"id": "t5", "name": "Late", "group_ids": ["north"]}))
+ACCOUNT = ("token-adm", None, "POST", "/jury/accounts", compact({"id": "n1", "role": "team", "team_id": "t1", "token": "token-n1"}))
 VERDICTS = "submission_id,judgement_type_id\ns1-1,AC\ns2-1,WA\n"
 
 
@@ -181,11 +183,13 @@ def upgrades(desk):
 
 
 def requests(desk):
-    """A submission with a key, a verdict, a rejudging of three that is applied, and a thaw."""
+    """A submission with a key, a verdict, a rejudging of three that is applied, a thaw, a late team and an account."""
     for name, calls, now, asked_for, is_repeated in (
         ("a submission", THREE, AT_TEN, ("token-a2", "k1", "POST", POSTS, posted(size=20_000)), SAME),
         ("a verdict", THREE, AT_TEN, ("token-j1", None, "POST", "/jury/proposals", judged("s1-1", "AC")), None),
         ("a rejudging", REJUDGED, AT_TEN, APPLY, None),
         ("a thaw", THREE, AT_END, THAW, None),
+        ("a late team", THREE, AT_TEN, LATE, SAME),
+        ("an account", THREE, AT_TEN, ACCOUNT, SAME),
     ):
         yield Trial(desk, name, served(desk, calls), now, request(desk, sent(*asked_for)), is_repeated)

@@ -20,9 +20,10 @@ use Rattle.contest_types.specs.declared.refusal.Cause.{Cause}
 use Rattle.contest_types.specs.declared.refusal.Cause.TheVariants as cause
 use Rattle.contest_types.specs.declared.refusal.Refusal.{Refusal}
 use Rattle.contest_files.specs.FieldTexts.{Text}
-use Rattle.contest_files.specs.JsonMembers.{flag_in, flag_or_false, id_in, items_in, name_in, number_in}
+use Rattle.contest_files.specs.JsonMembers.{data_of, flag_in, flag_or_false, id_in, items_in, name_in, number_in, text_in}
 use Rattle.contest_import.specs.CsvFiles.{FourFields, account_by, account_fields, account_id, account_names, account_or_malformed, account_record, four_of, named_role, role_of, team_names, team_record, token_digest}
 use Rattle.contest_import.specs.Files.{csv_records, or_off_form, rows_in}
+use Rattle.contest_import.specs.PostedRows.{account_posted, account_said, digest_said, id_said, role_said}
 use Rattle.contest_import.specs.RowAdditions.{rows_of}
 use Rattle.contest_import.specs.SettingsObjects.{group_in, language_in, object_row, or_malformed, problem_in, team_in, type_in}
 use Rattle.contest_import.specs.Teams.{group_places, team_by, team_or_malformed}
@@ -108,7 +109,7 @@ sound_kind settings.Teams (Ok e) (t, is) = subst IsSoundRow (sym is) tt
 pub sound_object : (k : SettingsKind) (f : FixedPart) (d : Data) → IfOk (object_row k f d) IsSoundRow
 sound_object k f d = sound_kind k (object_row k f d) (object_kind k f d)
 
-abbrev HasSoundId : AccountRow → Type 0
+abbrev pub HasSoundId : AccountRow → Type 0
 HasSoundId a = bytes_eq a.id (codes "import") ≡ false
 
 id_is : (text : Text) (o : Option Text) → id_of text ≡ o → IfSome o (λ id. id ≡ text)
@@ -141,6 +142,20 @@ sound_fields f =
       | (Some id) ↦ λ h. then_holds HasSoundId _ (named_role f.second f.third) (λ role. map_holds HasSoundId _ (token_digest f.fourth) (λ digest. h))
     ] in
     go (account_id f.first) (sound_id f.first)
+
+-- an account that a body says
+pub sound_said : (d : Data) → IfSome (account_said d) HasSoundId
+sound_said d =
+    let row : List ℕ → NamedRole → List ℕ → AccountRow = λ id role digest. record { id = id; role = role; digest = digest } in
+    let go : (o : Option Text) → IfSome o (λ id. bytes_eq id (codes "import") ≡ false)
+    → IfSome (option_and_then (λ id. option_and_then (λ role. option_map (row id role) (digest_said d)) (role_said d)) o) HasSoundId = elim [
+      | None ↦ λ h. tt
+      | (Some id) ↦ λ h. then_holds HasSoundId _ (role_said d) (λ role. map_holds HasSoundId _ (digest_said d) (λ digest. h))
+    ] in
+    go (id_said d) (then_holds (λ id. bytes_eq id (codes "import") ≡ false) account_id (text_in (codes "id") d) sound_id)
+
+pub sound_posted : (body : List ℕ) → IfSome (account_posted body) HasSoundId
+sound_posted body = then_holds HasSoundId account_said (data_of body) sound_said
 
 sound_account : (s : Setup) (o : Option AccountRow) → IfSome o HasSoundId → IfOk (account_or_malformed s o) IsSoundRow
 sound_account s None h = tt

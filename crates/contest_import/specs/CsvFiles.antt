@@ -10,6 +10,7 @@ use Rattle.contest_types.specs.NameText.{name_from}
 use Rattle.contest_types.specs.Places.{place_of}
 use Rattle.contest_types.specs.Setup.{Setup}
 use Rattle.contest_types.specs.State.{FixedPart}
+use Rattle.contest_types.specs.declared.account.Account.{Account}
 use Rattle.contest_types.specs.declared.account.Role.{Role}
 use Rattle.contest_types.specs.declared.account.Role.TheVariants as role
 use Rattle.contest_types.specs.declared.entry.Entry.{Entry}
@@ -96,6 +97,10 @@ role_of s (named.Team id) = option_map role.Team (place_of id (map (λ (t : Team
 role_of s named.Judge = Some role.Judge
 role_of s named.Admin = Some role.Admin
 role_of s named.Analyst = Some role.Analyst
+
+-- the account that is told of, if its team is there
+abbrev pub account_of : Setup → AccountRow → Option Account
+account_of s a = option_map (λ role. record { id = a.id; role = role; digest = a.digest }) (role_of s a.role)
 
 abbrev pub account_by : AccountRow → Option Role → Result Entry Cause
 account_by a None = Err cause.UnknownReference

@@ -6,3 +6,4 @@ pub mod CsvFiles
 pub mod Files
 pub mod ContestFile
 pub mod CsvKinds
+pub mod PostedRows

@@ -1,11 +1,13 @@
 -- A team as a file tells of it: its groups by their ids (Contest API 2023-06, teams).
 use Rattle.std.specs.Prelude.{ℕ, List, Option, Some, None, Result, Ok, Err, map, if◌then◌else◌}
+use Rattle.std.specs.Option.{option_map}
 use Rattle.contest_types.specs.Options.{all_some}
 use Rattle.contest_types.specs.Places.{are_different, place_of}
 use Rattle.contest_types.specs.Setup.{Setup}
 use Rattle.contest_types.specs.declared.entry.Entry.{Entry}
 use Rattle.contest_types.specs.declared.entry.Entry.TheVariants.{NewTeam}
 use Rattle.contest_types.specs.declared.objects.Group.{Group}
+use Rattle.contest_types.specs.declared.objects.Team.{Team}
 use Rattle.contest_types.specs.declared.refusal.Cause.{Cause}
 use Rattle.contest_types.specs.declared.refusal.Cause.TheVariants as cause
 use Rattle.contest_import.specs.declared.team_row.TeamRow.{TeamRow}
@@ -18,7 +20,10 @@ abbrev pub team_by : TeamRow → Option (List ℕ) → Result Entry Cause
 team_by t None = Err cause.UnknownReference
 team_by t (Some groups) = Ok (NewTeam (record { id = t.id; name = t.name; groups = groups; hidden = t.hidden }))
 
--- the team that is told of, where its groups are there
+-- the team that is told of, if its groups are there
+abbrev pub named_team : Setup → TeamRow → Option Team
+named_team s t = option_map (λ groups. record { id = t.id; name = t.name; groups = groups; hidden = t.hidden }) (group_places s t.groups)
+
 abbrev pub team_of : Setup → TeamRow → Result Entry Cause
 team_of s t = team_by t (group_places s t.groups)
 

@@ -2,7 +2,7 @@
 ghost use Rattle.std.specs.Prelude.{◌≡◌, Ok, IfOk, IfErr};
 ghost use Rattle.csv.specs.Records.{fields_of};
 ghost use Rattle.contest_types.specs.Additions.{IsFaultOf};
-ghost use Rattle.contest_import.specs.CsvFiles.{account_by, account_fields, account_id};
+ghost use Rattle.contest_import.specs.CsvFiles.{account_by, account_fields, account_id, account_of};
 ghost use Rattle.contest_import.specs.CsvFiles.{account_record, four_of, named_role, role_of};
 ghost use Rattle.contest_import.specs.CsvFiles.{token_digest};
 
@@ -44,14 +44,22 @@ fn account_by(account: AccountRow, settings: &Settings) -> Result<Entry, RowFaul
     ensures ok { IfOk result (λ entry. account_by account (role_of settings.now account.role) ≡ Ok entry) }
     ensures err { IfErr result (λ e. IsFaultOf e (account_by account (role_of settings.now account.role))) }
 {
-    match role_of(settings, &account.role) {
-        Some(role) => Ok(Entry::NewAccount(Account {
-            id: account.id,
-            role,
-            digest: account.digest,
-        })),
+    match account_of(settings, account) {
+        Some(account) => Ok(Entry::NewAccount(account)),
         None => Err(RowFault::Fault(Cause::UnknownReference)),
     }
+}
+
+/// The account that is told of, if its team is there. It takes no memory.
+pub fn account_of(settings: &Settings, account: AccountRow) -> Option<Account>
+    ensures { result ≡ account_of settings.now account }
+{
+    let role = role_of(settings, &account.role)?;
+    Some(Account {
+        id: account.id,
+        role,
+        digest: account.digest,
+    })
 }
 
 fn role_of(settings: &Settings, role: &NamedRole) -> Option<Role>
@@ -84,8 +92,8 @@ fn account_fields(alloc: Global, fields: &CsvRecord<'_>) -> Result<Option<Accoun
     Ok(Some(AccountRow { id, role, digest }))
 }
 
-// An id that an account may have: `import` is kept for what is imported.
-fn account_id(alloc: Global, text: &[u8]) -> Result<Option<Id>, Refusal>
+/// An id that an account may have: `import` is kept for what is imported.
+pub(crate) fn account_id(alloc: Global, text: &[u8]) -> Result<Option<Id>, Refusal>
     ensures value { IfOk result (λ found. found ≡ account_id text.now) }
     ensures err { IfErr result (λ e. e ≡ Refusal.Memory) }
 {
@@ -95,7 +103,11 @@ fn account_id(alloc: Global, text: &[u8]) -> Result<Option<Id>, Refusal>
     Id::from_bytes(alloc, text)
 }
 
-fn named_role(alloc: Global, role: &[u8], team: &[u8]) -> Result<Option<NamedRole>, Refusal>
+pub(crate) fn named_role(
+    alloc: Global,
+    role: &[u8],
+    team: &[u8],
+) -> Result<Option<NamedRole>, Refusal>
     ensures value { IfOk result (λ found. found ≡ named_role role.now team.now) }
     ensures err { IfErr result (λ e. e ≡ Refusal.Memory) }
 {
@@ -119,8 +131,8 @@ fn named_role(alloc: Global, role: &[u8], team: &[u8]) -> Result<Option<NamedRol
     }
 }
 
-// The digest of a token; the token itself isn't kept.
-fn token_digest(token: &[u8]) -> Option<Digest>
+/// The digest of a token; the token itself isn't kept.
+pub(crate) fn token_digest(token: &[u8]) -> Option<Digest>
     ensures { result ≡ token_digest token.now }
 {
     if is_token(token) && SHORTEST_TOKEN <= token.len() && token.len() <= LONGEST_TOKEN {

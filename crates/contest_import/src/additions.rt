@@ -6,7 +6,7 @@ ghost use Rattle.contest_types.specs.Additions.{IsFaultOf};
 ghost use Rattle.contest_import.specs.RowAdditions.{none_yet, row_addition, with_addition};
 ghost use Rattle.contest_import.specs.RowAdditions.{with_row};
 
-use crate::account_addition::account_addition;
+use crate::standing_accounts::account_addition;
 use contest_lists::{CopyRow, add_account, copied_fixed};
 use contest_types::{Account, Cause, Entry, Fixed, Identified, Refusal, RowFault, Rows};
 use std::alloc::{AllocError, Global};

@@ -2,7 +2,6 @@
 //! contest itself as it is set up.
 #![tactic(auto)]
 
-mod account_addition;
 mod account_record;
 mod account_row;
 mod additions;
@@ -12,17 +11,23 @@ mod contest_validity;
 mod csv_files;
 mod csv_record;
 pub mod laws;
+mod posted_rows;
 mod reading;
 mod record_fault;
 mod settings_files;
 mod settings_objects;
+mod standing_accounts;
 mod team_record;
 mod team_row;
 mod teams;
 
+pub use account_record::account_of;
 pub use account_row::{AccountRow, NamedRole};
 pub use contest_file::read_contest_json;
 pub use csv_files::{read_accounts_csv, read_teams_csv};
+pub use posted_rows::{read_account, read_team};
 pub use reading::read_import;
 pub use settings_files::read_settings_json;
+pub use standing_accounts::account_addition;
 pub use team_row::TeamRow;
+pub use teams::{named_team, team_addition};

@@ -154,8 +154,8 @@ fn group_in(alloc: Global, object: &Value) -> Result<Option<Entry>, Refusal>
     Ok(Some(Entry::NewGroup(Group { id, name })))
 }
 
-// A team: id, name, group_ids and hidden.
-fn team_in(alloc: Global, object: &Value) -> Result<Option<TeamRow>, Refusal>
+/// A team: id, name, group_ids and hidden.
+pub(crate) fn team_in(alloc: Global, object: &Value) -> Result<Option<TeamRow>, Refusal>
     ensures value { IfOk result (λ found. found ≡ team_in (view object.now)) }
     ensures err { IfErr result (λ e. e ≡ Refusal.Memory) }
 {

@@ -1,12 +1,14 @@
 //! Teams that files tell of, as rows.
 ghost use Rattle.std.specs.Prelude.{◌≡◌, Ok, IfOk, IfErr};
 ghost use Rattle.contest_types.specs.Additions.{IsFaultOf};
-ghost use Rattle.contest_import.specs.Teams.{group_places, team_of, team_or_malformed};
+ghost use Rattle.contest_types.specs.SetupAdditions.{team_addition};
+ghost use Rattle.contest_import.specs.Teams.{group_places, named_team, team_of, team_or_malformed};
 
 use crate::TeamRow;
 use crate::record_fault::MALFORMED;
 use contest_files::are_different;
-use contest_types::{Cause, Entry, Id, RowFault, Rows, Settings, Team};
+use contest_lists::copied_fixed;
+use contest_types::{Cause, Entry, Fixed, Id, Identified, RowFault, Rows, Settings, Team};
 use std::alloc::{AllocError, Global};
 
 /// The row of a team that a record tells of, if it tells of one.
@@ -39,15 +41,47 @@ fn team_of(alloc: Global, settings: &Settings, team: TeamRow) -> Result<Entry, R
     ensures ok { IfOk result (λ row. team_of settings.now team ≡ Ok row) }
     ensures err { IfErr result (λ e. IsFaultOf e (team_of settings.now team)) }
 {
+    match named_team(alloc, settings, team)? {
+        Some(team) => Ok(Entry::NewTeam(team)),
+        None => Err(RowFault::Fault(Cause::UnknownReference)),
+    }
+}
+
+/// The team that is told of, if its groups are there.
+///
+/// # Errors
+///
+/// Want of memory alone.
+pub fn named_team(
+    alloc: Global,
+    settings: &Settings,
+    team: TeamRow,
+) -> Result<Option<Team>, AllocError>
+    ensures { IfOk result (λ found. found ≡ named_team settings.now team) }
+{
     let Some(groups) = group_places(alloc, settings, team.groups.as_slice())? else {
-        return Err(RowFault::Fault(Cause::UnknownReference));
+        return Ok(None);
     };
-    Ok(Entry::NewTeam(Team {
+    Ok(Some(Team {
         id: team.id,
         name: team.name,
         groups,
         hidden: team.hidden,
     }))
+}
+
+/// Whether a team is added to those that stand: where an equal one stands it adds nothing.
+///
+/// # Errors
+///
+/// A group that isn't there (`UnknownReference`), other content under the team's id (`KeyReused`),
+/// 500 teams standing (`TableFull`), or want of memory.
+pub fn team_addition(alloc: Global, fixed: &Fixed, team: &Team) -> Result<bool, RowFault>
+    ensures ok { IfOk result (λ added. team_addition fixed.now.settings team.now ≡ Ok added) }
+    ensures err { IfErr result (λ e. IsFaultOf e (team_addition fixed.now.settings team.now)) }
+{
+    let mut fixed = copied_fixed(alloc, fixed)?;
+    fixed.settings.add_team(alloc, team.copied(alloc)?)
 }
 
 // The places of the groups with these ids, if all are there.

@@ -32,7 +32,7 @@ pub use judgement_object::JudgementObject;
 pub use members::{IdKind, Member, write_member, write_object};
 pub use proposal_object::ProposalObject;
 pub use rejudging_object::RejudgingObject;
-pub use settings_objects::{SettingsEndpoint, setting_text, settings_text};
+pub use settings_objects::{SettingsEndpoint, TeamObject, setting_text, settings_text};
 pub use submission_object::SubmissionObject;
 pub use visible_ids::{
     clarification_id, has_clarification_id, has_judgement_id, has_submission_id, judgement_id,

@@ -5,6 +5,7 @@ ghost use Rattle.contest_objects.specs.SettingsObjects.{problems_data, setting_f
 ghost use Rattle.contest_objects.specs.SettingsObjects.{settings_data};
 
 use crate::collection::{Collection, Whole, get_whole, list_at, list_whole};
+use crate::json_text::Served;
 use crate::members::{IdKind, Member, write_object};
 use contest_types::{Group, JudgementType, Language, Problem, Settings, Team, problem_order};
 use json::Writer;
@@ -236,7 +237,38 @@ impl Whole for Groups {
     ghost all = { λ c row. refl };
 }
 
-/// Teams (Contest API 2023-06, teams), hidden ones too: `group_ids`, `hidden`, `id` and `name`.
+/// A team (Contest API 2023-06, teams): `group_ids`, `hidden`, `id` and `name`.
+#[derive(Clone, Copy)]
+pub struct TeamObject<'a> {
+    /// The contest's settings, with its groups.
+    pub settings: &'a Settings,
+    /// The team.
+    pub team: &'a Team,
+}
+
+impl<'a> Served for TeamObject<'a> {
+    ghost use Rattle.contest_objects.specs.SettingsObjects.{team_item};
+
+    ghost value = { λ o. (team_item o.settings.now o.team.now).object };
+
+    fn write(&self, out: &mut Writer) -> Result<(), AllocError> {
+        let team = self.team;
+        write_object(
+            out,
+            &[
+                (
+                    "group_ids",
+                    Member::Ids(self.settings, IdKind::Group, team.groups.as_slice()),
+                ),
+                ("hidden", Member::Flag(team.hidden)),
+                ("id", Member::Text(team.id.as_str())),
+                ("name", Member::Text(team.name.as_str())),
+            ],
+        )
+    }
+}
+
+/// Teams, hidden ones too.
 #[derive(Clone, Copy)]
 pub struct Teams<'a> {
     pub settings: &'a Settings,
@@ -255,18 +287,11 @@ impl<'a> Collection for Teams<'a> {
     }
 
     fn write(&self, out: &mut Writer, row: &Team) -> Result<(), AllocError> {
-        write_object(
-            out,
-            &[
-                (
-                    "group_ids",
-                    Member::Ids(self.settings, IdKind::Group, row.groups.as_slice()),
-                ),
-                ("hidden", Member::Flag(row.hidden)),
-                ("id", Member::Text(row.id.as_str())),
-                ("name", Member::Text(row.name.as_str())),
-            ],
-        )
+        let team = TeamObject {
+            settings: self.settings,
+            team: row,
+        };
+        team.write(out)
     }
 }
 

@@ -11,6 +11,7 @@ ghost use Rattle.contest_operations.specs.Commands.{posted_by};
 ghost use Rattle.contest_operations.specs.Callers.{is_admin, judge_of};
 ghost use Rattle.contest_operations.specs.Replies.{IsOrdinary};
 
+use crate::add_rows::{post_account, post_team};
 use crate::caller::{Caller, is_admin, judge_of, team_of};
 use crate::clarify::post_clarification;
 use crate::outcome::Outcome;
@@ -18,8 +19,8 @@ use crate::path::jury_piece;
 use crate::submit::post_submission;
 use contest_lists::Lists;
 use contest_postings::{
-    Clarifying, Done, Finalize, Opening, Proposing, Rejudge, RejudgingStep, SetClock, Submitting,
-    Verifying, carry_out, keyed_row,
+    AddRow, Clarifying, Done, Finalize, Opening, Proposing, Rejudge, RejudgingStep, SetClock,
+    Submitting, Verifying, WantedRow, carry_out, keyed_row,
 };
 use contest_requests::{JuryVerdict, Request, post_clock, post_rejudging, post_verdict};
 use contest_rules::{RuleRefusal, WantedClock, WantedRejudging, WantedSubmission};
@@ -49,6 +50,10 @@ pub enum Command {
     SetClock,
     /// An administrator makes the results final.
     Finalize,
+    /// An administrator adds an account (own).
+    AddAccount,
+    /// An administrator adds a team, until the contest has ended (own).
+    AddTeam,
 }
 
 /// What a caller whose role allows it posts, once its body is read.
@@ -70,6 +75,8 @@ pub enum Posted {
     Clock(WantedClock),
     /// An administrator makes the results final.
     Final,
+    /// An administrator adds an account or a team.
+    Row(WantedRow),
 }
 
 /// What a caller posts by a command: its role is looked at first, then its body.
@@ -118,6 +125,14 @@ pub fn post(
             Ok(Posted::Clock(wanted))
         }
         Command::Finalize => finalize(caller),
+        Command::AddAccount => {
+            let row = post_account(alloc, is_admin(caller), request.body.as_slice())?;
+            Ok(Posted::Row(row))
+        }
+        Command::AddTeam => {
+            let row = post_team(alloc, is_admin(caller), request.body.as_slice())?;
+            Ok(Posted::Row(row))
+        }
     }
 }
 
@@ -155,7 +170,8 @@ pub fn post_file(posted: &Posted, lists: &Lists) -> Option<(usize, usize)>
         | Posted::Opening(_)
         | Posted::Rejudging(_, _)
         | Posted::Clock(_)
-        | Posted::Final => None,
+        | Posted::Final
+        | Posted::Row(_) => None,
     }
 }
 
@@ -201,5 +217,6 @@ fn done_by(
         }
         Posted::Clock(wanted) => carry_out(alloc, lists, now, SetClock { wanted }),
         Posted::Final => carry_out(alloc, lists, now, Finalize),
+        Posted::Row(wanted) => carry_out(alloc, lists, now, AddRow { wanted }),
     }
 }

@@ -2,6 +2,7 @@
 //! routes, callers, reads, commands, replies.
 #![tactic(auto)]
 
+mod add_rows;
 mod answering;
 mod asked;
 mod asking;

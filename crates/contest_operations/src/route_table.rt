@@ -19,7 +19,7 @@ const NOTHING: Offer = Offer {
 
 /// The text of each route, as matchit reads it, and what is offered there (paths are the Contest
 /// API 2023-06's; a group's scoreboard and those under `/jury/` are own).
-static ROUTES: [(&str, Offer); 33] = [
+static ROUTES: [(&str, Offer); 35] = [
     (
         "/contests",
         Offer {
@@ -221,6 +221,20 @@ static ROUTES: [(&str, Offer); 33] = [
         },
     ),
     (
+        "/jury/accounts",
+        Offer {
+            post: Some(Command::AddAccount),
+            ..NOTHING
+        },
+    ),
+    (
+        "/jury/teams",
+        Offer {
+            post: Some(Command::AddTeam),
+            ..NOTHING
+        },
+    ),
+    (
         "/jury/rejudgings",
         Offer {
             get: Some(Reading::Jury(JuryReading::Rejudgings)),
@@ -258,7 +272,7 @@ static ROUTES: [(&str, Offer); 33] = [
     ),
 ];
 
-fn rows() -> &'static [(&'static str, Offer); 33]
+fn rows() -> &'static [(&'static str, Offer); 35]
     ensures { map (λ row. (row.0.now, row.1)) result.now ≡ route_rows }
 {
     &ROUTES

@@ -11,6 +11,7 @@ mod own_so_far;
 mod posting;
 mod proposal;
 mod rejudging;
+mod rows;
 mod submission;
 mod verification;
 
@@ -21,5 +22,6 @@ pub use own_so_far::keyed_row;
 pub use posting::{Done, Posting, carry_out};
 pub use proposal::Proposing;
 pub use rejudging::{Rejudge, RejudgingChange, RejudgingStep};
+pub use rows::{AddRow, AddedRow, NewRow, WantedRow};
 pub use submission::Submitting;
 pub use verification::Verifying;

@@ -4,7 +4,7 @@ use Rattle.std.proofs.lemmas.Iterator.{YieldsList-from_slice}
 use Rattle.std.proofs.lemmas.Iterator.Search.{any_from_yields_List}
 use Rattle.contest_types.specs.declared.account.Account.{Account}
 use Rattle.contest_types.proofs.PlaceLemmas.{any_named}
-use Rattle.contest_import.proofs.account_addition.has_digest.Goals as goal
+use Rattle.contest_import.proofs.standing_accounts.has_digest.Goals as goal
 
 pub returns : goal.returns
 returns c =

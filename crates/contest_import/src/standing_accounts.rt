@@ -17,7 +17,7 @@ use contest_types::{Account, Cause, Digest, Id, Role, Settings};
 ///
 /// A team that isn't there (`UnknownReference`), other content under the account's id, or its token
 /// held by another account (`KeyReused`), or 2000 accounts standing (`TableFull`).
-pub(crate) fn account_addition(
+pub fn account_addition(
     settings: &Settings,
     accounts: &[Account],
     account: &Account,
@@ -74,9 +74,8 @@ fn is_same_role(a: Role, b: Role) -> bool
 {
     match (a, b) {
         (Role::Team(team), Role::Team(other)) => team == other,
-        (Role::Judge, Role::Judge)
-        | (Role::Admin, Role::Admin)
-        | (Role::Analyst, Role::Analyst) => true,
+        (Role::Judge, Role::Judge) | (Role::Admin, Role::Admin) | (Role::Analyst, Role::Analyst) =>
+            true,
         _ => false,
     }
 }
