@@ -151,6 +151,36 @@ def try_questions(pages):
     pages.sees("what is answered", '[data-id="c1-2"] blockquote', MARKUP)
 
 
+def try_adding(pages):
+    """A team comes late: the director adds it and its account, and it signs in by the token that was shown."""
+    browser = pages.browser
+    browser.look_at("director")
+    pages.sees("who is signed in", "#who", "adm (admin)")
+    browser.click("#tab-Teams")
+    for field, text in (("id", "t1"), ("name", "Late"), ("groups", "north")):
+        browser.type(f"#team-{field}", text)
+    browser.click("#team-button")
+    pages.is_sure("a team that stands", "Add the team Late?")
+    pages.sees("a team that stands", "#told", "Something else was sent under this key, or stands under this id.")
+    browser.type("#team-id", "t5")
+    browser.click("#team-button")
+    pages.is_sure("a late team", "Add the team Late?")
+    pages.sees("a late team", "#told", "Late takes part, as t5.")
+    pages.shoot("jury-teams")
+    browser.look_at("public")
+    pages.sees("a late team", "#board tbody", "Late")
+    browser.look_at("director")
+    has_team = "return [...document.getElementById('account-team').options].some((one) => one.value === 't5')"
+    pages.note(browser.comes(lambda: browser.run(has_team)), "a late team may get an account")
+    browser.type("#account-id", "a5")
+    browser.choose("#account-team", "t5")
+    browser.click("#account-button")
+    pages.is_sure("its account", "Add the account a5 of Late?")
+    pages.sees("its account", "#told", "The token of a5 is ")
+    pages.sign_in("late", "team", browser.text("#told").split()[5])
+    pages.sees("who is signed in", "#who", "Late")
+
+
 def try_rejudging(pages):
     """A rejudging of two judges, applied as a whole."""
     browser = pages.browser
@@ -217,7 +247,7 @@ def try_analyst(pages):
     pages.sees("who is signed in", "#who", "o1 (analyst)")
     pages.lacks("the jury's board", "#board .pending")
     pages.sees("what was asked", '#clarifications [data-id="c1-1"]', MARKUP)
-    for tab in ("Judging", "Questions", "Rejudgings", "Judged", "Board", "Clock"):
+    for tab in ("Judging", "Questions", "Rejudgings", "Judged", "Board", "Teams", "Clock"):
         browser.click(f"#tab-{tab}")
         shown = browser.run(
             "const all = [...document.querySelectorAll('#inside section :is(button, input, select, textarea)')];"
@@ -275,7 +305,7 @@ def try_markup(pages):
     pages.same("the names at the desk", names[:3], [MARKUP, RIGHT, TURNED])
 
 
-PARTS = [try_start, try_team, try_verdicts, try_questions, try_rejudging, try_freeze, try_analyst, try_end, try_markup]
+PARTS = [try_start, try_team, try_verdicts, try_questions, try_adding, try_rejudging, try_freeze, try_analyst, try_end, try_markup]
 
 
 if __name__ == "__main__":

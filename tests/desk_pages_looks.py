@@ -150,7 +150,7 @@ def try_words(pages):
 def try_phone(pages):
     """Nothing is wider than a phone."""
     browser = pages.browser
-    for who, tabs in (("judge", ("Judging", "Questions", "Rejudgings", "Judged", "Board", "Clock")), ("team", ()), ("public", ())):
+    for who, tabs in (("judge", ("Judging", "Questions", "Rejudgings", "Judged", "Board", "Teams", "Clock")), ("team", ()), ("public", ())):
         browser.look_at(who)
         browser.as_wide_as(*PHONE, is_phone=False)
         pages.fits(who)

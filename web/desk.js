@@ -16,7 +16,7 @@ const REFUSALS = {
   ClockRefused: "The desk doesn't set the clock so, at this moment.",
   EntryPointMissing: "This language needs an entry point, such as the name of the main class.",
   InRejudging: "One of these submissions is in another open rejudging.",
-  KeyReused: "Something else was sent under this key.",
+  KeyReused: "Something else was sent under this key, or stands under this id.",
   Malformed: "The desk can't read this.",
   NoTeam: "This account is the jury's. Its page is jury.html.",
   NothingToVerify: "Nothing was proposed for this submission.",

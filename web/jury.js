@@ -1,6 +1,7 @@
 // The jury's page. What each part of it does stands in a file of its own; this one reads the contest and shows the
 // parts.
 
+import { ACCOUNT, beginAdding, showAddingChoices, TEAM } from "./adding.js";
 import { ANSWER, beginAnswers, showAnswerChoices, showClarifications } from "./answers.js";
 import { awardItem, showBoard, showState } from "./board.js";
 import { beginClock, CLOCK, showMoments } from "./clock.js";
@@ -10,7 +11,7 @@ import { beginJudging, showJudged, showVerdictChoices, showWaiting, VERDICT } fr
 import { sendKept } from "./posts.js";
 import { beginRejudgings, REJUDGING, showRejudgings } from "./rejudgings.js";
 import { contestPath, renewing } from "./renewing.js";
-import { readSettings } from "./settings.js";
+import { hasTeamsOf, readSettings } from "./settings.js";
 import { signIn } from "./sign_in.js";
 
 const SECONDS = 3;
@@ -31,6 +32,7 @@ async function showSettings() {
   jury.settings = await readSettings(jury.path);
   showVerdictChoices(jury);
   showAnswerChoices(jury);
+  showAddingChoices(jury);
 }
 
 async function renew() {
@@ -38,7 +40,7 @@ async function renew() {
   const paths = [...names.map((name) => jury.path + name), "jury/proposals", "jury/rejudgings"];
   const replies = await Promise.all(paths.map((name) => ask(name)));
   const [contest, state, board, submissions, judgements, clarifications, awards, proposals, rejudgings] = replies;
-  if (jury.settings === null) await showSettings();
+  if (!hasTeamsOf(jury.settings, board)) await showSettings();
   showState(contest, board);
   showBoard(at("board"), jury.settings, { board, awards });
   fill(at("award-list"), awards.map((award) => awardItem(award, jury.settings.teams)));
@@ -57,8 +59,9 @@ async function begin() {
   beginAnswers(jury);
   beginRejudgings(jury);
   beginClock(jury);
+  beginAdding(jury);
   jury.renew = renewing(renew, SECONDS);
-  await sendKept([ANSWER, VERDICT, REJUDGING, CLOCK]);
+  await sendKept([ANSWER, VERDICT, REJUDGING, CLOCK, TEAM, ACCOUNT]);
   await jury.renew();
 }
 

@@ -6,7 +6,8 @@
 // away; it is sent again once its own account signs in there again. The tab knows the account by the SHA-256 digest of
 // its token, in the name under which the post is kept. That is all that stays of a token after sign-out, and only while
 // a post waits. The desk keeps no more of a token either: whoever reads the digest would have to try all tokens. A name
-// that is made anew at each sign-in would say still less, but not that the same account is there again.
+// that is made anew at each sign-in would say still less, but not that the same account is there again. A post that
+// adds an account has that account's token in it, until it is answered.
 
 import { change, persistently, Refusal } from "./desk.js";
 import { digestOf } from "./digest.js";

@@ -1,4 +1,5 @@
-// The contest's settings, read once, each list by the ids of its rows.
+// The contest's settings, each list by the ids of its rows. They are read again once a team is on the board that wasn't
+// there before.
 
 import { ask } from "./desk.js";
 import { byId } from "./elements.js";
@@ -8,6 +9,11 @@ export async function readSettings(path) {
   const lists = await Promise.all(names.map((name) => ask(`${path}/${name}`)));
   const [problems, languages, teams, groups, types] = lists.map(byId);
   return { problems, languages, teams, groups, types };
+}
+
+// Whether the settings were read, and have each team of a board.
+export function hasTeamsOf(settings, board) {
+  return settings !== null && board.rows.every((row) => settings.teams.has(row.team_id));
 }
 
 // What a question may be about: a problem, or none.

@@ -7,7 +7,7 @@ import { choice, choicesOfNone, isWithin, onSubmit } from "./forms.js";
 import { post, sendKept } from "./posts.js";
 import { contestPath, renewing } from "./renewing.js";
 import { clarificationItem, submissionCells, verdictCell } from "./rows.js";
-import { ABOUT_ALL, nameIn, problemText, readSettings } from "./settings.js";
+import { ABOUT_ALL, hasTeamsOf, nameIn, problemText, readSettings } from "./settings.js";
 import { signIn } from "./sign_in.js";
 import { listParts, row } from "./tables.js";
 import { isSure, tell } from "./telling.js";
@@ -83,7 +83,7 @@ async function renew() {
   const replies = await Promise.all(names.map((name) => ask(path + name)));
   const [contest, board, submissions, judgements, clarifications, awards] = replies;
   showState(contest, board);
-  if (settings === null) await showSettings();
+  if (!hasTeamsOf(settings, board)) await showSettings();
   // The desk shows the files of a team's own submissions alone.
   const own = submissions.filter((one) => "files" in one);
   fill(at("who"), [freeText(nameIn(settings.teams, team))]);
