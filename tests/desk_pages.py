@@ -179,6 +179,8 @@ def try_adding(pages):
     pages.sees("its account", "#told", "The token of a5 is ")
     pages.sign_in("late", "team", browser.text("#told").split()[5])
     pages.sees("who is signed in", "#who", "Late")
+    browser.look_at("director")
+    browser.click("#tab-Clock")
 
 
 def try_rejudging(pages):
