@@ -115,7 +115,7 @@ def try_imports(test):
         "judgement-types": b'[{"id":"TLE","name":"time","solved":false}]', "languages": b'[{"id":"py","name":"Python"}]',
         "problems": b'[{"id":"d","label":"D","name":"D","ordinal":7}]', "groups": b'[{"id":"south","name":"South"}]',
         "teams": b'[{"id":"t4","name":"Delta"}]', "teams-csv": b"id,name,group_ids,hidden\nt5,Epsilon,north,\n",
-        "accounts-csv": b"id,role,team_id,token\nj3,judge,,token-j3\no2,analyst,,token-o2\n", "verdicts-csv": b"submission_id,judgement_type_id\ns1-1,AC\n",
+        "accounts-csv": b"id,role,team_id,token\no2,analyst,,token-o2\n", "verdicts-csv": b"submission_id,judgement_type_id\ns1-1,AC\n",
     }  # fmt: skip
     for now in (START - 1, START + 300_000):
         session = Session(False)
