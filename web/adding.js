@@ -37,8 +37,8 @@ async function addTeam(jury) {
   if (!(await isSure("Add it", `Add the team ${name}? It can't be taken back.`))) return;
   if ((await post(TEAM, "jury/teams", value)) === null) return;
   at("team").reset();
-  // The choices have it from now on.
-  jury.settings = null;
+  // The next renewal reads the settings again: a hidden team is on no board.
+  jury.isBehind = true;
   jury.renew();
 }
 

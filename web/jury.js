@@ -15,7 +15,7 @@ import { hasTeamsOf, readSettings } from "./settings.js";
 import { signIn } from "./sign_in.js";
 
 const SECONDS = 3;
-const jury = { path: await contestPath(), settings: null, renew: null };
+const jury = { path: await contestPath(), settings: null, isBehind: false, renew: null };
 
 function showTabs() {
   const sections = [...document.querySelectorAll("section[data-tab]")];
@@ -30,6 +30,7 @@ function showTabs() {
 
 async function showSettings() {
   jury.settings = await readSettings(jury.path);
+  jury.isBehind = false;
   showVerdictChoices(jury);
   showAnswerChoices(jury);
   showAddingChoices(jury);
@@ -40,7 +41,7 @@ async function renew() {
   const paths = [...names.map((name) => jury.path + name), "jury/proposals", "jury/rejudgings"];
   const replies = await Promise.all(paths.map((name) => ask(name)));
   const [contest, state, board, submissions, judgements, clarifications, awards, proposals, rejudgings] = replies;
-  if (!hasTeamsOf(jury.settings, board)) await showSettings();
+  if (jury.isBehind || !hasTeamsOf(jury.settings, board)) await showSettings();
   showState(contest, board);
   showBoard(at("board"), jury.settings, { board, awards });
   fill(at("award-list"), awards.map((award) => awardItem(award, jury.settings.teams)));
