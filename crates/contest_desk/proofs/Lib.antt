@@ -13,6 +13,7 @@ pub mod ItemLemmas
 pub mod RunLemmas
 pub mod SettingsAlike
 pub mod ClockAlike
+pub mod ChangesAlike
 pub mod MovesAlike
 pub mod ReorderedAlike
 pub mod TwoRunLemmas

@@ -15,7 +15,7 @@ use Rattle.contest_types.specs.State.{FixedPart, ContestState, submissions_of, r
 use Rattle.contest_types.specs.Valid.{is_valid}
 use Rattle.contest_types.specs.ValidSubmissions.{is_valid_submission}
 use Rattle.contest_types.specs.declared.entry.Entry.{Entry}
-use Rattle.contest_types.specs.declared.entry.Entry.TheVariants.{NewClarification, NewRelease, NewSubmission, NewType, NewLanguage, NewProblem, NewGroup, NewTeam, NewAccount, SetStart, SetThaw, SetFinalized}
+use Rattle.contest_types.specs.declared.entry.Entry.TheVariants.{NewClarification, NewRelease, NewSubmission, NewType, NewLanguage, NewProblem, NewGroup, NewTeam, NewAccount, SetStart, SetThaw, SetFinalized, SetDuration, SetTeamName, SetDigest}
 use Rattle.contest_types.specs.declared.audience.Audience.{Audience}
 use Rattle.contest_types.specs.declared.submission.Release.{Release}
 use Rattle.contest_types.specs.declared.submission.Submission.{Submission}
@@ -26,6 +26,7 @@ use Rattle.contest_desk.specs.Moves.{ReleasesLike, ShowTheSame, ShowsLike, Tells
 use Rattle.contest_types.specs.declared.clarification.Clarification.{Clarification}
 use Rattle.contest_operations.proofs.SaidAlike.{said_alike}
 use Rattle.contest_operations.proofs.AddedAlike.{own_more, unjudged, other_stays}
+use Rattle.contest_desk.proofs.ChangesAlike.{digest_alike, duration_alike, team_name_alike}
 use Rattle.contest_desk.proofs.ClockAlike.{final_alike, start_alike, thaw_alike}
 use Rattle.contest_desk.proofs.SettingsAlike.{type_alike, language_alike, problem_alike, group_alike, team_alike, account_alike}
 use Rattle.contest_desk.proofs.UnseenLemmas.{alike_onward, unseen_entry}
@@ -197,6 +198,9 @@ same_alike a x y (NewAccount account) f valid_x valid_y h can can_too same = lik
 same_alike a x y (SetStart start) f valid_x valid_y h can can_too same = like_row a x y (SetStart start) f (start_alike a x y start h can (subst (λ g. is_addable y g ≡ true) same can_too)) same
 same_alike a x y (SetThaw thaw) f valid_x valid_y h can can_too same = like_row a x y (SetThaw thaw) f (thaw_alike a x y thaw h) same
 same_alike a x y (SetFinalized finalized) f valid_x valid_y h can can_too same = like_row a x y (SetFinalized finalized) f (final_alike a x y finalized h) same
+same_alike a x y (SetDuration duration freeze) f valid_x valid_y h can can_too same = like_row a x y (SetDuration duration freeze) f (duration_alike a x y duration freeze h can (subst (λ g. is_addable y g ≡ true) same can_too)) same
+same_alike a x y (SetTeamName team name) f valid_x valid_y h can can_too same = like_row a x y (SetTeamName team name) f (team_name_alike a x y team name h) same
+same_alike a x y (SetDigest id digest) f valid_x valid_y h can can_too same = like_row a x y (SetDigest id digest) f (digest_alike a x y id digest h) same
 same_alike a x y _ f valid_x valid_y h can can_too same = absurd same
 
 pub moves_stay_alike : MovesStayAlike

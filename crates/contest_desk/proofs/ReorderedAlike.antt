@@ -13,7 +13,7 @@ use Rattle.contest_types.specs.TeamPlaces.{is_public}
 use Rattle.contest_types.specs.declared.account.Account.{Account}
 use Rattle.contest_types.specs.declared.audience.Audience.{Audience}
 use Rattle.contest_types.specs.declared.entry.Entry.{Entry}
-use Rattle.contest_types.specs.declared.entry.Entry.TheVariants.{NewAccount, NewClarification, NewGroup, NewLanguage, NewProblem, NewProposal, NewRejudging, NewRelease, NewSubmission, NewTeam, NewType, SetFinalized, SetMember, SetRejudging, SetStart, SetThaw}
+use Rattle.contest_types.specs.declared.entry.Entry.TheVariants.{NewAccount, NewClarification, NewGroup, NewLanguage, NewProblem, NewProposal, NewRejudging, NewRelease, NewSubmission, NewTeam, NewType, SetFinalized, SetDuration, SetTeamName, SetDigest, SetMember, SetRejudging, SetStart, SetThaw}
 use Rattle.contest_types.specs.declared.submission.Release.{Release}
 use Rattle.contest_types.specs.declared.submission.Submission.{Submission}
 use Rattle.contest_desk.specs.Reordering.{AreAddedAs, IsReordered, accounts_after, others_in, releases_in}
@@ -38,6 +38,9 @@ apart x vs accounts (SetRejudging n state ∷ es) = apart (add x (SetRejudging n
 apart x vs accounts (SetStart start ∷ es) = apart (add x (SetStart start)) vs accounts es
 apart x vs accounts (SetThaw thaw ∷ es) = apart (add x (SetThaw thaw)) vs accounts es
 apart x vs accounts (SetFinalized finalized ∷ es) = apart (add x (SetFinalized finalized)) vs accounts es
+apart x vs accounts (SetDuration duration freeze ∷ es) = apart (add x (SetDuration duration freeze)) vs accounts es
+apart x vs accounts (SetTeamName team name ∷ es) = apart (add x (SetTeamName team name)) vs accounts es
+apart x vs accounts (SetDigest id digest ∷ es) = apart x vs _ es
 apart x vs accounts (NewType t ∷ es) = apart (add x (NewType t)) vs accounts es
 apart x vs accounts (NewLanguage l ∷ es) = apart (add x (NewLanguage l)) vs accounts es
 apart x vs accounts (NewProblem p ∷ es) = apart (add x (NewProblem p)) vs accounts es

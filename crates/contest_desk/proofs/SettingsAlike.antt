@@ -41,11 +41,11 @@ told_with x hears to =
     let opened : Clarification → OpenClarification = λ c. record { number = c.number; from_jury = c.from_jury; problem = c.problem; reply = option_and_then heard c.reply; text = c.text; time = c.time; key = if c.from_jury then None else c.key } in
     if hears to then map opened (clarifications_to to x.clarifications) else []
 
-by_hearing : (a : Audience) (x : ContestState) (m n : Setup) → ((to : Addressee) → hears a m to ≡ hears a n to) → (to : Addressee) → told_with x (hears a m) to ≡ told_with x (hears a n) to
+pub by_hearing : (a : Audience) (x : ContestState) (m n : Setup) → ((to : Addressee) → hears a m to ≡ hears a n to) → (to : Addressee) → told_with x (hears a m) to ≡ told_with x (hears a n) to
 by_hearing a x m n same to = ap (λ heard. told_with x heard to) (fun_ext same)
 
 -- what is told where other rows of the settings than teams are added is what was
-told_still : (a : Audience) (x y : ContestState) (m n : Setup) → m.teams ≡ x.fixed.settings.teams → n.teams ≡ y.fixed.settings.teams → Alike a x y → (to : Addressee) → told_with x (hears a m) to ≡ told_with y (hears a n) to
+pub told_still : (a : Audience) (x y : ContestState) (m n : Setup) → m.teams ≡ x.fixed.settings.teams → n.teams ≡ y.fixed.settings.teams → Alike a x y → (to : Addressee) → told_with x (hears a m) to ≡ told_with y (hears a n) to
 told_still a x y m n e g h to =
     by_hearing a x m x.fixed.settings (hears_by_teams a m x.fixed.settings e) to ∙ (h.told to ∙ sym (by_hearing a y n y.fixed.settings (hears_by_teams a n y.fixed.settings g) to))
 

@@ -14,7 +14,7 @@ use Rattle.contest_types.specs.State.{ContestState, submissions_of, same_address
 use Rattle.contest_types.specs.Sight.{hears, judgement_of, judgements_on}
 use Rattle.contest_types.specs.Alike.{OwnRecord, OpenRecord, own_record, open_record, open_clarification, Whole, Open, Nothing, Alike}
 use Rattle.contest_types.specs.declared.entry.Entry.{Entry}
-use Rattle.contest_types.specs.declared.entry.Entry.TheVariants.{NewSubmission, NewProposal, NewRelease, NewClarification, NewRejudging, SetMember, SetRejudging, SetStart, SetThaw, SetFinalized, NewType, NewLanguage, NewProblem, NewGroup, NewTeam, NewAccount}
+use Rattle.contest_types.specs.declared.entry.Entry.TheVariants.{NewSubmission, NewProposal, NewRelease, NewClarification, NewRejudging, SetMember, SetRejudging, SetStart, SetThaw, SetFinalized, SetDuration, SetTeamName, SetDigest, NewType, NewLanguage, NewProblem, NewGroup, NewTeam, NewAccount}
 use Rattle.contest_types.specs.declared.audience.Audience.{Audience}
 use Rattle.contest_types.specs.declared.submission.Submission.{Submission}
 use Rattle.contest_types.specs.declared.submission.Release.{Release}
@@ -131,6 +131,9 @@ unseen_entry a x (SetRejudging n state) h = record { fixed = refl; teams = λ te
 unseen_entry a x (SetStart start) h = absurd h
 unseen_entry a x (SetThaw thaw) h = absurd h
 unseen_entry a x (SetFinalized finalized) h = absurd h
+unseen_entry a x (SetDuration duration freeze) h = absurd h
+unseen_entry a x (SetTeamName team name) h = absurd h
+unseen_entry a x (SetDigest id digest) h = absurd h
 unseen_entry a x (NewType t) h = absurd h
 unseen_entry a x (NewLanguage l) h = absurd h
 unseen_entry a x (NewProblem p) h = absurd h

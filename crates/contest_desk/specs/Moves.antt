@@ -7,7 +7,7 @@ use Rattle.contest_types.specs.TeamPlaces.{is_public}
 use Rattle.contest_types.specs.State.{ContestState, add, add_all}
 use Rattle.contest_types.specs.Valid.{is_valid}
 use Rattle.contest_types.specs.declared.entry.Entry.{Entry}
-use Rattle.contest_types.specs.declared.entry.Entry.TheVariants.{NewClarification, NewRelease, NewSubmission, NewType, NewLanguage, NewProblem, NewGroup, NewTeam, NewAccount, SetStart, SetThaw, SetFinalized}
+use Rattle.contest_types.specs.declared.entry.Entry.TheVariants.{NewClarification, NewRelease, NewSubmission, NewType, NewLanguage, NewProblem, NewGroup, NewTeam, NewAccount, SetStart, SetThaw, SetFinalized, SetDuration, SetTeamName, SetDigest}
 use Rattle.contest_types.specs.declared.audience.Audience.{Audience}
 use Rattle.contest_types.specs.declared.clarification.Clarification.{Clarification}
 use Rattle.contest_types.specs.declared.objects.Team.{Team}
@@ -65,6 +65,9 @@ AreSame a x (NewAccount account) f = f ≡ NewAccount account
 AreSame a x (SetStart start) f = f ≡ SetStart start
 AreSame a x (SetThaw thaw) f = f ≡ SetThaw thaw
 AreSame a x (SetFinalized finalized) f = f ≡ SetFinalized finalized
+AreSame a x (SetDuration duration freeze) f = f ≡ SetDuration duration freeze
+AreSame a x (SetTeamName team name) f = f ≡ SetTeamName team name
+AreSame a x (SetDigest id digest) f = f ≡ SetDigest id digest
 AreSame a x _ f = ⊥
 
 -- an entry that is added to the first of two contests, to the second, or one to each

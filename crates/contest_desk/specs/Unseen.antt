@@ -9,7 +9,7 @@ use Rattle.contest_types.specs.Masks.{owns}
 use Rattle.contest_types.specs.Sight.{hears}
 use Rattle.contest_types.specs.State.{ContestState, add}
 use Rattle.contest_types.specs.declared.entry.Entry.{Entry}
-use Rattle.contest_types.specs.declared.entry.Entry.TheVariants.{NewSubmission, NewProposal, NewRelease, NewClarification, NewRejudging, SetMember, SetRejudging, SetStart, SetThaw, SetFinalized, NewType, NewLanguage, NewProblem, NewGroup, NewTeam, NewAccount}
+use Rattle.contest_types.specs.declared.entry.Entry.TheVariants.{NewSubmission, NewProposal, NewRelease, NewClarification, NewRejudging, SetMember, SetRejudging, SetStart, SetThaw, SetFinalized, SetDuration, SetTeamName, SetDigest, NewType, NewLanguage, NewProblem, NewGroup, NewTeam, NewAccount}
 use Rattle.contest_types.specs.declared.audience.Audience.{Audience}
 use Rattle.contest_types.specs.declared.submission.Submission.{Submission}
 use Rattle.contest_types.specs.declared.submission.Release.{Release}
@@ -50,6 +50,9 @@ IsUnseen a x (SetRejudging n state) = Unit {0}
 IsUnseen a x (SetStart start) = ⊥
 IsUnseen a x (SetThaw thaw) = ⊥
 IsUnseen a x (SetFinalized finalized) = ⊥
+IsUnseen a x (SetDuration duration freeze) = ⊥
+IsUnseen a x (SetTeamName team name) = ⊥
+IsUnseen a x (SetDigest id digest) = ⊥
 IsUnseen a x (NewType t) = ⊥
 IsUnseen a x (NewLanguage l) = ⊥
 IsUnseen a x (NewProblem p) = ⊥

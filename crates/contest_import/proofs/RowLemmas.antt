@@ -7,7 +7,7 @@ use Rattle.contest_types.specs.Addable.{are_addable, is_addable, is_added}
 use Rattle.contest_types.specs.Setup.{Setup}
 use Rattle.contest_types.specs.State.{FixedPart, ContestState, add, add_all}
 use Rattle.contest_types.specs.declared.entry.Entry.{Entry}
-use Rattle.contest_types.specs.declared.entry.Entry.TheVariants.{NewSubmission, NewProposal, NewRelease, NewClarification, NewRejudging, SetMember, SetRejudging, SetStart, SetThaw, SetFinalized, NewType, NewLanguage, NewProblem, NewGroup, NewTeam, NewAccount}
+use Rattle.contest_types.specs.declared.entry.Entry.TheVariants.{NewSubmission, NewProposal, NewRelease, NewClarification, NewRejudging, SetMember, SetRejudging, SetStart, SetThaw, SetFinalized, SetDuration, SetTeamName, SetDigest, NewType, NewLanguage, NewProblem, NewGroup, NewTeam, NewAccount}
 use Rattle.contest_types.specs.declared.account.Account.{Account}
 use Rattle.contest_types.specs.declared.refusal.Cause.{Cause}
 use Rattle.contest_import.specs.RowAdditions.{Additions, after_addition, after_record, after_records, bare, grown_by, none_yet, or_first_fault, row_addition, rows_of, rows_or_refusal}
@@ -34,6 +34,9 @@ fixed_after x y (SetRejudging n state) h = h
 fixed_after x y (SetStart start) h = ap (λ (f : FixedPart). (add (bare f) (SetStart start)).fixed) h
 fixed_after x y (SetThaw thaw) h = ap (λ (f : FixedPart). (add (bare f) (SetThaw thaw)).fixed) h
 fixed_after x y (SetFinalized finalized) h = ap (λ (f : FixedPart). (add (bare f) (SetFinalized finalized)).fixed) h
+fixed_after x y (SetDuration duration freeze) h = ap (λ (f : FixedPart). (add (bare f) (SetDuration duration freeze)).fixed) h
+fixed_after x y (SetTeamName team name) h = ap (λ (f : FixedPart). (add (bare f) (SetTeamName team name)).fixed) h
+fixed_after x y (SetDigest id digest) h = ap (λ (f : FixedPart). (add (bare f) (SetDigest id digest)).fixed) h
 fixed_after x y (NewType t) h = ap (λ (f : FixedPart). (add (bare f) (NewType t)).fixed) h
 fixed_after x y (NewLanguage l) h = ap (λ (f : FixedPart). (add (bare f) (NewLanguage l)).fixed) h
 fixed_after x y (NewProblem p) h = ap (λ (f : FixedPart). (add (bare f) (NewProblem p)).fixed) h
@@ -80,6 +83,9 @@ row_addable x (SetRejudging n state) sound is = absurd (cc is)
 row_addable x (SetStart start) sound is = absurd (cc is)
 row_addable x (SetThaw thaw) sound is = absurd (cc is)
 row_addable x (SetFinalized finalized) sound is = absurd (cc is)
+row_addable x (SetDuration duration freeze) sound is = absurd (cc is)
+row_addable x (SetTeamName team name) sound is = absurd (cc is)
+row_addable x (SetDigest id digest) sound is = absurd (cc is)
 
 -- one more row
 grown_fits : (x : ContestState) (a : Additions) (e : Entry) (added : Bool) → IsSoundRow e → row_addition a.fixed e ≡ Ok added → Fits x a → Fits x (grown_by a e added)

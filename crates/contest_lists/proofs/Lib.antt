@@ -2,6 +2,5 @@ pub mod AccountLemmas
 pub mod PartLemmas
 pub mod FixedAlone
 pub mod FixedLemmas
-pub mod ChangeLemmas
 pub mod TeamRowLemmas
 pub mod RowIndexLemmas

@@ -1,16 +1,17 @@
 //! Changes of the settings, the accounts and the marks.
 ghost use Rattle.std.specs.Prelude.{◌≡◌, ◌++◌, ◌∷◌, [], true, false, Bool, Ok, Result, IfOk, IfErr};
-ghost use Rattle.std.specs.Prelude.{OnOk, filter};
+ghost use Rattle.std.specs.Prelude.{OnOk, filter, if◌then◌else◌};
+ghost use Rattle.std.specs.Str.{bytes_eq};
 ghost use Rattle.contest_types.specs.Accounts.{comes_before, with_account};
 ghost use Rattle.contest_types.specs.Addable.{is_addable, is_added};
 ghost use Rattle.contest_types.specs.Additions.{IsFaultOf};
-ghost use Rattle.contest_types.specs.State.{ContestState, add};
+ghost use Rattle.contest_types.specs.State.{ContestState, add, with_digest};
 ghost use Rattle.contest_types.specs.declared.refusal.Cause.{Cause as TheCause};
 ghost use Rattle.contest_lists.specs.RowsAdded.{HasSameSettings, is_setting_or_mark};
 
 use crate::copies::{CopyRow, copied_fixed};
 use crate::outcomes::value_if;
-use contest_types::{Account, Entry, Fixed, Identified, RowFault, Rows};
+use contest_types::{Account, Digest, Entry, Fixed, Id, Identified, RowFault, Rows};
 use std::alloc::{AllocError, Global};
 use std::mem::replace;
 use std::rc::Rc;
@@ -68,6 +69,15 @@ fn change(alloc: Global, fixed: &mut Fixed, entry: &Entry) -> Result<(), AllocEr
             fixed.marks.finalized = Some(*finalized);
             Ok(())
         }
+        Entry::SetDuration(duration, freeze) => {
+            let _ = settings.set_duration(*duration, *freeze);
+            Ok(())
+        }
+        Entry::SetTeamName(team, name) => {
+            settings.set_team_name(*team, name.clone()?);
+            Ok(())
+        }
+        Entry::SetDigest(id, digest) => set_digest(alloc, &mut fixed.accounts, id, *digest),
         _ => Ok(()),
     }
 }
@@ -80,6 +90,46 @@ fn added(outcome: Result<bool, RowFault>) -> Result<(), AllocError>
         Err(RowFault::Memory) => Err(AllocError),
         Ok(_) | Err(RowFault::Fault(_)) => Ok(()),
     }
+}
+
+// Gives the account with an id another token.
+fn set_digest(
+    alloc: Global,
+    accounts: &mut Rows<Account>,
+    id: &Id,
+    digest: Digest,
+) -> Result<(), AllocError>
+    ensures { OnOk result (accounts.new ≡ with_digest accounts.old id.now digest) }
+{
+    let others = replace(accounts, Rows::new(alloc)).into_vec();
+    *accounts = Rows::from_vec(all_given(alloc, others, id, digest)?);
+    Ok(())
+}
+
+fn all_given(
+    alloc: Global,
+    accounts: Vec<Account>,
+    id: &Id,
+    digest: Digest,
+) -> Result<Vec<Account>, AllocError>
+    ensures { IfOk result (λ all. all.items ≡ with_digest accounts.items id.now digest) }
+{
+    let mut all = Vec::new(alloc);
+    for account in accounts {
+        all.push(given(account, id, digest))?;
+    }
+    Ok(all)
+}
+
+// The account, with another token if it has the id.
+fn given(account: Account, id: &Id, digest: Digest) -> Account
+    ensures { result ≡ (if bytes_eq account.id id.now then record account { digest = digest } else account) }
+{
+    let mut account = account;
+    if account.id == *id {
+        account.digest = digest;
+    }
+    account
 }
 
 /// Adds an account at the place that its id has.

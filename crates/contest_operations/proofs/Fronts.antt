@@ -1,17 +1,22 @@
 -- What stands in the front of a list, where a contest has grown; and what two texts name there.
-use Rattle.std.proofs.Common.{◌≡◌, ◌∙◌, ◌+◌, ◌<◌, ℕ, suc, Bool, true, false, List, [], ◌∷◌, ◌++◌, length, map, Option, Some, None, refl, sym, ap, arith}
-use Rattle.std.specs.Prelude.{◌==◌, find, bytes_eq}
+use Rattle.std.proofs.Common.{◌≡◌, ◌∙◌, ◌+◌, ◌<◌, ℕ, zero, suc, Bool, true, false, List, [], ◌∷◌, ◌++◌, length, map, Option, Some, None, refl, sym, ap, arith}
+use Rattle.std.specs.Prelude.{◌==◌, find, bytes_eq, slice_get}
 use Rattle.std.specs.List.{position_from}
-use Rattle.std.specs.Option.{option_or}
+use Rattle.std.specs.Option.{option_map_or, option_or}
 use Rattle.std.proofs.lemmas.Bool.{eq-eqb}
 use Rattle.std.proofs.lemmas.Bool.Decides.{nat_tests}
-use Rattle.std.proofs.lemmas.List.{map-append}
+use Rattle.std.proofs.Math.Path.{fun_ext}
+use Rattle.std.proofs.lemmas.Simd.{map-map}
+use Rattle.std.proofs.lemmas.List.{length-map, map-append}
 use Rattle.std.proofs.lemmas.List.Folds.{find-append}
 use Rattle.contest_types.specs.Places.{place_of}
 use Rattle.contest_types.specs.State.{ContestState, FixedPart}
+use Rattle.contest_types.specs.declared.contest.ContestHead.{ContestHead}
+use Rattle.contest_types.specs.declared.objects.Team.{Team}
+use Rattle.contest_types.proofs.GrownSettings.{at_front}
 use Rattle.contest_types.proofs.PlaceLemmas.{differs, same_bytes, bytes_same}
 use Rattle.contest_rules.specs.Submitting.{same_text}
-use Rattle.contest_operations.specs.Growing.{Grows, HasRows, IsFront}
+use Rattle.contest_operations.specs.Growing.{Grows, HasRows, IsFront, unnamed}
 
 -- what stands in the front of a list stands there in the list
 
@@ -73,15 +78,36 @@ same_place_from a b n (x ∷ xs) i j h k =
 
 -- the fixed part as far as what is posted and its value go by it
 pub record Extends (f g : FixedPart) : Type 0 where
-  pub head : g.settings.head ≡ f.settings.head
+  pub id : g.settings.head.id ≡ f.settings.head.id
   pub languages : IsFront f.settings.languages g.settings.languages
   pub problems : IsFront f.settings.problems g.settings.problems
   pub groups : IsFront f.settings.groups g.settings.groups
-  pub teams : IsFront f.settings.teams g.settings.teams
+  pub teams : IsFront (map unnamed f.settings.teams) (map unnamed g.settings.teams)
   pub start : g.marks.start ≡ f.marks.start
 
 pub extends : (x y : ContestState) → Grows x y → HasRows x → Extends x.fixed y.fixed
-extends x y h some = record { head = h.head; languages = h.languages; problems = h.problems; groups = h.groups; teams = h.teams; start = h.start some }
+extends x y h some = record { id = ap (λ (head : ContestHead). head.id) h.head; languages = h.languages; problems = h.problems; groups = h.groups; teams = h.teams; start = h.start some }
+
+-- what is made of a row at a place, and of what the rows are mapped to
+at_mapped : {X Y Z : Type 0} (f : X → Y) (g : Y → Z) (none : Z) (xs : List X) (i : ℕ) → option_map_or g (slice_get (map f xs) i) none ≡ option_map_or (λ x. g (f x)) (slice_get xs i) none
+at_mapped f g none [] i = refl
+at_mapped f g none (x ∷ xs) zero = refl
+at_mapped f g none (x ∷ xs) (suc i) = at_mapped f g none xs i
+
+-- what a team that is there has beside its name it has still
+pub team_stays : {Y : Type 0} (h : Team → Y) (none : Y) → ((t : Team) → h (unnamed t) ≡ h t) → (f g : FixedPart) (i : ℕ) → Extends f g → i < length f.settings.teams
+    → option_map_or h (slice_get g.settings.teams i) none ≡ option_map_or h (slice_get f.settings.teams i) none
+team_stays h none same f g i e there =
+    let apart : (ts : List Team) → option_map_or h (slice_get (map unnamed ts) i) none ≡ option_map_or h (slice_get ts i) none =
+    λ ts. at_mapped unnamed h none ts i ∙ ap (λ (k : Team → _). option_map_or k (slice_get ts i) none) (fun_ext same) in
+    let within : i < length (map unnamed f.settings.teams) = omega (arith, length-map f.settings.teams unnamed, there) in
+    sym (apart g.settings.teams) ∙ (ap (λ o. option_map_or h o none) (at_front (map unnamed f.settings.teams) (map unnamed g.settings.teams) i e.teams within) ∙ apart f.settings.teams)
+
+-- a team's id has the place that it had
+pub team_place_stays : (f g : FixedPart) (id : List ℕ) (i : ℕ) → Extends f g → place_of id (map (λ (t : Team). t.id) f.settings.teams) ≡ Some i → place_of id (map (λ (t : Team). t.id) g.settings.teams) ≡ Some i
+team_place_stays f g id i e at =
+    let ids : Team → List ℕ = λ t. t.id in
+    ap (place_of id) (sym (map-map ids unnamed g.settings.teams)) ∙ place_front ids id (map unnamed f.settings.teams) (map unnamed g.settings.teams) i e.teams (ap (place_of id) (map-map ids unnamed f.settings.teams) ∙ at)
 
 -- texts that may be none
 

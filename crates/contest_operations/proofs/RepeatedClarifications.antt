@@ -50,7 +50,7 @@ use Rattle.contest_operations.specs.Outcomes.{Outcome, done_or_ruled, refusing, 
 use Rattle.contest_operations.specs.PostedClarifications.{clarification_outcome}
 use Rattle.contest_operations.specs.Replies.{answer}
 use Rattle.contest_operations.specs.declared.reply.Reply.{Reply}
-use Rattle.contest_operations.proofs.Fronts.{Extends, extends, find_front, place_front, same_as_itself, same_place_from, some_found}
+use Rattle.contest_operations.proofs.Fronts.{Extends, extends, find_front, place_front, same_as_itself, same_place_from, some_found, team_place_stays, team_stays}
 use Rattle.contest_operations.proofs.GrowLemmas.{front_onward}
 use Rattle.contest_operations.proofs.RuledLemmas.{ruled_refuses}
 use Rattle.contest_types.proofs.GrownSettings.{at_front, front_more}
@@ -62,7 +62,7 @@ hears_still : (f g : FixedPart) (s : Sender) (account : List ℕ) → Extends f 
 hears_still f g s account h writer addressee.All = refl
 hears_still f g (sender.Team team) account h writer (addressee.Group group) =
     let there : team + 1 - 1 < length f.settings.teams = omega (arith, writer.0) in
-    ap (λ (o : Option Team). nat_lt 0 (team + 1) && option_map_or (λ (t : Team). list_any (λ g. g == group) t.groups) o false) (sym (at_front f.settings.teams g.settings.teams (team + 1 - 1) h.teams there))
+    ap (λ b. nat_lt 0 (team + 1) && b) (sym (team_stays (λ (t : Team). list_any (λ g. g == group) t.groups) false (λ t. refl) f g (team + 1 - 1) h there))
 hears_still f g sender.Jury account h writer (addressee.Group group) = refl
 hears_still f g s account h writer (addressee.Team team) = refl
 
@@ -128,7 +128,7 @@ addressee_still f g sender.Jury (WantsGroup id) a h e =
     ap (option_map to_group) (place_front (λ (r : Group). r.id) id f.settings.groups g.settings.groups p.place h.groups p.at) ∙ ap Some p.is
 addressee_still f g sender.Jury (WantsTeam id) a h e =
     let p = placed_by to_team (team_ids f) id a e in
-    ap (option_map to_team) (place_front (λ (t : Team). t.id) id f.settings.teams g.settings.teams p.place h.teams p.at) ∙ ap Some p.is
+    ap (option_map to_team) (team_place_stays f g id p.place h p.at) ∙ ap Some p.is
 
 named_still : (f g : FixedPart) (s : Sender) (account : List ℕ) (cs ds : List Clarification) (w : WantedClarification) (n : NamedClarification) → Extends f g → IsWriter f s account → IsFront cs ds
     → named_clarification f s cs w ≡ Some n → named_clarification g s ds w ≡ Some n
@@ -323,7 +323,7 @@ whose_stays : (f g : FixedPart) (to : Addressee) → Extends f g → is_an_addre
 whose_stays f g addressee.All h there = refl
 whose_stays f g (addressee.Group group) h there = refl
 whose_stays f g (addressee.Team team) h there =
-    ap (λ o. Some (option_map_or (λ (u : Team). u.id) o [])) (at_front f.settings.teams g.settings.teams team h.teams (ltb-true team (length f.settings.teams) there))
+    ap Some (team_stays (λ (u : Team). u.id) [] (λ u. refl) f g team h (ltb-true team (length f.settings.teams) there))
 
 group_stays : (f g : FixedPart) (to : Addressee) → Extends f g → is_an_addressee f to ≡ true → group_of g.settings to ≡ group_of f.settings to
 group_stays f g addressee.All h there = refl

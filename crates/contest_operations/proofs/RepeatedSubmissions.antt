@@ -16,7 +16,6 @@ use Rattle.contest_types.specs.State.{ContestState, FixedPart, submissions_of, a
 use Rattle.contest_types.specs.TeamPlaces.{team_id_at}
 use Rattle.contest_types.specs.VisibleIds.{submission_id}
 use Rattle.contest_types.specs.declared.entry.Entry.TheVariants.{NewSubmission}
-use Rattle.contest_types.specs.declared.contest.ContestHead.{ContestHead}
 use Rattle.contest_types.specs.declared.objects.Language.{Language}
 use Rattle.contest_types.specs.declared.objects.Problem.{Problem}
 use Rattle.contest_types.specs.declared.objects.Team.{Team}
@@ -42,7 +41,7 @@ use Rattle.contest_operations.specs.declared.reply.Reply.{Reply}
 use Rattle.contest_operations.proofs.AddedAlike.{own_more}
 use Rattle.contest_view.proofs.OwnNumbers.{find_both}
 use Rattle.contest_operations.proofs.RuledLemmas.{ruled_refuses}
-use Rattle.contest_operations.proofs.Fronts.{Extends, equal_texts, extends, find_front, place_front, same_as_itself, same_place_from, some_found}
+use Rattle.contest_operations.proofs.Fronts.{Extends, equal_texts, extends, find_front, place_front, same_as_itself, same_place_from, some_found, team_stays}
 use Rattle.contest_types.proofs.GrownSettings.{at_front}
 
 own_front : (team : ℕ) (xs ys : List Submission) → IsFront xs ys → IsFront (submissions_of team xs) (submissions_of team ys)
@@ -52,9 +51,9 @@ stands_front : (key : Option (List ℕ)) (xs ys : List Submission) (s : Submissi
 stands_front None xs ys s front is = absurd (cc is)
 stands_front (Some key) xs ys s front is = find_front (has_key key) xs ys s front is
 
-abbrev data_by : (s : Submission) → Option Program → (start : Option ℕ) → ContestHead → (language problem team : List ℕ) → Data
-data_by s program start head language problem team =
-    object (submission_members (contest_time_data start s.time) (option_map string (option_and_then (λ (p : Program). p.entry_point) program)) (option_map (λ (p : Program). files_data head.id (submission_id s.team s.number)) program)
+abbrev data_by : (s : Submission) → Option Program → (start : Option ℕ) → (contest language problem team : List ℕ) → Data
+data_by s program start contest language problem team =
+    object (submission_members (contest_time_data start s.time) (option_map string (option_and_then (λ (p : Program). p.entry_point) program)) (option_map (λ (p : Program). files_data contest (submission_id s.team s.number)) program)
     (submission_id s.team s.number) language problem team (string (moment_text s.time)))
 
 -- the value of one that stands stays
@@ -63,8 +62,8 @@ own_stays : (f g : FixedPart) (team : ℕ) (s : Submission) → Extends f g → 
 own_stays f g team s h l p t =
     let language : language_id_at g.settings s.language ≡ language_id_at f.settings s.language = ap (λ o. option_map_or (λ (k : Language). k.id) o []) (at_front f.settings.languages g.settings.languages s.language h.languages l) in
     let problem : problem_id_at g.settings.problems s.problem ≡ problem_id_at f.settings.problems s.problem = ap (λ o. option_map_or (λ (q : Problem). q.id) o []) (at_front f.settings.problems g.settings.problems s.problem h.problems p) in
-    let whose : team_id_at g.settings s.team ≡ team_id_at f.settings s.team = ap (λ o. option_map_or (λ (u : Team). u.id) o []) (at_front f.settings.teams g.settings.teams s.team h.teams t) in
-    λ i. data_by s (program_for (audience_at s.team) s) (h.start i) (h.head i) (language i) (problem i) (whose i)
+    let whose : team_id_at g.settings s.team ≡ team_id_at f.settings s.team = team_stays (λ (u : Team). u.id) [] (λ u. refl) f g s.team h t in
+    λ i. data_by s (program_for (audience_at s.team) s) (h.start i) (h.id i) (language i) (problem i) (whose i)
 
 abbrev pub problem_place : FixedPart → WantedSubmission → Option ℕ
 problem_place f w = place_of w.problem (map (λ (p : Problem). p.id) f.settings.problems)

@@ -8,7 +8,7 @@ use Rattle.contest_types.specs.TeamPlaces.{team_places, is_public}
 use Rattle.contest_types.specs.Masks.{mask_for}
 use Rattle.contest_types.specs.State.{ContestState, add, names, of_release}
 use Rattle.contest_types.specs.declared.entry.Entry.{Entry}
-use Rattle.contest_types.specs.declared.entry.Entry.TheVariants.{NewSubmission, NewProposal, NewRelease, NewClarification, NewRejudging, SetMember, SetRejudging, SetStart, SetThaw, SetFinalized, NewType, NewLanguage, NewProblem, NewGroup, NewTeam, NewAccount}
+use Rattle.contest_types.specs.declared.entry.Entry.TheVariants.{NewSubmission, NewProposal, NewRelease, NewClarification, NewRejudging, SetMember, SetRejudging, SetStart, SetThaw, SetFinalized, SetDuration, SetTeamName, SetDigest, NewType, NewLanguage, NewProblem, NewGroup, NewTeam, NewAccount}
 use Rattle.contest_types.specs.declared.audience.Audience.{Audience}
 use Rattle.contest_types.specs.declared.audience.Audience.TheVariants.{Jury}
 use Rattle.contest_types.specs.declared.sight.Mask.{Mask}
@@ -87,6 +87,9 @@ hidden_moves_no_board a now group x team (SetRejudging n state) h k = absurd (fa
 hidden_moves_no_board a now group x team (SetStart start) h k = absurd (false≢true k)
 hidden_moves_no_board a now group x team (SetThaw thaw) h k = absurd (false≢true k)
 hidden_moves_no_board a now group x team (SetFinalized finalized) h k = absurd (false≢true k)
+hidden_moves_no_board a now group x team (SetDuration duration freeze) h k = absurd (false≢true k)
+hidden_moves_no_board a now group x team (SetTeamName named name) h k = absurd (false≢true k)
+hidden_moves_no_board a now group x team (SetDigest id digest) h k = absurd (false≢true k)
 hidden_moves_no_board a now group x team (NewType t) h k = absurd (false≢true k)
 hidden_moves_no_board a now group x team (NewLanguage l) h k = absurd (false≢true k)
 hidden_moves_no_board a now group x team (NewProblem p) h k = absurd (false≢true k)
@@ -105,6 +108,9 @@ hidden_moves_no_award a now x team (SetRejudging n state) h k = absurd (false≢
 hidden_moves_no_award a now x team (SetStart start) h k = absurd (false≢true k)
 hidden_moves_no_award a now x team (SetThaw thaw) h k = absurd (false≢true k)
 hidden_moves_no_award a now x team (SetFinalized finalized) h k = absurd (false≢true k)
+hidden_moves_no_award a now x team (SetDuration duration freeze) h k = absurd (false≢true k)
+hidden_moves_no_award a now x team (SetTeamName named name) h k = absurd (false≢true k)
+hidden_moves_no_award a now x team (SetDigest id digest) h k = absurd (false≢true k)
 hidden_moves_no_award a now x team (NewType t) h k = absurd (false≢true k)
 hidden_moves_no_award a now x team (NewLanguage l) h k = absurd (false≢true k)
 hidden_moves_no_award a now x team (NewProblem p) h k = absurd (false≢true k)

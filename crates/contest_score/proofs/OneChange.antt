@@ -1,17 +1,19 @@
 -- What one change of a contest does to its cells.
 use Rattle.std.proofs.Common.{◌≡◌, ◌≢◌, ◌⊎◌, ℕ, Bool, true, false, List, [], ◌∷◌, ◌++◌, map, filter, Option, Some, None, refl, sym, ap, ◌∙◌, inl, inr, append-nil}
-use Rattle.std.specs.Prelude.{◌==◌, ◌&&◌, ◌||◌, if◌then◌else◌}
+use Rattle.std.specs.Prelude.{◌==◌, ◌&&◌, ◌||◌, not, if◌then◌else◌}
 use Rattle.std.specs.List.{list_any, last_or}
 use Rattle.std.specs.Option.{option_map}
 use Rattle.std.proofs.Math.Path.{fun_ext}
 use Rattle.std.proofs.lemmas.Simd.{map-map}
 use Rattle.std.proofs.lemmas.List.Elements.{filter-append}
 use Rattle.std.proofs.lemmas.Bool.{cases_Bool, false≢true, eqb-true, ne_eqb}
+use Rattle.contest_types.specs.Addable.{is_addable, freezes_the_same}
+use Rattle.contest_types.specs.Clock.{is_frozen}
 use Rattle.contest_types.specs.Masks.{mask_for}
 use Rattle.contest_types.specs.Order.{Has}
-use Rattle.contest_types.specs.State.{ContestState, add, names, of_release}
+use Rattle.contest_types.specs.State.{ContestState, with_duration, add, names, of_release}
 use Rattle.contest_types.specs.declared.entry.Entry.{Entry}
-use Rattle.contest_types.specs.declared.entry.Entry.TheVariants.{NewSubmission, NewProposal, NewRelease, NewClarification, NewRejudging, SetMember, SetRejudging, SetStart, SetThaw, SetFinalized, NewType, NewLanguage, NewProblem, NewGroup, NewTeam, NewAccount}
+use Rattle.contest_types.specs.declared.entry.Entry.TheVariants.{NewSubmission, NewProposal, NewRelease, NewClarification, NewRejudging, SetMember, SetRejudging, SetStart, SetThaw, SetFinalized, SetDuration, SetTeamName, SetDigest, NewType, NewLanguage, NewProblem, NewGroup, NewTeam, NewAccount}
 use Rattle.contest_types.specs.Sight.{Judgement, judgement_of, full_verdict}
 use Rattle.contest_types.specs.Valid.{is_valid}
 use Rattle.contest_types.specs.declared.audience.Audience.{Audience}
@@ -26,14 +28,15 @@ use Rattle.contest_score.specs.Ranking.{board_rows, is_on_board}
 use Rattle.contest_types.specs.declared.submission.Submission.{Submission}
 use Rattle.contest_types.specs.declared.submission.Release.{Release}
 use Rattle.contest_types.proofs.PlaceLemmas.{and_left, and_right}
+use Rattle.contest_types.proofs.ExtensionLemmas.{agreed, same_of_some}
 use Rattle.contest_types.proofs.SeenWhole.{one_submission}
 use Rattle.contest_score.specs.declared.submission.JudgedSubmission.{JudgedSubmission}
 use Rattle.contest_score.specs.Scoring.{cell_of_attempts}
-use Rattle.contest_score.specs.MaskedCells.{attempt_under, is_by, start_of, cell_under}
-use Rattle.contest_score.specs.Contest.{judged_submission, judged_submissions, seen_cell, board_for}
+use Rattle.contest_score.specs.MaskedCells.{attempt_under, is_by, start_of, cell_under, verdict_of}
+use Rattle.contest_score.specs.Contest.{judged_submission, judged_submissions, contest_cell, seen_cell, board_for}
 use Rattle.contest_score.specs.Awards.{shown_awards}
 use Rattle.contest_score.specs.CachedCells.{attempt_at}
-use Rattle.contest_score.specs.ScoringLaws.{can_score, can_award, is_at, bears_on}
+use Rattle.contest_score.specs.ScoringLaws.{ExtensionMovesNoBoard, can_score, can_award, is_at, bears_on}
 use Rattle.contest_score.proofs.MaskLemmas.{filter_mapped}
 use Rattle.contest_score.proofs.AwardsAlike.{attempts_of}
 
@@ -166,6 +169,9 @@ nothing_else_scores a now group x (SetThaw thaw) h = absurd (false≢true (sym h
 nothing_else_scores a now group x (SetFinalized finalized) h =
     with_board a now group x (add x (SetFinalized finalized)) (λ cells. refl)
     (fun_ext (λ team. ap (λ c. c team) (finalizing_scores_nothing (mask_for a x.fixed.marks now team) x.fixed.settings x.fixed.marks (Some finalized) (judged_submissions x))))
+nothing_else_scores a now group x (SetDuration duration freeze) h = absurd (false≢true (sym h))
+nothing_else_scores a now group x (SetTeamName team name) h = absurd (false≢true (sym h))
+nothing_else_scores a now group x (SetDigest id digest) h = (refl, refl)
 nothing_else_scores a now group x (NewType t) h = absurd (false≢true (sym h))
 nothing_else_scores a now group x (NewLanguage l) h =
     with_board a now group x (add x (NewLanguage l)) (with_languages x.fixed.settings group (x.fixed.settings.languages ++ l ∷ []))
@@ -176,6 +182,41 @@ nothing_else_scores a now group x (NewGroup g) h =
     (fun_ext (λ team. ap (λ c. c team) (groups_score_nothing (mask_for a x.fixed.marks now team) x.fixed.settings x.fixed.marks (x.fixed.settings.groups ++ g ∷ []) (judged_submissions x))))
 nothing_else_scores a now group x (NewTeam t) h = absurd (false≢true (sym h))
 nothing_else_scores a now group x (NewAccount account) h = (refl, refl)
+
+-- where the same submissions are frozen, the cells are the same
+module _ (x : ContestState) (duration : ℕ) (freeze : Option ℕ) (may : is_addable x (SetDuration duration freeze) ≡ true) where
+  abbrev s : Setup
+  s = x.fixed.settings
+
+  abbrev t : Setup
+  t = with_duration s duration freeze
+
+  abbrev y : ContestState
+  y = add x (SetDuration duration freeze)
+
+  abbrev agree : Submission → Bool
+  agree u = if is_frozen s x.fixed.marks u.time then is_frozen t x.fixed.marks u.time else not (is_frozen t x.fixed.marks u.time)
+
+  attempt_stays : (mask : Mask) (u : Submission) → agree u ≡ true → attempt_at mask y u ≡ attempt_at mask x u
+  attempt_stays Full u h = refl
+  attempt_stays Held u h = ap (λ frozen. record { time = u.time; verdict = verdict_of s.types (if frozen then None else full_verdict x u) }) (agreed (is_frozen s x.fixed.marks u.time) (is_frozen t x.fixed.marks u.time) h)
+
+  pub cell_stays : (mask : Mask) (team problem : ℕ) → contest_cell mask y team problem ≡ contest_cell mask x team problem
+  cell_stays mask team problem =
+      ap (cell_of_attempts (start_of x.fixed.marks))
+      (attempts_are mask y team problem
+      ∙ (same_of_some (attempt_at mask y) (attempt_at mask x) agree (is_at team problem) (attempt_stays mask) x.submissions (and_right _ (freezes_the_same s t x.fixed.marks x.submissions) may)
+      ∙ sym (attempts_are mask x team problem)))
+
+  rows_stay : (group : Option ℕ) (cells : ℕ → ℕ → Cell) → board_rows t (is_on_board t group) cells ≡ board_rows s (is_on_board s group) cells
+  rows_stay None cells = refl
+  rows_stay (Some group) cells = refl
+
+  pub extension_stays : (a : Audience) (now : ℕ) (group : Option ℕ) → (seen_cell a now y ≡ seen_cell a now x) × (board_for a now group y ≡ board_for a now group x)
+  extension_stays a now group = with_board a now group x y (rows_stay group) (fun_ext (λ team. fun_ext (λ problem. cell_stays (mask_for a x.fixed.marks now team) team problem)))
+
+pub extension_moves_no_board : ExtensionMovesNoBoard
+extension_moves_no_board a now group x duration freeze may = extension_stays x duration freeze may a now group
 
 pub nothing_else_awards : (a : Audience) (now : ℕ) (x : ContestState) (e : Entry) → can_award e ≡ false → shown_awards a now (add x e) ≡ shown_awards a now x
 nothing_else_awards a now x (NewSubmission s) h = absurd (false≢true (sym h))
@@ -188,6 +229,9 @@ nothing_else_awards a now x (SetRejudging n state) h = refl
 nothing_else_awards a now x (SetStart start) h = absurd (false≢true (sym h))
 nothing_else_awards a now x (SetThaw thaw) h = absurd (false≢true (sym h))
 nothing_else_awards a now x (SetFinalized finalized) h = absurd (false≢true (sym h))
+nothing_else_awards a now x (SetDuration duration freeze) h = absurd (false≢true (sym h))
+nothing_else_awards a now x (SetTeamName team name) h = absurd (false≢true (sym h))
+nothing_else_awards a now x (SetDigest id digest) h = refl
 nothing_else_awards a now x (NewType t) h = absurd (false≢true (sym h))
 nothing_else_awards a now x (NewLanguage l) h = refl
 nothing_else_awards a now x (NewProblem p) h = absurd (false≢true (sym h))

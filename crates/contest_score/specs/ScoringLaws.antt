@@ -6,8 +6,9 @@ use Rattle.contest_types.specs.Clock.{freeze_of, is_thawed}
 use Rattle.contest_types.specs.Order.{Has}
 use Rattle.contest_types.specs.State.{ContestState, with_marks, add, names, of_release}
 use Rattle.contest_types.specs.declared.entry.Entry.{Entry}
-use Rattle.contest_types.specs.declared.entry.Entry.TheVariants.{NewSubmission, NewRelease, SetStart, SetThaw, SetFinalized, NewType, NewProblem, NewGroup, NewTeam}
+use Rattle.contest_types.specs.declared.entry.Entry.TheVariants.{NewSubmission, NewRelease, SetStart, SetThaw, SetFinalized, SetDuration, SetTeamName, NewType, NewProblem, NewGroup, NewTeam}
 use Rattle.contest_types.specs.Sight.{SeenSubmission, type_of, sees_team, seen_of_team}
+use Rattle.contest_types.specs.Addable.{is_addable}
 use Rattle.contest_types.specs.Valid.{is_valid}
 use Rattle.contest_types.specs.declared.audience.Audience.{Audience}
 use Rattle.contest_types.specs.declared.audience.Audience.TheVariants.{Jury}
@@ -97,13 +98,15 @@ HiddenMovesNoAward =
     (a : Audience) (now : ℕ) (x : ContestState) (team : ℕ) (e : Entry) → is_public x.fixed.settings team ≡ false → is_of_team team e ≡ true
     → shown_awards a now (add x e) ≡ shown_awards a now x
 
--- what may change a cell or a board: a submission, a release, the start and the thaw, and new types,
--- problems and teams
+-- what may change a cell or a board: a submission, a release, the start, the thaw and the duration, a
+-- team's name, by which equals stand, and new types, problems and teams
 abbrev pub can_score : Entry → Bool
 can_score (NewSubmission s) = true
 can_score (NewRelease v) = true
 can_score (SetStart start) = true
 can_score (SetThaw thaw) = true
+can_score (SetDuration duration freeze) = true
+can_score (SetTeamName team name) = true
 can_score (NewType t) = true
 can_score (NewProblem p) = true
 can_score (NewTeam t) = true
@@ -114,6 +117,12 @@ abbrev pub NothingElseScores : Type 0
 NothingElseScores =
     (a : Audience) (now : ℕ) (group : Option ℕ) (x : ContestState) (e : Entry) → can_score e ≡ false
     → (seen_cell a now (add x e) ≡ seen_cell a now x) × (board_for a now group (add x e) ≡ board_for a now group x)
+
+-- and where the duration may be set, it changes no cell and no board, at any moment
+abbrev pub ExtensionMovesNoBoard : Type 0
+ExtensionMovesNoBoard =
+    (a : Audience) (now : ℕ) (group : Option ℕ) (x : ContestState) (duration : ℕ) (freeze : Option ℕ) → is_addable x (SetDuration duration freeze) ≡ true
+    → (seen_cell a now (add x (SetDuration duration freeze)) ≡ seen_cell a now x) × (board_for a now group (add x (SetDuration duration freeze)) ≡ board_for a now group x)
 
 -- what may change the awards: the same, finalizing and a new group
 abbrev pub can_award : Entry → Bool

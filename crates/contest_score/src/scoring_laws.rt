@@ -8,6 +8,7 @@ ghost use Rattle.contest_score.specs.ScoringLaws.{HiddenMovesNoAward, NothingEls
 ghost use Rattle.contest_score.specs.ScoringLaws.{NothingElseAwards, SubmissionMovesOneCell};
 ghost use Rattle.contest_score.specs.ScoringLaws.{ReleaseMovesItsCell, ReleaseMovesOneCell};
 ghost use Rattle.contest_score.specs.ScoringLaws.{NothingAfterAccepted, LastIsTheLatest};
+ghost use Rattle.contest_score.specs.ScoringLaws.{ExtensionMovesNoBoard};
 ghost use Rattle.contest_score.specs.BoardLaws.{ShownTeamsStand, NoTeamStandsTwice};
 ghost use Rattle.contest_score.specs.BoardLaws.{RowsStandInOrder, RowsHaveEachProblem};
 ghost use Rattle.contest_score.specs.BoardLaws.{ProblemsStandOnce, RanksCountTheBetter};
@@ -62,15 +63,21 @@ pub fn hidden_moves_no_award()
 {}
 
 /// No proposal, rejudging or clarification changes a cell or a board; only submissions, releases,
-/// the start, the thaw, and new types, problems and teams may.
+/// the start, the thaw, the duration, a team's name, and new types, problems and teams may.
 pub fn nothing_else_scores()
     ensures { NothingElseScores }
 {}
 
 /// No proposal, rejudging or clarification changes an award; only submissions, releases, the start,
-/// the thaw, finalizing, and new types, problems, groups and teams may.
+/// the thaw, the duration, finalizing, a team's name, and new types, problems, groups and teams may.
 pub fn nothing_else_awards()
     ensures { NothingElseAwards }
+{}
+
+/// An extension changes no cell and no board: where the duration may be set, each reads the board
+/// that it read, at any moment.
+pub fn extension_moves_no_board()
+    ensures { ExtensionMovesNoBoard }
 {}
 
 /// A submission changes no cell but that of its team at its problem.

@@ -8,7 +8,7 @@ use Rattle.contest_types.specs.Loads.{without_file}
 use Rattle.contest_types.specs.Sight.{Judgement, judgement_of, last_on, type_of}
 use Rattle.contest_types.specs.State.{ContestState, of_release, releases_on}
 use Rattle.contest_types.specs.declared.entry.Entry.{Entry}
-use Rattle.contest_types.specs.declared.entry.Entry.TheVariants.{NewSubmission, NewProposal, NewRelease, NewClarification, NewRejudging, SetMember, SetRejudging, SetStart, SetThaw, SetFinalized, NewType, NewLanguage, NewProblem, NewGroup, NewTeam, NewAccount}
+use Rattle.contest_types.specs.declared.entry.Entry.TheVariants.{NewSubmission, NewProposal, NewRelease, NewClarification, NewRejudging, SetMember, SetRejudging, SetStart, SetThaw, SetFinalized, SetDuration, SetTeamName, SetDigest, NewType, NewLanguage, NewProblem, NewGroup, NewTeam, NewAccount}
 use Rattle.contest_types.specs.declared.submission.Release.{Release}
 use Rattle.contest_types.specs.declared.submission.Submission.{Submission}
 use Rattle.contest_lists.specs.RowsAdded.{added_releases, added_submissions, is_setting_or_mark}
@@ -49,6 +49,9 @@ still_scored (NewRelease v) x y c h grown = absurd (false≢true h)
 still_scored (SetStart start) x y c h grown = absurd (false≢true h)
 still_scored (SetThaw thaw) x y c h grown = absurd (false≢true h)
 still_scored (SetFinalized finalized) x y c h grown = absurd (false≢true h)
+still_scored (SetDuration duration freeze) x y c h grown = absurd (false≢true h)
+still_scored (SetTeamName team name) x y c h grown = absurd (false≢true h)
+still_scored (SetDigest id digest) x y c h grown = cells_stay x y c (alike_still (SetDigest id digest) x y refl refl refl grown)
 still_scored (NewType t) x y c h grown = absurd (false≢true h)
 still_scored (NewLanguage l) x y c h grown = absurd (false≢true h)
 still_scored (NewProblem p) x y c h grown = absurd (false≢true h)

@@ -3,7 +3,7 @@
 use Rattle.std.specs.Prelude.{◌≡◌, Bool, true, false, ◌++◌}
 use Rattle.contest_types.specs.State.{ContestState}
 use Rattle.contest_types.specs.declared.entry.Entry.{Entry}
-use Rattle.contest_types.specs.declared.entry.Entry.TheVariants.{NewProposal, NewClarification, NewRejudging, SetMember, SetRejudging, NewAccount}
+use Rattle.contest_types.specs.declared.entry.Entry.TheVariants.{NewProposal, NewClarification, NewRejudging, SetMember, SetRejudging, SetDigest, NewAccount}
 use Rattle.contest_lists.specs.RowsAdded.{HasSameSettings, added_releases, added_submissions, is_setting_or_mark}
 
 pub record IsGrown (e : Entry) (x y : ContestState) : Type 0 where
@@ -18,5 +18,6 @@ scores_nothing (NewClarification c) = true
 scores_nothing (NewRejudging r) = true
 scores_nothing (SetMember n place state) = true
 scores_nothing (SetRejudging n state) = true
+scores_nothing (SetDigest id digest) = true
 scores_nothing (NewAccount a) = true
 scores_nothing e = false

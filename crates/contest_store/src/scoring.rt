@@ -79,7 +79,8 @@ fn scores_nothing(entry: &Entry) -> bool
         | Entry::NewRejudging(_)
         | Entry::SetMember(_, _, _)
         | Entry::SetRejudging(_, _)
-        | Entry::NewAccount(_) => true,
+        | Entry::NewAccount(_)
+        | Entry::SetDigest(_, _) => true,
         _ => false,
     }
 }

@@ -1,31 +1,33 @@
 -- Changes but submissions and releases leave the rows of all cells.
 use Rattle.std.proofs.Common.{◌≡◌, ◌∙◌, ◌<◌, ℕ, Bool, true, false, List, [], ◌∷◌, ◌++◌, length, Option, Some, None, refl, sym, ap, subst}
-use Rattle.std.specs.Prelude.{IfSome, if◌then◌else◌}
+use Rattle.std.specs.Prelude.{IfSome, not, if◌then◌else◌}
 use Rattle.std.specs.List.{AllByRecursion}
 use Rattle.std.specs.Option.{option_map, option_map_or}
 use Rattle.std.proofs.lemmas.Bool.{eqb-true, false≢true}
 use Rattle.std.proofs.lemmas.List.{nil_from_length}
 use Rattle.sqlite_keyed.proofs.ListLemmas.{all_of, all_weaker}
-use Rattle.contest_types.specs.Addable.{is_addable}
+use Rattle.contest_types.specs.Addable.{freezes_the_same, is_addable}
 use Rattle.contest_types.specs.Clock.{is_frozen}
 use Rattle.contest_types.specs.Masks.{verdict_under}
 use Rattle.contest_types.specs.ProblemPlaces.{problem_id_at}
 use Rattle.contest_types.specs.Setup.{Setup}
 use Rattle.contest_types.specs.Sight.{full_verdict}
-use Rattle.contest_types.specs.State.{ContestState, add}
+use Rattle.contest_types.specs.State.{ContestState, add, with_duration}
 use Rattle.contest_types.specs.Valid.{is_valid}
 use Rattle.contest_types.specs.declared.entry.Entry.{Entry}
-use Rattle.contest_types.specs.declared.entry.Entry.TheVariants.{NewSubmission, NewProposal, NewRelease, NewClarification, NewRejudging, SetMember, SetRejudging, SetStart, SetThaw, SetFinalized, NewType, NewLanguage, NewProblem, NewGroup, NewTeam, NewAccount}
+use Rattle.contest_types.specs.declared.entry.Entry.TheVariants.{NewSubmission, NewProposal, NewRelease, NewClarification, NewRejudging, SetMember, SetRejudging, SetStart, SetThaw, SetFinalized, SetDuration, SetTeamName, SetDigest, NewType, NewLanguage, NewProblem, NewGroup, NewTeam, NewAccount}
 use Rattle.contest_types.specs.declared.objects.JudgementType.{JudgementType}
 use Rattle.contest_types.specs.declared.objects.Problem.{Problem}
 use Rattle.contest_types.specs.declared.sight.Mask.{Mask}
 use Rattle.contest_types.specs.declared.sight.Mask.TheVariants.{Full, Held}
 use Rattle.contest_types.specs.declared.submission.Submission.{Submission}
-use Rattle.contest_types.proofs.PlaceLemmas.{and_left}
+use Rattle.contest_types.proofs.ExtensionLemmas.{agreed, same_of_some}
+use Rattle.contest_types.proofs.PlaceLemmas.{and_left, and_right}
 use Rattle.contest_score.specs.CachedCells.{attempt_at}
 use Rattle.contest_score.specs.Contest.{contest_cell}
 use Rattle.contest_score.specs.MaskedCells.{start_of, verdict_of}
 use Rattle.contest_score.specs.Scoring.{cell_of_attempts}
+use Rattle.contest_score.specs.ScoringLaws.{is_at}
 use Rattle.contest_score.specs.declared.attempt.Attempt.{Attempt}
 use Rattle.contest_score.specs.declared.attempt.Verdict.{Verdict}
 use Rattle.contest_score.proofs.LastTypes.{last_within}
@@ -48,6 +50,33 @@ no_start x start may =
 -- a mark or a setting that no cell reads
 unread : (x y : ContestState) → first_attempts y.submissions ≡ first_attempts x.submissions → ((s : Submission) → HasSameRow x y s) → cell_rows y ≡ cell_rows x
 unread x y first same = cells_same x y first (all_of (HasSameRow x y) same (first_attempts x.submissions))
+
+-- another duration, under which the same submissions are frozen
+module _ (x : ContestState) (duration : ℕ) (freeze : Option ℕ) (may : is_addable x (SetDuration duration freeze) ≡ true) where
+  abbrev was : Setup
+  was = x.fixed.settings
+
+  abbrev extended : Setup
+  extended = with_duration was duration freeze
+
+  abbrev after : ContestState
+  after = add x (SetDuration duration freeze)
+
+  abbrev agree : Submission → Bool
+  agree u = if is_frozen was x.fixed.marks u.time then is_frozen extended x.fixed.marks u.time else not (is_frozen extended x.fixed.marks u.time)
+
+  as_frozen : (mask : Mask) (u : Submission) → agree u ≡ true → attempt_at mask after u ≡ attempt_at mask x u
+  as_frozen Full u h = refl
+  as_frozen Held u h =
+      let made : Bool → Attempt = λ frozen. record { time = u.time; verdict = verdict_of was.types (if frozen then None else full_verdict x u) } in
+      ap made (agreed (is_frozen was x.fixed.marks u.time) (is_frozen extended x.fixed.marks u.time) h)
+
+  pub duration_keeps : cell_rows after ≡ cell_rows x
+  duration_keeps = unread x after refl (λ u mask.
+      let kept = same_of_some (attempt_at mask after) (attempt_at mask x) agree (is_at u.team u.problem) (as_frozen mask) x.submissions (and_right _ (freezes_the_same was extended x.fixed.marks x.submissions) may) in
+      let same : contest_cell mask after u.team u.problem ≡ contest_cell mask x u.team u.problem =
+      ap (cell_of_attempts (start_of x.fixed.marks)) (attempts_are mask after u.team u.problem ∙ kept ∙ sym (attempts_are mask x u.team u.problem)) in
+      ap (cell_row was mask u.team u.problem) same)
 
 -- a new judgement type, which no release names yet
 module _ (x : ContestState) (t : JudgementType) (valid : is_valid x ≡ true) where
@@ -107,6 +136,9 @@ others_keep_cells x (NewAccount a) valid may h = refl
 others_keep_cells x (SetStart start) valid may h = no_start x start may
 others_keep_cells x (SetThaw thaw) valid may h = unread x (add x (SetThaw thaw)) refl (λ s. elim [ Full ↦ refl | Held ↦ refl ])
 others_keep_cells x (SetFinalized finalized) valid may h = unread x (add x (SetFinalized finalized)) refl (λ s. elim [ Full ↦ refl | Held ↦ refl ])
+others_keep_cells x (SetDuration duration freeze) valid may h = duration_keeps x duration freeze may
+others_keep_cells x (SetTeamName team name) valid may h = unread x (add x (SetTeamName team name)) refl (λ s. elim [ Full ↦ refl | Held ↦ refl ])
+others_keep_cells x (SetDigest id digest) valid may h = refl
 others_keep_cells x (NewLanguage l) valid may h = unread x (add x (NewLanguage l)) refl (λ s. elim [ Full ↦ refl | Held ↦ refl ])
 others_keep_cells x (NewGroup g) valid may h = unread x (add x (NewGroup g)) refl (λ s. elim [ Full ↦ refl | Held ↦ refl ])
 others_keep_cells x (NewTeam t) valid may h = unread x (add x (NewTeam t)) refl (λ s. elim [ Full ↦ refl | Held ↦ refl ])

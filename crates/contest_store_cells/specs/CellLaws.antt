@@ -14,6 +14,6 @@ is_on_a_submission (NewRelease v) = true
 is_on_a_submission _ = false
 
 -- nothing else changes a cell of a valid contest: the start is set before the first submission, a thaw shows cells but
--- makes none, and a new setting is named by nothing yet
+-- makes none, another duration leaves each submission as frozen as it was, and a new setting is named by nothing yet
 abbrev pub OthersKeepCells : Type 0
 OthersKeepCells = (x : ContestState) (e : Entry) → is_valid x ≡ true → is_addable x e ≡ true → is_on_a_submission e ≡ false → cell_rows (add x e) ≡ cell_rows x

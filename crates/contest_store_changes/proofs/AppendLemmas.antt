@@ -69,7 +69,7 @@ module _ (r : Result (Unit {0}) StoreError) (old new : State) (b a : Counts) (li
       let x = h.contest in
       let y = add x e in
       let name = table_of_change change in
-      let row = is_one_change lists x e change (lent cells) is h.held in
+      let row = is_one_change lists x e change (lent cells) is h.sound h.held in
       let one : IsOneChange change (bound cells) x y = subst (λ (given : Row). IsOneChange change given x y) (sym (bound_as cells (lent cells) row.0 refl)) row.1 in
       let stands : AreChanged change (bound cells) (table_rows x name) (list_rows y name) =
       subst (λ (rows : List Row). AreChanged change (bound cells) rows (list_rows y name)) (sym (of_its_list name (cell_rows x) x one.of_lists)) one.changed in

@@ -1,12 +1,14 @@
--- One more account stands among those that rise by their ids.
-use Rattle.std.proofs.Common.{◌≡◌, Bool, true, false, List, [], ◌∷◌, filter, refl, ap, IsTrue, is_lt}
+-- Accounts that rise by their ids, with one more or with another token of one.
+use Rattle.std.proofs.Common.{◌≡◌, ℕ, Bool, true, false, List, [], ◌∷◌, filter, refl, ap, IsTrue, is_lt}
 use Rattle.std.specs.Prelude.{if◌then◌else◌}
 use Rattle.std.specs.List.{AllByRecursion}
 use Rattle.std.proofs.lemmas.Cmp.{nat_list_cmp_total}
-use Rattle.sqlite_keyed.proofs.ListLemmas.{all_weaker, ascending-append, ascending-filter}
+use Rattle.sqlite_keyed.proofs.ListLemmas.{all_weaker, ascending-append, ascending-filter, ascending-map, ascending_weaker}
 use Rattle.sqlite_trees.specs.Tree.{IsAscending}
 use Rattle.contest_types.specs.Accounts.{comes_before, with_account}
 use Rattle.contest_types.specs.declared.account.Account.{Account}
+use Rattle.contest_types.specs.State.{with_digest}
+use Rattle.contest_types.proofs.AddChanges.{given, same_id}
 use Rattle.contest_types.proofs.InOrderLemmas.{is_less}
 
 -- what comes before another comes before what that comes before
@@ -34,3 +36,10 @@ account_ascends accounts a up =
     let across : AllByRecursion (λ b. AllByRecursion (R b) (a ∷ high)) low =
     all_weaker (λ b. R b a) (λ b. AllByRecursion (R b) (a ∷ high)) (λ b h. (h, all_weaker (R a) (R b) (λ c k. before_next b a c h k) high above)) low below in
     ascending-append R low (a ∷ high) (ascending-filter R (λ b. comes_before b a) accounts up) (above, ascending-filter R (λ b. comes_before a b) accounts up) across
+
+-- an account stands where it stood when it gets another token
+pub digest_ascends : (accounts : List Account) (id digest : List ℕ) → IsAscending (λ b c. IsTrue (comes_before b c)) accounts → IsAscending (λ b c. IsTrue (comes_before b c)) (with_digest accounts id digest)
+digest_ascends accounts id digest up =
+    let R : Account → Account → Type 0 = λ b c. IsTrue (comes_before b c) in
+    ascending-map R (given id digest) accounts
+    (ascending_weaker R (λ b c. R (given id digest b) (given id digest c)) (λ b c h. rw (same_id id digest b, same_id id digest c) h) accounts up)

@@ -28,7 +28,9 @@ use Rattle.contest_store_rows.specs.Cells.{lent, number}
 use Rattle.contest_store_rows.specs.FixedRows.{account_row, contest_row, desk_row, item_row, role_team}
 use Rattle.contest_store_rows.specs.ListRows.{clarification_row, member_account, member_row, member_type, proposal_row, reference_id, rejudging_row, release_row, submission_row}
 use Rattle.contest_store_rows.specs.declared.versions.TheConstants.{VERSION}
-use Rattle.contest_store_fixed_rows.specs.Heads.{marks_row}
+use Rattle.contest_store_fixed_rows.specs.AccountRows.{digest_row}
+use Rattle.contest_store_fixed_rows.specs.Heads.{duration_row, marks_row}
+use Rattle.contest_store_fixed_rows.specs.Items.{team_name_row}
 use Rattle.contest_store_changes.specs.Laws.{member_state_given, state_given}
 
 abbrev pub Unreal : Row → Type 0
@@ -89,6 +91,15 @@ cell_unreal s mask team problem c = rw (moment (option_map (λ (m : Minute). m.0
 -- and what changes of rows are given
 pub marks_unreal : (m : Marks) → Unreal (marks_row m)
 marks_unreal m = rw (moment m.start, moment m.thaw, moment m.finalized) refl
+
+pub duration_unreal : (duration : ℕ) (freeze : Option ℕ) → Unreal (duration_row duration freeze)
+duration_unreal duration freeze = rw (moment freeze) refl
+
+pub team_name_unreal : (n : ℕ) (name : List ℕ) → Unreal (team_name_row n name)
+team_name_unreal n name = refl
+
+pub digest_unreal : (id digest : List ℕ) → Unreal (digest_row id digest)
+digest_unreal id digest = refl
 
 pub state_given_unreal : (n : ℕ) (state : RejudgingState) → Unreal (state_given n state)
 state_given_unreal n state = refl

@@ -1,22 +1,15 @@
 -- Rows of cells: held as they are given, rising by their keys, and one row changed among them.
-use Rattle.std.proofs.Common.{◌≡◌, ◌∙◌, ◌+◌, ℕ, Bool, true, false, List, [], ◌∷◌, map, All, refl, sym, ap, subst, Less}
+use Rattle.std.proofs.Common.{◌≡◌, ◌∙◌, ◌+◌, ℕ, Bool, true, false, List, [], ◌∷◌, map, All, refl, sym, subst, Less}
 use Rattle.std.specs.Prelude.{◌&&◌, ◌==◌, if◌then◌else◌}
 use Rattle.std.specs.List.{AllByRecursion}
 use Rattle.std.specs.Option.{option_map}
-use Rattle.std.specs.Ordering.{is_eq}
 use Rattle.std.specs.Str.{bytes_eq}
 use Rattle.std.proofs.lemmas.List.Elements.{All-nil, All-cons}
-use Rattle.std.proofs.lemmas.Map.Text.{is_eq-slice_cmp}
-use Rattle.sqlite.specs.Collation.TheVariants.{Binary}
 use Rattle.sqlite_keyed.specs.Lists.{sort_by}
 use Rattle.sqlite_keyed.proofs.ListLemmas.{all-append, all-map, all_map, all_weaker, ascending-map, ascending_weaker}
-use Rattle.sqlite_schema.specs.Rules.{equal}
 use Rattle.sqlite_sql.proofs.QueryLemmas.{key_cmp_total}
-use Rattle.sqlite_sql.specs.Ops.{binary}
 use Rattle.sqlite_value.specs.Keys.{rising}
-use Rattle.sqlite_value.specs.Order.{Row, value_cmp}
-use Rattle.sqlite_value.specs.declared.value.Value.TheVariants.{Text}
-use Rattle.sqlite_value.proofs.OrderLemmas.{value_cmp-Text}
+use Rattle.sqlite_value.specs.Order.{Row}
 use Rattle.contest_types.specs.ProblemPlaces.{problem_id_at}
 use Rattle.contest_types.specs.Setup.{Setup}
 use Rattle.contest_types.specs.State.{ContestState}
@@ -35,7 +28,7 @@ use Rattle.contest_store_cells.proofs.CellChanges.{NoTwoTie, all_cells}
 use Rattle.contest_store_cells.proofs.CellOrder.{IsPlaced, cells_apart, row_at}
 use Rattle.contest_store_changes.proofs.CastLemmas.{fits_number}
 use Rattle.contest_store_changes.proofs.HeldRows.{Fits, given, held}
-use Rattle.contest_store_changes.proofs.SameNumbers.{of_truth, same_number}
+use Rattle.contest_store_changes.proofs.SameNumbers.{same_number, same_text}
 use Rattle.contest_store_changes.proofs.WideRows.{all_sorted}
 
 -- a row of a cell is held as it is given, and where it stands
@@ -110,11 +103,6 @@ pub cells_held : (rows : List Row) → AllByRecursion IsOfCell rows → All (IsH
 cells_held [] all = All-nil (IsHeld (form_of Cells))
 cells_held (r ∷ rows) all =
     All-cons (IsHeld (form_of Cells)) r rows (subst (IsHeld (form_of Cells)) (sym all.0.is) (cell_held all.0.setup all.0.mask all.0.team all.0.problem all.0.cell)) (cells_held rows all.1)
-
--- texts are equal in SQL where they are the same
-same_text : (s t : List ℕ) → equal Binary (Text s) (Text t) ≡ bytes_eq s t
-unfolding binary
-same_text s t = of_truth (is_eq (value_cmp (Text s) (Text t))) ∙ ap is_eq (value_cmp-Text s t) ∙ is_eq-slice_cmp s t
 
 -- which rows are changed: those of the mask, the team and the problem
 pub by_parts : (s : Setup) (m n : Mask) (team problem t p : ℕ) (c d : Cell) → is_changed change.Cell (cell_row s m team problem c) (cell_row s n t p d)

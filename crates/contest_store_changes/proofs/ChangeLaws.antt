@@ -30,7 +30,7 @@ use Rattle.contest_store_changes.proofs.RowChanges.{members_are_changed, members
 use Rattle.contest_store_changes.proofs.SameNumbers.{same_number}
 
 -- the rows of whole lists are held
-rows_held : {X : Type 0} (P : Row → Type 0) (row : ℕ → X → Row) → ((n : ℕ) (x : X) → P (row n x)) → (n : ℕ) (xs : List X) → All P (rows_from row n xs)
+pub rows_held : {X : Type 0} (P : Row → Type 0) (row : ℕ → X → Row) → ((n : ℕ) (x : X) → P (row n x)) → (n : ℕ) (xs : List X) → All P (rows_from row n xs)
 rows_held P row each n [] = All-nil P
 rows_held P row each n (x ∷ xs) = All-cons P (row n x) (rows_from row (n + 1) xs) (each n x) (rows_held P row each (n + 1) xs)
 

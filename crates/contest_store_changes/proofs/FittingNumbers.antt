@@ -7,13 +7,14 @@ use Rattle.std.proofs.lemmas.Bool.Decides.{nat_tests}
 use Rattle.std.proofs.lemmas.List.Folds.{list_all_at}
 use Rattle.contest_types.specs.Addable.{is_addable, is_next_release, is_next_submission}
 use Rattle.contest_types.specs.Series.{count_up, have_own_keys, never_fall}
-use Rattle.contest_types.specs.State.{ContestState, add, changed_at, names, of_release, of_submission, releases_on, submissions_of, with_member_state}
+use Rattle.contest_types.specs.State.{ContestState, add, changed_at, names, of_release, of_submission, releases_on, submissions_of, with_member_state, with_settings}
 use Rattle.contest_types.specs.ValidClarifications.{is_an_addressee, is_valid_clarification}
 use Rattle.contest_types.specs.ValidRejudgings.{is_valid_member, is_valid_rejudging}
 use Rattle.contest_types.specs.ValidSubmissions.{are_valid_submissions, has_submission, is_valid_release, is_valid_submission, of_one_team}
 use Rattle.contest_types.specs.declared.clarification.Clarification.{Clarification}
-use Rattle.contest_types.specs.declared.entry.Entry.TheVariants.{NewSubmission, NewProposal, NewRelease, NewClarification, NewRejudging, SetMember, SetRejudging}
+use Rattle.contest_types.specs.declared.entry.Entry.TheVariants.{NewSubmission, NewProposal, NewRelease, NewClarification, NewRejudging, SetMember, SetRejudging, SetTeamName}
 use Rattle.contest_types.specs.declared.limits.TheConstants.{REJUDGING_MEMBERS, REJUDGINGS, TEAM_SUBMISSIONS, TEAMS}
+use Rattle.contest_types.specs.declared.objects.Team.{Team}
 use Rattle.contest_types.specs.declared.proposal.Proposal.{Proposal}
 use Rattle.contest_types.specs.declared.rejudging.Member.{Member}
 use Rattle.contest_types.specs.declared.rejudging.MemberState.{MemberState}
@@ -27,7 +28,7 @@ use Rattle.contest_types.proofs.ValidParts.{four, parts}
 use Rattle.contest_store_rows.specs.ListRows.{audience_number}
 use Rattle.contest_store_changes.specs.Sound.{IsSound}
 use Rattle.contest_store_changes.proofs.NamedReplies.{all_left, reach, small_number, small_numbers, small_addressee, IsSmall}
-use Rattle.contest_lists.proofs.ChangeLemmas.{after_all}
+use Rattle.contest_types.proofs.ChangeLemmas.{after_all}
 use Rattle.contest_store_changes.proofs.Writable.{writable}
 
 -- cells hold the numbers after both
@@ -147,6 +148,14 @@ no_rejudging_at x n f sound beyond = let few = few_rejudgings x sound in after_a
 
 pub no_such_rejudging : (x : ContestState) (n : ℕ) (state : RejudgingState) → IsSound x → ¬ (n + 1 < 2 ^ 63) → add x (SetRejudging n state) ≡ x
 no_such_rejudging x n state sound too_large = ap (λ (rs : List Rejudging). record x { rejudgings = rs }) (no_rejudging_at x n _ sound (past n too_large))
+
+-- and so is a team's
+pub no_such_team : (x : ContestState) (team : ℕ) (name : List ℕ) → IsSound x → ¬ (team + 1 < 2 ^ 63) → add x (SetTeamName team name) ≡ x
+no_such_team x team name sound too_large =
+    let few = few_teams x sound in
+    let beyond = past team too_large in
+    ap (λ (ts : List Team). with_settings x (record x.fixed.settings { teams = ts }))
+    (after_all 0 team (λ (t : Team). record t { name = name }) x.fixed.settings.teams (omega (arith, few, beyond)))
 
 -- what stays as it is where it may be changed
 all_same : {X : Type 0} (first at : ℕ) (f : X → X) (q : X → Bool) → ((x : X) → q x ≡ true → f x ≡ x) → (xs : List X) → list_all q xs ≡ true → changed_at first at f xs ≡ xs

@@ -98,6 +98,12 @@ contest_given f = given (form_of Contest) (contest_row f) (contest_fits f) (λ r
 pub held : (t : Table) (row : Row) → Fits t row → show t (put_for t row) ≡ row → IsHeld t row
 held t row fit shown = ap (show t) (cast_row_same t (put_for t row) fit) ∙ shown
 
+pub item_held : (kind n : ℕ) (id name label : List ℕ) (ordinal : ℕ) (flag_a flag_b : Bool) (group_ids : List ℕ) → IsHeld (form_of Items) (item_row kind n id name label ordinal flag_a flag_b group_ids)
+item_held kind n id name label ordinal flag_a flag_b group_ids = held (form_of Items) (item_row kind n id name label ordinal flag_a flag_b group_ids) (item_fits kind n id name label ordinal flag_a flag_b group_ids) refl
+
+pub account_held : (s : Setup) (a : Account) → IsHeld (form_of Accounts) (account_row s a)
+account_held s a = held (form_of Accounts) (account_row s a) (account_fits s a) refl
+
 pub rejudging_held : (n : ℕ) (r : Rejudging) → IsHeld (form_of Rejudgings) (rejudging_row n r)
 rejudging_held n r = held (form_of Rejudgings) (rejudging_row n r) (rejudging_fits n r) refl
 

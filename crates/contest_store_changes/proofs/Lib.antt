@@ -11,6 +11,7 @@ pub mod SettingAdditions
 pub mod SameNumbers
 pub mod RowChanges
 pub mod ChangeLaws
+pub mod SettingChanges
 pub mod BoundRows
 pub mod CellsPassed
 pub mod AppendedRows

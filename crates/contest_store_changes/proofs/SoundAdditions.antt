@@ -1,18 +1,20 @@
 -- What may be added to a sound contest leaves a sound one.
-use Rattle.std.proofs.Common.{◌+◌, ℕ, Bool, true, false, List, [], ◌∷◌, ◌++◌, filter, Some}
+use Rattle.std.proofs.Common.{◌≡◌, ◌+◌, ℕ, Bool, true, false, List, [], ◌∷◌, ◌++◌, filter, length, Some}
 use Rattle.std.specs.Prelude.{◌==◌, IsTrue, if◌then◌else◌}
 use Rattle.std.specs.List.{AllByRecursion}
+use Rattle.std.specs.Str.{bytes_eq}
 use Rattle.std.proofs.ByRecursion.{All-push}
 use Rattle.sqlite_keyed.proofs.ListLemmas.{all-append, all-filter}
 use Rattle.sqlite_trees.specs.Tree.{IsAscending}
 use Rattle.contest_types.specs.Accounts.{comes_before}
 use Rattle.contest_types.specs.Setup.{Setup}
-use Rattle.contest_types.specs.State.{ContestState, add, changed_at, with_marks, with_member_state, with_settings}
+use Rattle.contest_types.specs.State.{ContestState, add, changed_at, with_digest, with_duration, with_marks, with_member_state, with_settings, with_team_name}
 use Rattle.contest_types.specs.declared.account.Account.{Account}
 use Rattle.contest_types.specs.declared.clarification.Clarification.{Clarification}
 use Rattle.contest_types.specs.declared.entry.Entry.{Entry}
-use Rattle.contest_types.specs.declared.entry.Entry.TheVariants.{NewSubmission, NewProposal, NewRelease, NewClarification, NewRejudging, SetMember, SetRejudging, SetStart, SetThaw, SetFinalized, NewType, NewLanguage, NewProblem, NewGroup, NewTeam, NewAccount}
+use Rattle.contest_types.specs.declared.entry.Entry.TheVariants.{NewSubmission, NewProposal, NewRelease, NewClarification, NewRejudging, SetMember, SetRejudging, SetStart, SetThaw, SetFinalized, SetDuration, SetTeamName, SetDigest, NewType, NewLanguage, NewProblem, NewGroup, NewTeam, NewAccount}
 use Rattle.contest_types.specs.declared.marks.Marks.{Marks}
+use Rattle.contest_types.specs.declared.objects.Team.{Team}
 use Rattle.contest_types.specs.declared.proposal.Proposal.{Proposal}
 use Rattle.contest_types.specs.declared.rejudging.Member.{Member}
 use Rattle.contest_types.specs.declared.rejudging.Rejudging.{Rejudging}
@@ -22,7 +24,7 @@ use Rattle.contest_types.proofs.AddEntry.{adding}
 use Rattle.contest_store_fixed_rows.specs.Laws.{IsWritableMarks, IsWritableSetup}
 use Rattle.contest_store_changes.specs.Kinds.{AreOfKinds, IsMoment, IsOfKinds, IsOfKindsAccount, IsOfKindsClarification, IsOfKindsProposal, IsOfKindsRejudging, IsOfKindsSubmission}
 use Rattle.contest_store_changes.specs.Laws.{AdditionsStaySound}
-use Rattle.contest_store_changes.proofs.AscendingAccounts.{account_ascends}
+use Rattle.contest_store_changes.proofs.AscendingAccounts.{account_ascends, digest_ascends}
 
 -- what holds of each holds where one is changed so that it keeps it
 changed_each : {X : Type 0} (P : X → Type 0) (f : X → X) → ((x : X) → P x → P (f x)) → (first n : ℕ) (xs : List X) → AllByRecursion P xs → AllByRecursion P (changed_at first n f xs)
@@ -30,6 +32,13 @@ changed_each P f keeps first n [] all = tt
 changed_each P f keeps first n (x ∷ xs) all =
     let go : (b : Bool) → P (if b then f x else x) = elim [ true ↦ keeps x all.0 | false ↦ all.0 ] in
     (go (first == n), changed_each P f keeps (first + 1) n xs all.1)
+
+-- and of each account where one gets another token
+given_of_kinds : (id digest : List ℕ) → length digest ≡ 32 → (accounts : List Account) → AllByRecursion IsOfKindsAccount accounts → AllByRecursion IsOfKindsAccount (with_digest accounts id digest)
+given_of_kinds id digest is [] all = tt
+given_of_kinds id digest is (a ∷ accounts) all =
+    let go : (b : Bool) → IsOfKindsAccount (if b then record a { digest = digest } else a) = elim [ true ↦ record { id = all.0.id; digest = is } | false ↦ all.0 ] in
+    (go (bytes_eq a.id id), given_of_kinds id digest is accounts all.1)
 
 -- rows of their kinds, with others of their kinds
 module _ (x : ContestState) (h : AreOfKinds x) where
@@ -74,6 +83,18 @@ module _ (x : ContestState) (h : AreOfKinds x) where
   stay_of_kinds (SetStart start) k = marks (record x.fixed.marks { start = start }) (record { start = k; thaw = h.marks.thaw; finalized = h.marks.finalized })
   stay_of_kinds (SetThaw thaw) k = marks (record x.fixed.marks { thaw = Some thaw }) (record { start = h.marks.start; thaw = k; finalized = h.marks.finalized })
   stay_of_kinds (SetFinalized finalized) k = marks (record x.fixed.marks { finalized = Some finalized }) (record { start = h.marks.start; thaw = h.marks.thaw; finalized = k })
+  stay_of_kinds (SetDuration duration freeze) k =
+      setup (with_duration s duration freeze) (record { head = record { id = w.head.id; name = w.head.name }; types = w.types; languages = w.languages; groups = w.groups; problems = w.problems; teams = w.teams })
+  stay_of_kinds (SetTeamName team name) k =
+      setup (with_team_name s team name) (record {
+        head = w.head;
+        types = w.types;
+        languages = w.languages;
+        groups = w.groups;
+        problems = w.problems;
+        teams = changed_each _ (λ (t : Team). record t { name = name }) (λ t was. record { id = was.id; name = k }) 0 team s.teams w.teams;
+      })
+  stay_of_kinds (SetDigest id digest) k = fixed s (with_digest x.fixed.accounts id digest) x.fixed.marks w (given_of_kinds id digest k.1 x.fixed.accounts h.accounts) h.marks
   stay_of_kinds (NewType r) k =
       setup (record s { types = s.types ++ r ∷ [] }) (record { head = w.head; types = All-push _ s.types r w.types k; languages = w.languages; groups = w.groups; problems = w.problems; teams = w.teams })
   stay_of_kinds (NewLanguage r) k =
@@ -92,6 +113,7 @@ module _ (x : ContestState) (h : AreOfKinds x) where
 
 stay_by_id : (x : ContestState) (e : Entry) → IsAscending (λ a b. IsTrue (comes_before a b)) x.fixed.accounts → IsAscending (λ a b. IsTrue (comes_before a b)) (add x e).fixed.accounts
 stay_by_id x (NewAccount a) up = account_ascends x.fixed.accounts a up
+stay_by_id x (SetDigest id digest) up = digest_ascends x.fixed.accounts id digest up
 stay_by_id x _ up = up
 
 pub additions_stay_sound : AdditionsStaySound

@@ -5,10 +5,12 @@ use Rattle.contest_lists.specs.Lists.{loaded}
 use Rattle.contest_types.specs.Addable.{is_addable}
 use Rattle.contest_types.specs.State.{ContestState}
 use Rattle.contest_types.specs.declared.entry.Entry.{Entry}
-use Rattle.contest_types.specs.declared.entry.Entry.TheVariants.{NewSubmission, NewProposal, NewRelease, NewClarification, NewRejudging, SetMember, SetRejudging, SetStart, SetThaw, SetFinalized, NewType, NewLanguage, NewProblem, NewGroup, NewTeam, NewAccount}
+use Rattle.contest_types.specs.declared.entry.Entry.TheVariants.{NewSubmission, NewProposal, NewRelease, NewClarification, NewRejudging, SetMember, SetRejudging, SetStart, SetThaw, SetFinalized, SetDuration, SetTeamName, SetDigest, NewType, NewLanguage, NewProblem, NewGroup, NewTeam, NewAccount}
 use Rattle.contest_store_rows.specs.FixedRows.{account_row, group_row, language_row, problem_row, team_row, type_row}
 use Rattle.contest_store_rows.specs.ListRows.{clarification_row, proposal_row, rejudging_row, release_row, submission_row}
-use Rattle.contest_store_fixed_rows.specs.Heads.{marks_row}
+use Rattle.contest_store_fixed_rows.specs.AccountRows.{digest_row}
+use Rattle.contest_store_fixed_rows.specs.Heads.{duration_row, marks_row}
+use Rattle.contest_store_fixed_rows.specs.Items.{team_name_row}
 use Rattle.contest_store_tables.specs.declared.row_change.RowChange.{RowChange}
 use Rattle.contest_store_tables.specs.declared.row_change.RowChange.TheVariants as change
 use Rattle.contest_store_tables.specs.declared.table_name.TableName.{TableName}
@@ -45,6 +47,9 @@ abbrev pub IsGiven : ContestState → Entry → RowChange → Row → Type 0
 IsGiven x (SetStart start) kind row = (kind ≡ change.Marks) × (row ≡ marks_row (record x.fixed.marks { start = start }))
 IsGiven x (SetThaw thaw) kind row = (kind ≡ change.Marks) × (row ≡ marks_row (record x.fixed.marks { thaw = Some thaw }))
 IsGiven x (SetFinalized finalized) kind row = (kind ≡ change.Marks) × (row ≡ marks_row (record x.fixed.marks { finalized = Some finalized }))
+IsGiven x (SetDuration duration freeze) kind row = (kind ≡ change.Duration) × (row ≡ duration_row duration freeze)
+IsGiven x (SetTeamName team name) kind row = (kind ≡ change.ItemName) × (row ≡ team_name_row (team + 1) name)
+IsGiven x (SetDigest id digest) kind row = (kind ≡ change.Digest) × (row ≡ digest_row id digest)
 IsGiven x (SetRejudging n state) kind row = (kind ≡ change.RejudgingState) × (row ≡ state_given n state)
 IsGiven x (SetMember n place state) kind row = (kind ≡ change.MemberState) × (row ≡ member_state_given x.fixed.settings n (place + 1) state)
 IsGiven _ _ _ _ = ⊥

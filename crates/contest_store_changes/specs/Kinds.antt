@@ -5,7 +5,7 @@ use Rattle.contest_types.specs.ClarificationText.{text_from}
 use Rattle.contest_types.specs.IdText.{IsId}
 use Rattle.contest_types.specs.NameText.{name_from}
 use Rattle.contest_types.specs.declared.entry.Entry.{Entry}
-use Rattle.contest_types.specs.declared.entry.Entry.TheVariants.{NewSubmission, NewProposal, NewRelease, NewClarification, NewRejudging, SetMember, SetRejudging, SetStart, SetThaw, SetFinalized, NewType, NewLanguage, NewProblem, NewGroup, NewTeam, NewAccount}
+use Rattle.contest_types.specs.declared.entry.Entry.TheVariants.{NewSubmission, NewProposal, NewRelease, NewClarification, NewRejudging, SetMember, SetRejudging, SetStart, SetThaw, SetFinalized, SetDuration, SetTeamName, SetDigest, NewType, NewLanguage, NewProblem, NewGroup, NewTeam, NewAccount}
 use Rattle.contest_types.specs.declared.account.Account.{Account}
 use Rattle.contest_types.specs.declared.clarification.Clarification.{Clarification}
 use Rattle.contest_types.specs.declared.limits.TheConstants.{LAST_MOMENT}
@@ -70,6 +70,9 @@ IsOfKinds (SetRejudging n state) = ⊤
 IsOfKinds (SetStart start) = IfSome start IsMoment
 IsOfKinds (SetThaw thaw) = IsMoment thaw
 IsOfKinds (SetFinalized finalized) = IsMoment finalized
+IsOfKinds (SetDuration duration freeze) = ⊤
+IsOfKinds (SetTeamName team name) = IsName name
+IsOfKinds (SetDigest id digest) = IsId id × (length digest ≡ 32)
 IsOfKinds (NewType t) = IsWritableItem t.id t.name
 IsOfKinds (NewLanguage l) = IsWritableItem l.id l.name
 IsOfKinds (NewProblem p) = IsWritableProblem p

@@ -1,6 +1,6 @@
 -- What each kind of change does to the tables of a sound contest, one row at a time. Each is the contract of a
 -- function of src/laws.rt.
-use Rattle.std.specs.Prelude.{◌≡◌, ◌+◌, ℕ, true, List, [], ◌∷◌, ◌++◌, length, Some}
+use Rattle.std.specs.Prelude.{◌≡◌, ◌+◌, ℕ, true, List, [], ◌∷◌, ◌++◌, length, Option, Some}
 use Rattle.std.specs.List.{AllByRecursion}
 use Rattle.std.specs.Option.{option_map}
 use Rattle.sqlite.specs.Values.{or_null}
@@ -11,7 +11,7 @@ use Rattle.contest_types.specs.SettingsNames.{type_id_at}
 use Rattle.contest_types.specs.Setup.{Setup}
 use Rattle.contest_types.specs.State.{ContestState, add, with_marks}
 use Rattle.contest_types.specs.declared.entry.Entry.{Entry}
-use Rattle.contest_types.specs.declared.entry.Entry.TheVariants.{NewSubmission, NewProposal, NewRelease, NewClarification, NewRejudging, SetMember, SetRejudging, NewType, NewLanguage, NewProblem, NewGroup, NewTeam, NewAccount}
+use Rattle.contest_types.specs.declared.entry.Entry.TheVariants.{NewSubmission, NewProposal, NewRelease, NewClarification, NewRejudging, SetMember, SetRejudging, SetDuration, SetTeamName, SetDigest, NewType, NewLanguage, NewProblem, NewGroup, NewTeam, NewAccount}
 use Rattle.contest_types.specs.declared.account.Account.{Account}
 use Rattle.contest_types.specs.declared.clarification.Clarification.{Clarification}
 use Rattle.contest_types.specs.declared.marks.Marks.{Marks}
@@ -30,7 +30,9 @@ use Rattle.contest_types.specs.declared.submission.Submission.{Submission}
 use Rattle.contest_store_rows.specs.Cells.{number, flag}
 use Rattle.contest_store_rows.specs.FixedRows.{account_row, group_row, language_row, problem_row, team_row, type_row}
 use Rattle.contest_store_rows.specs.ListRows.{clarification_row, is_ready, member_account, member_row, member_type, proposal_row, rejudging_row, release_row, state_number, submission_row}
-use Rattle.contest_store_fixed_rows.specs.Heads.{marks_row}
+use Rattle.contest_store_fixed_rows.specs.AccountRows.{digest_row}
+use Rattle.contest_store_fixed_rows.specs.Heads.{duration_row, marks_row}
+use Rattle.contest_store_fixed_rows.specs.Items.{team_name_row}
 use Rattle.contest_store_tables.specs.Schema.{form_of}
 use Rattle.contest_store_tables.specs.Steps.{Rises}
 use Rattle.contest_store_tables.specs.Tables.{TableRows}
@@ -120,6 +122,18 @@ TeamIsAdded = (x : ContestState) (t : Team) → IsSound x → IsOneRow Items (te
 -- the marks
 abbrev pub MarksAreChanged : Type 0
 MarksAreChanged = (x : ContestState) (m : Marks) → IsOneChange change.Marks (marks_row m) x (with_marks x m)
+
+-- the duration, with the freeze duration
+abbrev pub DurationIsChanged : Type 0
+DurationIsChanged = (x : ContestState) (duration : ℕ) (freeze : Option ℕ) → IsOneChange change.Duration (duration_row duration freeze) x (add x (SetDuration duration freeze))
+
+-- the name of a team, whose row has the number after its place
+abbrev pub TeamNameIsChanged : Type 0
+TeamNameIsChanged = (x : ContestState) (team : ℕ) (name : List ℕ) → IsOneChange change.ItemName (team_name_row (team + 1) name) x (add x (SetTeamName team name))
+
+-- the token of an account, which stands where it stood
+abbrev pub DigestIsChanged : Type 0
+DigestIsChanged = (x : ContestState) (id digest : List ℕ) → IsSound x → IsOneChange change.Digest (digest_row id digest) x (add x (SetDigest id digest))
 
 -- the state of a rejudging, after its number
 abbrev pub state_given : (n : ℕ) → RejudgingState → Row

@@ -6,6 +6,7 @@ use crate::list_rows::{insert_clarification, insert_proposal, insert_release, in
 use crate::mark_rows::{set_finalized, set_start, set_thaw};
 use crate::one_row::insert_row;
 use crate::rejudging_rows::{insert_rejudging, set_member, set_rejudging};
+use crate::settings_rows::{set_digest, set_duration, set_team_name};
 use crate::team_row::insert_team;
 use contest_lists::Lists;
 use contest_store::StoreError;
@@ -44,6 +45,9 @@ pub fn write_entry<S: Alter>(
         Entry::SetStart(start) => set_start(tables, lists, *start),
         Entry::SetThaw(thaw) => set_thaw(tables, lists, *thaw),
         Entry::SetFinalized(finalized) => set_finalized(tables, lists, *finalized),
+        Entry::SetDuration(duration, freeze) => set_duration(tables, lists, *duration, *freeze),
+        Entry::SetTeamName(team, name) => set_team_name(tables, lists, *team, name),
+        Entry::SetDigest(id, digest) => set_digest(tables, lists, id, digest),
         Entry::NewType(row) => {
             let number = settings.judgement_types().len() as u64 + 1;
             insert_row(tables, TableName::Items, &type_cells(number, row))

@@ -1,6 +1,6 @@
 //! What the types of rows keep true of their texts and times. Their own calls say it, so each
 //! function here makes such calls and does nothing else.
-ghost use Rattle.std.specs.Prelude.{◌<◌, ◌^◌, IfSome};
+ghost use Rattle.std.specs.Prelude.{◌≡◌, ◌<◌, ◌^◌, IfSome, length};
 ghost use Rattle.std.specs.List.{AllByRecursion};
 ghost use Rattle.contest_types.specs.IdText.{IsId};
 ghost use Rattle.contest_store_fixed_rows.specs.Laws.{IsWritableItem, IsWritableMarks};
@@ -10,8 +10,9 @@ ghost use Rattle.contest_store_changes.specs.Kinds.{IsOfKinds, IsProposerId};
 
 use contest_lists::Lists;
 use contest_types::{
-    Account, Clarification, Entry, Group, Id, JudgementType, Language, Marks, Member, MemberState,
-    Moment, Name, Problem, Proposal, Proposer, Rejudging, Release, Settings, Submission, Team,
+    Account, Clarification, Digest, Entry, Group, Id, JudgementType, Language, Marks, Member,
+    MemberState, Moment, Name, Problem, Proposal, Proposer, Rejudging, Release, Settings,
+    Submission, Team,
 };
 
 /// The texts and the times of any lists are of their kinds.
@@ -40,10 +41,12 @@ pub fn is_of_kinds(entry: &Entry)
         Entry::NewClarification(row) => row.of_kinds(),
         Entry::NewRejudging(row) => row.of_kinds(),
         Entry::SetMember(_, _, state) => member_state(state),
-        Entry::SetRejudging(_, _) => {}
+        Entry::SetRejudging(_, _) | Entry::SetDuration(_, _) => {}
         Entry::SetStart(start) => moment_if_any(*start),
         Entry::SetThaw(thaw) => moment(*thaw),
         Entry::SetFinalized(finalized) => moment(*finalized),
+        Entry::SetTeamName(_, text) => name(text),
+        Entry::SetDigest(account, digest) => token(account, digest),
         Entry::NewType(row) => row.of_kinds(),
         Entry::NewLanguage(row) => row.of_kinds(),
         Entry::NewProblem(row) => row.of_kinds(),
@@ -216,8 +219,7 @@ impl OfKinds for Account {
     ghost kinds = { IsOfKindsAccount };
 
     fn of_kinds(&self) {
-        id(&self.id);
-        let _ = self.digest.as_bytes();
+        token(&self.id, &self.digest);
     }
 }
 
@@ -237,6 +239,13 @@ fn proposer(proposer: &Proposer)
         Proposer::Account(account) => id(account),
         Proposer::Import => {}
     }
+}
+
+fn token(account: &Id, digest: &Digest)
+    ensures { IsId account.now × (length digest.now ≡ 32) }
+{
+    id(account);
+    let _ = digest.as_bytes();
 }
 
 fn item(own_id: &Id, own_name: &Name)

@@ -8,7 +8,9 @@ ghost use Rattle.contest_store_changes.specs.Laws.{ReleaseIsAdded, Clarification
 ghost use Rattle.contest_store_changes.specs.Laws.{RejudgingIsAdded, MemberIsAdded, AccountIsAdded};
 ghost use Rattle.contest_store_changes.specs.Laws.{TypeIsAdded, LanguageIsAdded, GroupIsAdded};
 ghost use Rattle.contest_store_changes.specs.Laws.{ProblemIsAdded, TeamIsAdded, MarksAreChanged};
-ghost use Rattle.contest_store_changes.specs.Laws.{RejudgingIsChanged, MemberIsChanged};
+ghost use Rattle.contest_store_changes.specs.Laws.{DurationIsChanged, TeamNameIsChanged};
+ghost use Rattle.contest_store_changes.specs.Laws.{DigestIsChanged, RejudgingIsChanged};
+ghost use Rattle.contest_store_changes.specs.Laws.{MemberIsChanged};
 
 /// What may be added to a sound contest leaves a sound one.
 pub fn additions_stay_sound()
@@ -55,6 +57,9 @@ pub fn new_settings_are_rows()
 /// A change of what stands is one changed row.
 pub fn changes_are_rows()
     ensures marks { MarksAreChanged }
+    ensures duration { DurationIsChanged }
+    ensures team_name { TeamNameIsChanged }
+    ensures digest { DigestIsChanged }
     ensures rejudging { RejudgingIsChanged }
     ensures member { MemberIsChanged }
 {}

@@ -10,6 +10,7 @@ mod list_rows;
 mod mark_rows;
 mod one_row;
 mod rejudging_rows;
+mod settings_rows;
 mod team_row;
 mod upgrades;
 

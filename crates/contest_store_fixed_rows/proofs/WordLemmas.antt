@@ -1,5 +1,5 @@
 -- The ids of groups in one text, as a first and others.
-use Rattle.std.proofs.Common.{◌≡◌, ◌+◌, ◌++◌, ℕ, List, [], ◌∷◌, sym, ap}
+use Rattle.std.proofs.Common.{◌≡◌, ◌++◌, ℕ, List, [], ◌∷◌, sym, ap}
 use Rattle.std.proofs.lemmas.List.{append-nil}
 use Rattle.contest_types.specs.Setup.{Setup}
 use Rattle.contest_types.specs.SettingsNames.{group_id_at}

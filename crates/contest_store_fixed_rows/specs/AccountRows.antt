@@ -1,9 +1,9 @@
 -- The accounts that rows are.
-use Rattle.std.specs.Prelude.{ℕ, ◌==◌, List, length, map, Option, Some, None, if◌then◌else◌}
+use Rattle.std.specs.Prelude.{ℕ, ◌==◌, List, [], ◌∷◌, length, map, Option, Some, None, if◌then◌else◌}
 use Rattle.std.specs.Option.{option_map, option_and_then}
 use Rattle.sqlite_value.specs.Order.{Row, column}
 use Rattle.sqlite_value.specs.declared.value.Value.{Value}
-use Rattle.sqlite_value.specs.declared.value.Value.TheVariants.{Blob}
+use Rattle.sqlite_value.specs.declared.value.Value.TheVariants.{Text, Blob}
 use Rattle.contest_types.specs.Setup.{Setup}
 use Rattle.contest_types.specs.declared.account.Account.{Account}
 use Rattle.contest_types.specs.declared.account.Role.{Role}
@@ -21,6 +21,10 @@ digest_in _ = None
 
 abbrev pub role_in : (number team : ℕ) → Role
 role_in number team = if number == 0 then role.Team team else if number == 1 then role.Judge else if number == 2 then role.Admin else role.Analyst
+
+-- a digest, after the id of its account
+abbrev pub digest_row : (id digest : List ℕ) → Row
+digest_row id digest = Text id ∷ Blob digest ∷ []
 
 -- what the cells say, if the id and the digest are some
 abbrev pub account_said : Setup → Row → Option Account

@@ -45,6 +45,10 @@ marks_in r =
     option_and_then (λ start. option_and_then (λ thaw. option_map (λ finalized. record { start = start; thaw = thaw; finalized = finalized })
     (time_if_any (column r 12))) (time_if_any (column r 11))) (time_if_any (column r 10))
 
--- the marks after the number of the only row
+-- the duration and the freeze duration after the number of the only row
+abbrev pub duration_row : (duration : ℕ) → (freeze : Option ℕ) → Row
+duration_row duration freeze = number 1 ∷ number duration ∷ or_null number freeze ∷ []
+
+-- the marks after it
 abbrev pub marks_row : Marks → Row
 marks_row m = number 1 ∷ or_null number m.start ∷ or_null number m.thaw ∷ or_null number m.finalized ∷ []

@@ -3,6 +3,7 @@ use Rattle.std.specs.Prelude.{ℕ, ◌+◌, ◌^◌, nat_lt, ◌&&◌, ◌||◌,
 use Rattle.std.specs.List.{flat_map}
 use Rattle.std.specs.Option.{option_map, option_and_then}
 use Rattle.sqlite_value.specs.Order.{Row, column}
+use Rattle.sqlite_value.specs.declared.value.Value.TheVariants.{Text}
 use Rattle.contest_types.specs.Places.{place_of}
 use Rattle.contest_types.specs.Setup.{Setup}
 use Rattle.contest_types.specs.SettingsNames.{group_id_at}
@@ -14,7 +15,7 @@ use Rattle.contest_types.specs.declared.objects.Problem.{Problem}
 use Rattle.contest_types.specs.declared.objects.Group.{Group}
 use Rattle.contest_types.specs.declared.objects.Team.{Team}
 use Rattle.contest_types.specs.declared.refusal.Cause.{Cause}
-use Rattle.contest_store_rows.specs.Cells.{number_of, same_row, text_of}
+use Rattle.contest_store_rows.specs.Cells.{number, number_of, same_row, text_of}
 use Rattle.contest_store_rows.specs.Lists.{each_some}
 use Rattle.contest_store_rows.specs.Readings.{id_in, is_set, name_in}
 use Rattle.contest_store_rows.specs.FixedRows.{type_row, language_row, group_row, problem_row, team_row}
@@ -79,6 +80,10 @@ abbrev pub team_said : Setup → Row → Option Team
 team_said s r =
     option_and_then (λ groups. option_and_then (λ id. option_map (λ name. record { id = id; name = name; groups = groups; hidden = is_set (column r 6) })
     (name_in (column r 3))) (id_in (column r 2))) (groups_in s (text_of (column r 8)))
+
+-- a team's name, after the kind and the number of its row
+abbrev pub team_name_row : (n : ℕ) → (name : List ℕ) → Row
+team_name_row n name = number 4 ∷ number n ∷ Text name ∷ []
 
 abbrev pub with_team_in : Setup → Row → Option Setup
 with_team_in s r =

@@ -4,13 +4,13 @@ ghost use Rattle.sqlite_value.specs.Order.{column};
 ghost use Rattle.contest_store_rows.specs.Cells.{lent};
 ghost use Rattle.contest_store_rows.specs.FixedRows.{account_row, role_number, role_team};
 ghost use Rattle.contest_store_fixed_rows.specs.AccountRows.{account_in, account_said, accounts_in};
-ghost use Rattle.contest_store_fixed_rows.specs.AccountRows.{digest_in, role_in};
+ghost use Rattle.contest_store_fixed_rows.specs.AccountRows.{digest_in, digest_row, role_in};
 ghost use Rattle.sqlite_value.specs.Value.{owned};
 ghost use Rattle.sqlite_value.specs.declared.value.Value.TheVariants.{Text};
 ghost use Rattle.sqlite.specs.Values.{or_null};
 
 use contest_store_rows::{cell, id_in, is_row, number, number_at, text_at};
-use contest_types::{Account, Digest, Role, Rows, Settings};
+use contest_types::{Account, Digest, Id, Role, Rows, Settings};
 use sqlite::Row;
 use sqlite::types::ValueRef;
 use std::alloc::{AllocError, Global};
@@ -24,6 +24,16 @@ pub fn account_cells<'a>(settings: &'a Settings, account: &'a Account) -> [Value
         number(role_number(account.role)),
         role_team(settings, account.role),
         ValueRef::Blob(account.digest.as_bytes()),
+    ]
+}
+
+/// The digest of a token as a cell, after that of the id of its account.
+pub fn digest_cells<'a>(id: &'a Id, digest: &'a Digest) -> [ValueRef<'a>; 2]
+    ensures { lent result ≡ digest_row id.now digest.now }
+{
+    [
+        ValueRef::Text(id.as_bytes()),
+        ValueRef::Blob(digest.as_bytes()),
     ]
 }
 

@@ -5,8 +5,8 @@ ghost use Rattle.sqlite_value.specs.Value.{owned};
 ghost use Rattle.sqlite.specs.Values.{or_null};
 ghost use Rattle.contest_store_rows.specs.Cells.{lent, number};
 ghost use Rattle.contest_store_rows.specs.FixedRows.{contest_row, desk_row};
-ghost use Rattle.contest_store_fixed_rows.specs.Heads.{head_in, marks_in, marks_row, medals_in};
-ghost use Rattle.contest_store_fixed_rows.specs.Heads.{small_in, time_if_any, within_time};
+ghost use Rattle.contest_store_fixed_rows.specs.Heads.{duration_row, head_in, marks_in, marks_row};
+ghost use Rattle.contest_store_fixed_rows.specs.Heads.{medals_in, small_in, time_if_any, within_time};
 ghost use Rattle.contest_store_rows.specs.Readings.{number_if_any};
 
 use contest_store_rows::{Version, cell, id_in, is_set, name_in, number, number_at};
@@ -41,6 +41,18 @@ pub fn contest_cells(fixed: &Fixed) -> [ValueRef<'_>; 13]
         moment_or_null(fixed.marks.start),
         moment_or_null(fixed.marks.thaw),
         moment_or_null(fixed.marks.finalized),
+    ]
+}
+
+/// The duration and the freeze duration, if there is one, as cells, after the number of the row
+/// that keeps them.
+pub fn duration_cells<'a>(duration: TimeSpan, freeze: Option<TimeSpan>) -> [ValueRef<'a>; 3]
+    ensures { lent result ≡ duration_row duration freeze }
+{
+    [
+        number(1),
+        number(duration.milliseconds()),
+        span_or_null(freeze),
     ]
 }
 

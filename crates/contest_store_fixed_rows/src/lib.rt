@@ -12,10 +12,10 @@ mod reading;
 mod settings;
 mod team_items;
 
-pub use accounts::account_cells;
+pub use accounts::{account_cells, digest_cells};
 pub use fixed_part::{is_desk, read_fixed};
-pub use heads::{contest_cells, desk_cells, marks_cells};
+pub use heads::{contest_cells, desk_cells, duration_cells, marks_cells};
 pub use items::{group_cells, language_cells, problem_cells, type_cells};
 pub use loaded_rows::LoadedRows;
 pub use reading::read_lists;
-pub use team_items::{joined_ids, team_cells};
+pub use team_items::{joined_ids, team_cells, team_name_cells};

@@ -8,11 +8,11 @@ ghost use Rattle.contest_types.specs.Words.{words};
 ghost use Rattle.contest_store_rows.specs.Cells.{lent, same_row, text_of};
 ghost use Rattle.contest_store_rows.specs.FixedRows.{item_row, joined_ids, team_row};
 ghost use Rattle.contest_store_fixed_rows.specs.Items.{groups_in, groups_named, spaced_ids};
-ghost use Rattle.contest_store_fixed_rows.specs.Items.{team_said, with_team_in};
+ghost use Rattle.contest_store_fixed_rows.specs.Items.{team_name_row, team_said, with_team_in};
 
 use crate::items::{Item, item_cells};
-use contest_store_rows::{id_in, is_row, is_set, name_in, text_at};
-use contest_types::{RowFault, Rows, Settings, Team};
+use contest_store_rows::{id_in, is_row, is_set, name_in, number, text_at};
+use contest_types::{Name, RowFault, Rows, Settings, Team};
 use sqlite::Row;
 use sqlite::types::ValueRef;
 use std::alloc::{AllocError, Global};
@@ -141,6 +141,18 @@ pub fn team_cells<'a>(number: u64, group_ids: &'a str, team: &'a Team) -> [Value
         flag_b: false,
         group_ids,
     })
+}
+
+/// The name of a team as a cell, after those of the kind and the number of its row.
+pub fn team_name_cells<'a>(row: u64, name: &'a Name) -> [ValueRef<'a>; 3]
+    requires { row < 2 ^ 63 }
+    ensures { lent result ≡ team_name_row row name.now }
+{
+    [
+        number(4),
+        number(row),
+        ValueRef::Text(name.as_str().as_bytes()),
+    ]
 }
 
 /// Adds the team that a row is, and answers whether it is the next one's.

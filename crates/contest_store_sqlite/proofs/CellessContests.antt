@@ -1,24 +1,21 @@
 -- What is found where the tables of a desk are read whose table of the cells was taken out, and what is made of them.
-use Rattle.std.proofs.Common.{◌≡◌, ◌∙◌, List, [], length, Result, Ok, Err, Some, IsTrue, IfOk, inl, refl, sym, ap, subst, arith}
+use Rattle.std.proofs.Common.{◌≡◌, ◌∙◌, List, [], length, Result, Ok, Some, IfOk, inl, refl, sym, ap, subst, arith}
 use Rattle.std.specs.List.{AllByRecursion}
 use Rattle.std.proofs.lemmas.List.{take_all}
 use Rattle.sqlite.specs.State.{HasCleanDisk, State, Survives}
 use Rattle.sqlite.proofs.StateLemmas.{survives_then, survives_weaker}
-use Rattle.sqlite_value.specs.Order.{Row}
 use Rattle.contest_types.specs.State.{ContestState}
 use Rattle.contest_types.specs.declared.clarification.Clarification.{Clarification}
-use Rattle.contest_lists.specs.Lists.{loaded}
 use Rattle.contest_store.specs.declared.store_error.StoreError.{StoreError}
 use Rattle.contest_store_fixed_rows.specs.Spelling.{lists_in_version}
 use Rattle.contest_store_rows.specs.Cells.{numbered}
 use Rattle.contest_store_rows.specs.ListRows.{clarification_row}
 use Rattle.contest_store_rows.specs.declared.versions.TheConstants.{VERSION}
 use Rattle.contest_store_tables.specs.Celless.{FullCelless, HasDropped}
-use Rattle.contest_store_tables.specs.Steps.{Call, Celless, Content, FullLacking, Holds, IsLive, Lacking, MakesNone, Rises, Showing, Step, Within, with_rows}
+use Rattle.contest_store_tables.specs.Steps.{Call, Celless, Content, FullLacking, Holds, Lacking, MakesNone, Showing, Step, Within, with_rows}
 use Rattle.contest_store_tables.specs.Tables.{TableRows, with_cells_back}
 use Rattle.contest_store_tables.specs.declared.counts.Counts.{Counts}
 use Rattle.contest_store_tables.specs.declared.later_table.LaterTable.TheVariants as later
-use Rattle.contest_store_tables.specs.declared.table_name.TableName.{TableName}
 use Rattle.contest_store_tables.specs.declared.table_name.TableName.TheVariants.{Desk, Contest, Items, Accounts, Submissions, Proposals, Releases, Rejudgings, Members, Clarifications, Cells, Notices}
 use Rattle.contest_store_tables.proofs.HoldLemmas.{on_ok}
 use Rattle.contest_store_tables.proofs.StepLemmas.{in_turn}

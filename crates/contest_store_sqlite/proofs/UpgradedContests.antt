@@ -1,5 +1,5 @@
 -- What is found and left where tables of the first schema are opened or upgraded.
-use Rattle.std.proofs.Common.{◌≡◌, ◌∙◌, ℕ, Bool, true, false, List, [], length, map, get_or, Result, Ok, Err, Some, IsTrue, inl, inr, refl, sym, ap, subst, arith}
+use Rattle.std.proofs.Common.{◌≡◌, ◌∙◌, Bool, true, false, List, [], length, map, get_or, Result, Ok, Err, Some, IsTrue, inl, inr, refl, sym, ap, subst, arith}
 use Rattle.sqlite.specs.Effect.{IsDatabase}
 use Rattle.sqlite.specs.Schema.{Schema}
 use Rattle.sqlite.specs.State.{HasCleanDisk, State, Survives}
@@ -7,7 +7,6 @@ use Rattle.sqlite.specs.Table.{Table}
 use Rattle.sqlite.proofs.StateLemmas.{survives_then, survives_weaker}
 use Rattle.sqlite_value.specs.Order.{Row}
 use Rattle.sqlite_catalog.specs.Listing.{IsSound as IsSoundDatabase}
-use Rattle.contest_lists.specs.Lists.{loaded}
 use Rattle.contest_types.specs.State.{ContestState}
 use Rattle.contest_store.specs.declared.store_error.StoreError.{StoreError}
 use Rattle.contest_store_cells.specs.CellRows.{cell_rows}

@@ -30,7 +30,7 @@ use Rattle.contest_store_tables.specs.Statements.{given_terms}
 use Rattle.contest_store_tables.specs.Steps.{Content, HasContent, Within, Full}
 use Rattle.contest_store_tables.specs.Tables.{rows_in, show, by_key}
 use Rattle.contest_store_tables.specs.declared.row_change.RowChange.{RowChange}
-use Rattle.contest_store_tables.specs.declared.row_change.RowChange.TheVariants.{Version, Marks, RejudgingState, MemberState, Cell}
+use Rattle.contest_store_tables.specs.declared.row_change.RowChange.TheVariants.{Version, Marks, Duration, ItemName, Digest, RejudgingState, MemberState, Cell}
 use Rattle.contest_store_tables.specs.declared.table_name.TableName.{TableName}
 use Rattle.contest_store_tables.proofs.LoadLemmas.{sorted_rows}
 use Rattle.contest_store_tables.proofs.PlaceLemmas.{put_all_permutes, given_stay, left_over, changed_parts}
@@ -57,6 +57,9 @@ record IsChange (change : RowChange) : Type 0 where
 is_change : (change : RowChange) → IsChange change
 is_change Version = record { passes = λ _ _. refl; numbers = λ _ _. refl; puts = λ _ _. refl; over = λ _. refl; found = refl; keyless = λ _ _. refl }
 is_change Marks = record { passes = λ _ _. refl; numbers = λ _ _. refl; puts = λ _ _. refl; over = λ _. refl; found = refl; keyless = λ _ _. refl }
+is_change Duration = record { passes = λ _ _. refl; numbers = λ _ _. refl; puts = λ _ _. refl; over = λ _. refl; found = refl; keyless = λ _ _. refl }
+is_change ItemName = record { passes = λ _ _. refl; numbers = λ _ _. refl; puts = λ _ _. refl; over = λ _. refl; found = refl; keyless = λ _ _. refl }
+is_change Digest = record { passes = λ _ _. refl; numbers = λ _ _. refl; puts = λ _ _. refl; over = λ _. refl; found = refl; keyless = λ _ _. refl }
 is_change RejudgingState = record { passes = λ _ _. refl; numbers = λ _ _. refl; puts = λ _ _. refl; over = λ _. refl; found = refl; keyless = λ _ _. refl }
 is_change MemberState = record { passes = λ _ _. refl; numbers = λ _ _. refl; puts = λ _ _. refl; over = λ _. refl; found = refl; keyless = λ _ _. refl }
 is_change Cell = record { passes = λ _ _. refl; numbers = λ _ _. refl; puts = λ _ _. refl; over = λ _. refl; found = refl; keyless = λ _ _. refl }

@@ -8,7 +8,7 @@ use Rattle.contest_store_tables.specs.Clearing.{Clears}
 use Rattle.contest_store_tables.specs.Making.{Creates}
 use Rattle.contest_store_tables.specs.declared.later_table.LaterTable.{LaterTable}
 use Rattle.contest_store_tables.specs.declared.later_table.LaterTable.TheVariants as later
-use Rattle.contest_store_tables.specs.declared.row_change.RowChange.TheVariants.{Version, Marks, RejudgingState, MemberState, Cell}
+use Rattle.contest_store_tables.specs.declared.row_change.RowChange.TheVariants.{Version, Marks, Duration, ItemName, Digest, RejudgingState, MemberState, Cell}
 use Rattle.contest_store_tables.specs.Schema.{form_of}
 use Rattle.contest_store_tables.specs.Statements.{Inserts, Loads, FindsFile}
 use Rattle.contest_store_tables.specs.declared.table_name.TableName.TheVariants.{Desk, Contest, Items, Accounts, Submissions, Proposals, Releases, Rejudgings, Members, Clarifications, Cells, Notices}
@@ -152,6 +152,18 @@ file_found = record { names = codes "file" ∷ []; is = refl; plain = (refl, ref
 pub marks_changed : Changes Marks (codes "UPDATE contest SET start = ?2, thaw = ?3, finalized = ?4 WHERE one = ?1")
 unfolding understood everything
 marks_changed = record { is = refl; plain = (refl, refl) }
+
+pub duration_changed : Changes Duration (codes "UPDATE contest SET duration = ?2, freeze = ?3 WHERE one = ?1")
+unfolding understood everything
+duration_changed = record { is = refl; plain = (refl, refl) }
+
+pub item_name_changed : Changes ItemName (codes "UPDATE items SET name = ?3 WHERE kind = ?1 AND place = ?2")
+unfolding understood everything
+item_name_changed = record { is = refl; plain = (refl, refl) }
+
+pub digest_changed : Changes Digest (codes "UPDATE accounts SET token = ?2 WHERE id = ?1")
+unfolding understood everything
+digest_changed = record { is = refl; plain = (refl, refl) }
 
 pub rejudging_state_changed : Changes RejudgingState (codes "UPDATE rejudgings SET state = ?2 WHERE n = ?1")
 unfolding understood everything

@@ -18,13 +18,16 @@ use Rattle.contest_store_tables.specs.Tables.{TableRows, show}
 use Rattle.contest_store_tables.specs.Statements.{given_terms}
 use Rattle.contest_store_tables.specs.Steps.{Holding, Within, Showing, with_rows, Rises}
 use Rattle.contest_store_tables.specs.declared.row_change.RowChange.{RowChange}
-use Rattle.contest_store_tables.specs.declared.row_change.RowChange.TheVariants.{Version, Marks, RejudgingState, MemberState, Cell}
+use Rattle.contest_store_tables.specs.declared.row_change.RowChange.TheVariants.{Version, Marks, Duration, ItemName, Digest, RejudgingState, MemberState, Cell}
 use Rattle.contest_store_tables.specs.declared.table_name.TableName.{TableName}
-use Rattle.contest_store_tables.specs.declared.table_name.TableName.TheVariants.{Desk, Contest, Rejudgings, Members, Cells}
+use Rattle.contest_store_tables.specs.declared.table_name.TableName.TheVariants.{Desk, Contest, Items, Accounts, Rejudgings, Members, Cells}
 
 abbrev pub table_of_change : RowChange → TableName
 table_of_change Version = Desk
 table_of_change Marks = Contest
+table_of_change Duration = Contest
+table_of_change ItemName = Items
+table_of_change Digest = Accounts
 table_of_change RejudgingState = Rejudgings
 table_of_change MemberState = Members
 table_of_change Cell = Cells
@@ -33,6 +36,9 @@ table_of_change Cell = Cells
 abbrev pub is_changed : RowChange → Row → Row → Bool
 is_changed Version given r = equal Binary (column r 0) (column given 0) && true
 is_changed Marks given r = equal Binary (column r 0) (column given 0) && true
+is_changed Duration given r = equal Binary (column r 0) (column given 0) && true
+is_changed ItemName given r = equal Binary (column r 0) (column given 0) && (equal Binary (column r 1) (column given 1) && true)
+is_changed Digest given r = equal Binary (column r 0) (column given 0) && true
 is_changed RejudgingState given r = equal Binary (column r 0) (column given 0) && true
 is_changed MemberState given r = equal Binary (column r 0) (column given 0) && (equal Binary (column r 1) (column given 1) && true)
 is_changed Cell given r =
@@ -42,16 +48,25 @@ is_changed Cell given r =
 abbrev pub change_width : RowChange → ℕ
 change_width Version = 2
 change_width Marks = 4
+change_width Duration = 3
+change_width ItemName = 3
+change_width Digest = 2
 change_width RejudgingState = 2
 change_width MemberState = 5
 change_width Cell = 7
 
--- the row with what else is given in its last columns
+-- the row with what else is given in the columns that change
 abbrev pub changed_row : RowChange → Row → Row → Row
 changed_row Version given r = column r 0 ∷ column given 1 ∷ []
 changed_row Marks given r =
     column r 0 ∷ column r 1 ∷ column r 2 ∷ column r 3 ∷ column r 4 ∷ column r 5 ∷ column r 6 ∷ column r 7 ∷ column r 8 ∷ column r 9
     ∷ column given 1 ∷ column given 2 ∷ column given 3 ∷ []
+changed_row Duration given r =
+    column r 0 ∷ column r 1 ∷ column r 2 ∷ column given 1 ∷ column given 2 ∷ column r 5 ∷ column r 6 ∷ column r 7 ∷ column r 8 ∷ column r 9
+    ∷ column r 10 ∷ column r 11 ∷ column r 12 ∷ []
+changed_row ItemName given r =
+    column r 0 ∷ column r 1 ∷ column r 2 ∷ column given 2 ∷ column r 4 ∷ column r 5 ∷ column r 6 ∷ column r 7 ∷ column r 8 ∷ []
+changed_row Digest given r = column r 0 ∷ column r 1 ∷ column r 2 ∷ column given 1 ∷ []
 changed_row RejudgingState given r = column r 0 ∷ column r 1 ∷ column given 1 ∷ []
 changed_row MemberState given r = column r 0 ∷ column r 1 ∷ column r 2 ∷ column r 3 ∷ column given 2 ∷ column given 3 ∷ column given 4 ∷ []
 changed_row Cell given r = column r 0 ∷ column r 1 ∷ column r 2 ∷ column given 3 ∷ column given 4 ∷ column given 5 ∷ column given 6 ∷ []
@@ -62,6 +77,9 @@ change_row change given r = if is_changed change given r then changed_row change
 abbrev pub change_terms : RowChange → List Term
 change_terms Version = op2 (Compare Eq Binary) (col 1 0) (col 0 0) ∷ []
 change_terms Marks = op2 (Compare Eq Binary) (col 1 0) (col 0 0) ∷ []
+change_terms Duration = op2 (Compare Eq Binary) (col 1 0) (col 0 0) ∷ []
+change_terms ItemName = op2 (Compare Eq Binary) (col 1 1) (col 0 0) ∷ op2 (Compare Eq Binary) (col 1 2) (col 0 1) ∷ []
+change_terms Digest = op2 (Compare Eq Binary) (col 1 1) (col 0 0) ∷ []
 change_terms RejudgingState = op2 (Compare Eq Binary) (col 1 0) (col 0 0) ∷ []
 change_terms MemberState = op2 (Compare Eq Binary) (col 1 1) (col 0 0) ∷ op2 (Compare Eq Binary) (col 1 2) (col 0 1) ∷ []
 change_terms Cell = op2 (Compare Eq Binary) (col 1 1) (col 0 0) ∷ op2 (Compare Eq Binary) (col 1 2) (col 0 1) ∷ op2 (Compare Eq Binary) (col 1 3) (col 0 2) ∷ []
@@ -71,6 +89,11 @@ abbrev pub row_terms : RowChange → List Term
 row_terms Version = col 1 0 ∷ col 1 0 ∷ lit Null ∷ col 0 1 ∷ []
 row_terms Marks =
     col 1 0 ∷ col 1 0 ∷ lit Null ∷ col 1 2 ∷ col 1 3 ∷ col 1 4 ∷ col 1 5 ∷ col 1 6 ∷ col 1 7 ∷ col 1 8 ∷ col 1 9 ∷ col 1 10 ∷ col 0 1 ∷ col 0 2 ∷ col 0 3 ∷ []
+row_terms Duration =
+    col 1 0 ∷ col 1 0 ∷ lit Null ∷ col 1 2 ∷ col 1 3 ∷ col 0 1 ∷ col 0 2 ∷ col 1 6 ∷ col 1 7 ∷ col 1 8 ∷ col 1 9 ∷ col 1 10 ∷ col 1 11 ∷ col 1 12 ∷ col 1 13 ∷ []
+row_terms ItemName =
+    col 1 0 ∷ col 1 0 ∷ col 1 1 ∷ col 1 2 ∷ col 1 3 ∷ col 0 2 ∷ col 1 5 ∷ col 1 6 ∷ col 1 7 ∷ col 1 8 ∷ col 1 9 ∷ []
+row_terms Digest = col 1 0 ∷ col 1 0 ∷ col 1 1 ∷ col 1 2 ∷ col 1 3 ∷ col 0 1 ∷ []
 row_terms RejudgingState = col 1 0 ∷ col 1 0 ∷ lit Null ∷ col 1 2 ∷ col 0 1 ∷ []
 row_terms MemberState = col 1 0 ∷ col 1 0 ∷ col 1 1 ∷ col 1 2 ∷ col 1 3 ∷ col 1 4 ∷ col 0 2 ∷ col 0 3 ∷ col 0 4 ∷ []
 row_terms Cell = col 1 0 ∷ col 1 0 ∷ col 1 1 ∷ col 1 2 ∷ col 1 3 ∷ col 0 3 ∷ col 0 4 ∷ col 0 5 ∷ col 0 6 ∷ []

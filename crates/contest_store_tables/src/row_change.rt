@@ -8,6 +8,12 @@ pub enum RowChange {
     Version,
     /// Start, thaw and finalized, in the one row of `Contest`.
     Marks,
+    /// Duration and freeze, in the one row of `Contest`.
+    Duration,
+    /// The name, in a row of `Items`.
+    ItemName,
+    /// The digest of the token, in a row of `Accounts`.
+    Digest,
     /// The state, in a row of `Rejudgings`.
     RejudgingState,
     /// Type, account and ready, in a row of `Members`.

@@ -107,6 +107,9 @@ pub(crate) fn change_text(change: RowChange) -> &'static str
         RowChange::Version => "UPDATE desk SET version = ?2 WHERE one = ?1",
         RowChange::Marks =>
             "UPDATE contest SET start = ?2, thaw = ?3, finalized = ?4 WHERE one = ?1",
+        RowChange::Duration => "UPDATE contest SET duration = ?2, freeze = ?3 WHERE one = ?1",
+        RowChange::ItemName => "UPDATE items SET name = ?3 WHERE kind = ?1 AND place = ?2",
+        RowChange::Digest => "UPDATE accounts SET token = ?2 WHERE id = ?1",
         RowChange::RejudgingState => "UPDATE rejudgings SET state = ?2 WHERE n = ?1",
         RowChange::MemberState =>
             "UPDATE members SET type = ?3, account = ?4, ready = ?5 WHERE rejudging = ?1 AND place = ?2",

@@ -1,5 +1,5 @@
 -- Adding what may be added keeps a contest valid: rejudgings, their members and their states.
-use Rattle.std.proofs.Common.{◌≡◌, ℕ, suc, ◌+◌, Bool, true, false, List, [], ◌∷◌, ◌++◌, length, map, filter, refl, sym, ◌∙◌, ap, subst, append-nil, rules}
+use Rattle.std.proofs.Common.{◌≡◌, ℕ, ◌+◌, Bool, true, false, List, [], ◌∷◌, ◌++◌, length, map, filter, refl, sym, ◌∙◌, ap, subst, append-nil, rules}
 use Rattle.std.specs.Prelude.{◌&&◌, ◌||◌, ◌==◌, not, nat_le, nat_lt, if◌then◌else◌}
 use Rattle.std.specs.List.{list_all, list_any, flat_map}
 use Rattle.std.proofs.lemmas.Bool.{false≢true, not-true}
@@ -17,6 +17,7 @@ use Rattle.contest_types.specs.declared.rejudging.Member.{Member}
 use Rattle.contest_types.specs.declared.rejudging.MemberState.{MemberState}
 use Rattle.contest_types.specs.declared.rejudging.MemberState.TheVariants as member
 use Rattle.contest_types.proofs.PlaceLemmas.{and_left, and_right, both_true, all_push}
+use Rattle.contest_types.proofs.ChangeLemmas.{changed_all, length-changed, map-changed}
 use Rattle.contest_types.proofs.ValidParts.{parts, whole}
 use Rattle.contest_types.proofs.AddLemmas.{next_room}
 
@@ -41,24 +42,6 @@ adding_rejudging x r h a =
     let rejudgings : has_valid_rejudgings y ≡ true =
     all_three _ _ _ (all_push (is_valid_rejudging x) rs r was.0 (and_left _ _ a)) (open_push rs r (is_open r) refl was.1 (and_right (nat_lt (length rs) REJUDGINGS) _ next)) (next_room rs r REJUDGINGS (and_left _ _ next)) in
     whole y (search (rules, v, rejudgings))
-
--- a change that keeps a test, made at one row
-changed_all : {X : Type 0} (p : X → Bool) (f : X → X) → ((x : X) → p x ≡ true → p (f x) ≡ true) → (first n : ℕ) (xs : List X) → list_all p xs ≡ true → list_all p (changed_at first n f xs) ≡ true
-changed_all p f keeps first n [] h = refl
-changed_all p f keeps first n (x ∷ xs) h =
-    let go : (b : Bool) → p (if b then f x else x) ≡ true = elim [ true ↦ keeps x (and_left _ _ h) | false ↦ and_left _ _ h ] in
-    both_true _ _ (go (first == n)) (changed_all p f keeps (first + 1) n xs (and_right (p x) _ h))
-
-length-changed : {X : Type 0} (f : X → X) (first n : ℕ) (xs : List X) → length (changed_at first n f xs) ≡ length xs
-length-changed f first n [] = refl
-length-changed f first n (x ∷ xs) = ap (λ k. suc k) (length-changed f (first + 1) n xs)
-
--- what a change keeps of each row it keeps of the list
-map-changed : {X Y : Type 0} (g : X → Y) (f : X → X) → ((x : X) → g (f x) ≡ g x) → (first n : ℕ) (xs : List X) → map g (changed_at first n f xs) ≡ map g xs
-map-changed g f keeps first n [] = refl
-map-changed g f keeps first n (x ∷ xs) =
-    let go : (b : Bool) → g (if b then f x else x) ≡ g x = elim [ true ↦ keeps x | false ↦ refl ] in
-    rw (go (first == n), map-changed g f keeps (first + 1) n xs) refl
 
 -- a member without its state
 abbrev bare : Member → Member

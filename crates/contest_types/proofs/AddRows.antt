@@ -31,8 +31,8 @@ use Rattle.contest_types.proofs.SetupLemmas.{all_wider, refers_wider, labels_pus
 use Rattle.contest_types.proofs.SettingsTest.{is_settings, has_settings}
 use Rattle.contest_types.proofs.ValidParts.{parts, four, all_four}
 use Rattle.contest_types.proofs.GroupLemmas.{hears_by_teams, hears_with_team}
-use Rattle.contest_types.proofs.GrownSettings.{front_more, same_lists, one_type, one_language, one_problem, one_group, one_team}
-use Rattle.contest_types.proofs.AddSettings.{with_lists, Wider, widened, account_wider, longer, IsNewRow, new_row, takes}
+use Rattle.contest_types.proofs.GrownSettings.{same_lists, one_type, one_language, one_problem, one_group, one_team}
+use Rattle.contest_types.proofs.AddSettings.{with_lists, Wider, no_list_shorter, as_named, widened, account_wider, longer, IsNewRow, new_row, takes}
 
 pub adding_type : (x : ContestState) (t : JudgementType) → is_valid x ≡ true → is_addable x (NewType t) ≡ true → is_valid (add x (NewType t)) ≡ true
 adding_type x t h a =
@@ -41,7 +41,7 @@ adding_type x t h a =
     let k = takes (λ (r : JudgementType). r.id) same_type s.types t JUDGEMENT_TYPES v.types (new_row (id_match_of (λ (r : JudgementType). r.id) same_type s.types t) (nat_le JUDGEMENT_TYPES (length s.types)) a) in
     let y = with_lists x (s.types ++ t ∷ []) s.languages s.problems s.groups s.teams x.fixed.accounts in
     let valid : IsValid y.fixed.settings = record { head = v.head; types = k.different; few_types = k.few; languages = v.languages; few_languages = v.few_languages; problems = v.problems; labels = v.labels; few_problems = v.few_problems; groups = v.groups; few_groups = v.few_groups; teams = v.teams; few_teams = v.few_teams; references = v.references } in
-    let w : Wider x.fixed y.fixed = record { lists = one_type s t; named = λ id a e. e; heard = λ b to k. sym (hears_by_teams b s y.fixed.settings refl to) ∙ k } in
+    let w : Wider x.fixed y.fixed = record { lists = no_list_shorter s y.fixed.settings (one_type s t); named = as_named x.fixed.accounts x.fixed.accounts (λ id a e. e); heard = λ b to k. sym (hears_by_teams b s y.fixed.settings refl to) ∙ k } in
     widened x (s.types ++ t ∷ []) s.languages s.problems s.groups s.teams x.fixed.accounts w h (has_settings y valid) (parts x h).accounts
 
 pub adding_language : (x : ContestState) (l : Language) → is_valid x ≡ true → is_addable x (NewLanguage l) ≡ true → is_valid (add x (NewLanguage l)) ≡ true
@@ -51,7 +51,7 @@ adding_language x l h a =
     let k = takes (λ (r : Language). r.id) same_language s.languages l LANGUAGES v.languages (new_row (id_match_of (λ (r : Language). r.id) same_language s.languages l) (nat_le LANGUAGES (length s.languages)) a) in
     let y = with_lists x s.types (s.languages ++ l ∷ []) s.problems s.groups s.teams x.fixed.accounts in
     let valid : IsValid y.fixed.settings = record { head = v.head; types = v.types; few_types = v.few_types; languages = k.different; few_languages = k.few; problems = v.problems; labels = v.labels; few_problems = v.few_problems; groups = v.groups; few_groups = v.few_groups; teams = v.teams; few_teams = v.few_teams; references = v.references } in
-    let w : Wider x.fixed y.fixed = record { lists = one_language s l; named = λ id a e. e; heard = λ b to k. sym (hears_by_teams b s y.fixed.settings refl to) ∙ k } in
+    let w : Wider x.fixed y.fixed = record { lists = no_list_shorter s y.fixed.settings (one_language s l); named = as_named x.fixed.accounts x.fixed.accounts (λ id a e. e); heard = λ b to k. sym (hears_by_teams b s y.fixed.settings refl to) ∙ k } in
     widened x s.types (s.languages ++ l ∷ []) s.problems s.groups s.teams x.fixed.accounts w h (has_settings y valid) (parts x h).accounts
 
 pub adding_group : (x : ContestState) (g : Group) → is_valid x ≡ true → is_addable x (NewGroup g) ≡ true → is_valid (add x (NewGroup g)) ≡ true
@@ -61,7 +61,7 @@ adding_group x g h a =
     let k = takes (λ (r : Group). r.id) same_group s.groups g GROUPS v.groups (new_row (id_match_of (λ (r : Group). r.id) same_group s.groups g) (nat_le GROUPS (length s.groups)) a) in
     let y = with_lists x s.types s.languages s.problems (s.groups ++ g ∷ []) s.teams x.fixed.accounts in
     let valid : IsValid y.fixed.settings = record { head = v.head; types = v.types; few_types = v.few_types; languages = v.languages; few_languages = v.few_languages; problems = v.problems; labels = v.labels; few_problems = v.few_problems; groups = k.different; few_groups = k.few; teams = v.teams; few_teams = v.few_teams; references = refers_wider (length s.groups) (length (s.groups ++ g ∷ [])) (longer s.groups g) s.teams v.references } in
-    let w : Wider x.fixed y.fixed = record { lists = one_group s g; named = λ id a e. e; heard = λ b to k. sym (hears_by_teams b s y.fixed.settings refl to) ∙ k } in
+    let w : Wider x.fixed y.fixed = record { lists = no_list_shorter s y.fixed.settings (one_group s g); named = as_named x.fixed.accounts x.fixed.accounts (λ id a e. e); heard = λ b to k. sym (hears_by_teams b s y.fixed.settings refl to) ∙ k } in
     widened x s.types s.languages s.problems (s.groups ++ g ∷ []) s.teams x.fixed.accounts w h (has_settings y valid) (parts x h).accounts
 
 -- a row with a second key that is added is new, that key too
@@ -83,7 +83,7 @@ adding_problem x p h a =
     let k = takes (λ (r : Problem). r.id) same_problem s.problems p PROBLEMS v.problems n.row in
     let y = with_lists x s.types s.languages (s.problems ++ p ∷ []) s.groups s.teams x.fixed.accounts in
     let valid : IsValid y.fixed.settings = record { head = v.head; types = v.types; few_types = v.few_types; languages = v.languages; few_languages = v.few_languages; problems = k.different; labels = labels_push s.problems p v.labels n.key; few_problems = k.few; groups = v.groups; few_groups = v.few_groups; teams = v.teams; few_teams = v.few_teams; references = v.references } in
-    let w : Wider x.fixed y.fixed = record { lists = one_problem s p; named = λ id a e. e; heard = λ b to k. sym (hears_by_teams b s y.fixed.settings refl to) ∙ k } in
+    let w : Wider x.fixed y.fixed = record { lists = no_list_shorter s y.fixed.settings (one_problem s p); named = as_named x.fixed.accounts x.fixed.accounts (λ id a e. e); heard = λ b to k. sym (hears_by_teams b s y.fixed.settings refl to) ∙ k } in
     widened x s.types s.languages (s.problems ++ p ∷ []) s.groups s.teams x.fixed.accounts w h (has_settings y valid) (parts x h).accounts
 
 -- what is added by a second test passes the first
@@ -99,9 +99,9 @@ adding_team x t h a =
     let k = takes (λ (r : Team). r.id) same_team s.teams t TEAMS v.teams (new_row (id_match_of (λ (r : Team). r.id) same_team s.teams t) (nat_le TEAMS (length s.teams)) both.1) in
     let y = with_lists x s.types s.languages s.problems s.groups (s.teams ++ t ∷ []) x.fixed.accounts in
     let valid : IsValid y.fixed.settings = record { head = v.head; types = v.types; few_types = v.few_types; languages = v.languages; few_languages = v.few_languages; problems = v.problems; labels = v.labels; few_problems = v.few_problems; groups = v.groups; few_groups = v.few_groups; teams = k.different; few_teams = k.few; references = all_push (refers (length s.groups)) s.teams t v.references both.0 } in
-    let w : Wider x.fixed y.fixed = record { lists = one_team s t; named = λ id a e. e; heard = hears_with_team s t } in
+    let w : Wider x.fixed y.fixed = record { lists = no_list_shorter s y.fixed.settings (one_team s t); named = as_named x.fixed.accounts x.fixed.accounts (λ id a e. e); heard = hears_with_team s t } in
     let was = four (list_all (is_valid_account s) x.fixed.accounts) (are_different (map (λ (b : Account). b.id) x.fixed.accounts)) (are_different (map (λ (b : Account). b.digest) x.fixed.accounts)) (nat_le (length x.fixed.accounts) ACCOUNTS) (parts x h).accounts in
-    let accounts = all_four _ _ _ _ (all_wider (is_valid_account s) (is_valid_account y.fixed.settings) (account_wider s y.fixed.settings (front_more s.teams t)) x.fixed.accounts was.first) was.second was.third was.fourth in
+    let accounts = all_four _ _ _ _ (all_wider (is_valid_account s) (is_valid_account y.fixed.settings) (account_wider s y.fixed.settings (longer s.teams t)) x.fixed.accounts was.first) was.second was.third was.fourth in
     widened x s.types s.languages s.problems s.groups (s.teams ++ t ∷ []) x.fixed.accounts w h (has_settings y valid) accounts
 
 within_one : (n m most : ℕ) → m ≤ n + 1 → nat_le most n ≡ false → nat_le m most ≡ true
@@ -117,7 +117,7 @@ adding_account x a h may =
     let n = new_keyed (id_match_of ids same_account accounts a) (is_among (map digests accounts) a.digest) (nat_le ACCOUNTS (length accounts)) both.1 in
     let new : is_among (map ids accounts) a.id ≡ false = not_among a.id 0 (map ids accounts) (place_of_new ids same_account accounts a n.row.new) in
     let y = with_lists x s.types s.languages s.problems s.groups s.teams (with_account accounts a) in
-    let w : Wider x.fixed y.fixed = record { lists = same_lists s; named = named_still accounts a new; heard = λ b to k. sym (hears_by_teams b s y.fixed.settings refl to) ∙ k } in
+    let w : Wider x.fixed y.fixed = record { lists = no_list_shorter s y.fixed.settings (same_lists s); named = as_named accounts (with_account accounts a) (named_still accounts a new); heard = λ b to k. sym (hears_by_teams b s y.fixed.settings refl to) ∙ k } in
     let was = four (list_all (is_valid_account s) accounts) (are_different (map ids accounts)) (are_different (map digests accounts)) (nat_le (length accounts) ACCOUNTS) (parts x h).accounts in
     let valid = all_four _ _ _ _ (all_accounts (is_valid_account s) accounts a was.first (and_left _ _ may)) (accounts_different ids accounts a was.second new) (accounts_different digests accounts a was.third n.key)
     (within_one (length accounts) (length (with_account accounts a)) ACCOUNTS (one_longer accounts a) n.row.room) in

@@ -11,7 +11,6 @@ use Rattle.contest_types.specs.Masks.{audience_at}
 use Rattle.contest_types.specs.Sight.{hears}
 use Rattle.contest_types.specs.Setup.{Setup}
 use Rattle.contest_types.specs.Additions.{id_match_of, addition_by}
-use Rattle.contest_types.specs.Growing.{IsFront}
 use Rattle.contest_types.specs.State.{FixedPart, ContestState}
 use Rattle.contest_types.specs.ValidFixed.{has_valid_settings, has_valid_accounts, is_valid_account}
 use Rattle.contest_types.specs.ValidSubmissions.{is_valid_submission, is_valid_release, is_valid_proposal, is_there}
@@ -45,8 +44,8 @@ use Rattle.contest_types.specs.declared.rejudging.MemberState.{MemberState}
 use Rattle.contest_types.specs.declared.rejudging.MemberState.TheVariants as member
 use Rattle.contest_types.proofs.PlaceLemmas.{and_left, and_right, both_true, different_push, not_among}
 use Rattle.contest_types.proofs.AdditionLemmas.{place_of_new}
-use Rattle.contest_types.proofs.SetupLemmas.{all_wider}
-use Rattle.contest_types.proofs.GrownSettings.{HasFronts, still_below}
+use Rattle.contest_types.proofs.SetupLemmas.{all_wider, below_wider}
+use Rattle.contest_types.proofs.GrownSettings.{HasFronts, no_shorter}
 use Rattle.contest_types.proofs.ValidParts.{Parts, parts, whole}
 use Rattle.contest_types.proofs.Tests.{weaker, kept}
 
@@ -55,18 +54,46 @@ abbrev pub with_lists : ContestState → List JudgementType → List Language �
 with_lists x types languages problems groups teams accounts =
     record x { fixed = record { settings = record { head = x.fixed.settings.head; types = types; languages = languages; problems = problems; groups = groups; teams = teams }; accounts = accounts; marks = x.fixed.marks } }
 
--- the lists grow, each account that was named is, and nobody hears less
+-- no list is shorter
+pub record AreNoShorter (s t : Setup) : Type 0 where
+  pub types : length s.types ≤ length t.types
+  pub languages : length s.languages ≤ length t.languages
+  pub problems : length s.problems ≤ length t.problems
+  pub groups : length s.groups ≤ length t.groups
+  pub teams : length s.teams ≤ length t.teams
+
+pub no_list_shorter : (s t : Setup) → HasFronts s t → AreNoShorter s t
+no_list_shorter s t fronts = record {
+  types = no_shorter _ _ fronts.types;
+  languages = no_shorter _ _ fronts.languages;
+  problems = no_shorter _ _ fronts.problems;
+  groups = no_shorter _ _ fronts.groups;
+  teams = no_shorter _ _ fronts.teams;
+}
+
+-- an account with this role is named so
+pub record IsNamed (accounts : List Account) (id : List ℕ) (r : Role) : Type 0 where
+  pub account : Account
+  pub is : account_named accounts id ≡ Some account
+  pub role : account.role ≡ r
+
+-- no list is shorter, each account that was named is, with its role, and nobody hears less
 pub record Wider (f g : FixedPart) : Type 0 where
-  pub lists : HasFronts f.settings g.settings
-  pub named : (id : List ℕ) (a : Account) → account_named f.accounts id ≡ Some a → account_named g.accounts id ≡ Some a
+  pub lists : AreNoShorter f.settings g.settings
+  pub named : (id : List ℕ) (a : Account) → account_named f.accounts id ≡ Some a → IsNamed g.accounts id a.role
   pub heard : (a : Audience) (to : Addressee) → hears a f.settings to ≡ true → hears a g.settings to ≡ true
 
-some_wider : {T : Type 0} (o p : Option T) → ((x : T) → o ≡ Some x → p ≡ Some x) → is_some o ≡ true → is_some p ≡ true
-some_wider None p same h = absurd (false≢true h)
-some_wider (Some x) p same h = rw (same x refl) refl
+-- the accounts that were named are, as they were
+pub as_named : (accounts others : List Account) → ((id : List ℕ) (a : Account) → account_named accounts id ≡ Some a → account_named others id ≡ Some a)
+    → (id : List ℕ) (a : Account) → account_named accounts id ≡ Some a → IsNamed others id a.role
+as_named accounts others same id a e = record { account = a; is = same id a e; role = refl }
+
+some_wider : (g : FixedPart) (id : List ℕ) (o : Option Account) → ((a : Account) → o ≡ Some a → IsNamed g.accounts id a.role) → is_some o ≡ true → is_some (account_named g.accounts id) ≡ true
+some_wider g id None same h = absurd (false≢true h)
+some_wider g id (Some a) same h = rw (same a refl).is refl
 
 named_wider : (f g : FixedPart) → Wider f g → (id : List ℕ) → is_some (account_named f.accounts id) ≡ true → is_some (account_named g.accounts id) ≡ true
-named_wider f g w id h = some_wider (account_named f.accounts id) (account_named g.accounts id) (w.named id) h
+named_wider f g w id h = some_wider g id (account_named f.accounts id) (w.named id) h
 
 there_wider : (f g : FixedPart) → Wider f g → (p : Proposer) → is_there f p ≡ true → is_there g p ≡ true
 there_wider f g w (proposer.Account id) h = named_wider f g w id h
@@ -74,25 +101,25 @@ there_wider f g w proposer.Import h = refl
 
 addressee_wider : (f g : FixedPart) → Wider f g → (to : Addressee) → is_an_addressee f to ≡ true → is_an_addressee g to ≡ true
 addressee_wider f g w addressee.All h = refl
-addressee_wider f g w (addressee.Group group) h = still_below _ _ group w.lists.groups h
-addressee_wider f g w (addressee.Team team) h = still_below _ _ team w.lists.teams h
+addressee_wider f g w (addressee.Group group) h = below_wider _ _ group w.lists.groups h
+addressee_wider f g w (addressee.Team team) h = below_wider _ _ team w.lists.teams h
 
-problem_wider : (xs ys : List Problem) → IsFront xs ys → (p : Option ℕ) → option_map_or (λ problem. nat_lt problem (length xs)) p true ≡ true → option_map_or (λ problem. nat_lt problem (length ys)) p true ≡ true
-problem_wider xs ys front None h = refl
-problem_wider xs ys front (Some problem) h = still_below xs ys problem front h
+problem_wider : (xs ys : List Problem) → length xs ≤ length ys → (p : Option ℕ) → option_map_or (λ problem. nat_lt problem (length xs)) p true ≡ true → option_map_or (λ problem. nat_lt problem (length ys)) p true ≡ true
+problem_wider xs ys l None h = refl
+problem_wider xs ys l (Some problem) h = below_wider _ _ problem l h
 
 state_wider : (f g : FixedPart) → Wider f g → (s : MemberState) → is_valid_state f s ≡ true → is_valid_state g s ≡ true
 state_wider f g w member.Empty h = refl
-state_wider f g w (member.Proposed verdict account) h = both_true _ _ (still_below _ _ verdict w.lists.types (and_left _ _ h)) (named_wider f g w account (and_right (nat_lt verdict (length f.settings.types)) _ h))
-state_wider f g w (member.Ready verdict) h = still_below _ _ verdict w.lists.types h
+state_wider f g w (member.Proposed verdict account) h = both_true _ _ (below_wider _ _ verdict w.lists.types (and_left _ _ h)) (named_wider f g w account (and_right (nat_lt verdict (length f.settings.types)) _ h))
+state_wider f g w (member.Ready verdict) h = below_wider _ _ verdict w.lists.types h
 
-role_wider : (m n : Setup) → IsFront m.teams n.teams → (r : Role) → has_valid_role m r ≡ true → has_valid_role n r ≡ true
-role_wider m n l (role.Team team) h = still_below _ _ team l h
+role_wider : (m n : Setup) → length m.teams ≤ length n.teams → (r : Role) → has_valid_role m r ≡ true → has_valid_role n r ≡ true
+role_wider m n l (role.Team team) h = below_wider _ _ team l h
 role_wider m n l role.Judge h = refl
 role_wider m n l role.Admin h = refl
 role_wider m n l role.Analyst h = refl
 
-pub account_wider : (m n : Setup) → IsFront m.teams n.teams → (a : Account) → is_valid_account m a ≡ true → is_valid_account n a ≡ true
+pub account_wider : (m n : Setup) → length m.teams ≤ length n.teams → (a : Account) → is_valid_account m a ≡ true → is_valid_account n a ≡ true
 account_wider m n l a h = weaker (role_wider m n l a.role) kept h
 
 replies_wider : (a : Audience) (m n : Setup) → ((to : Addressee) → hears a m to ≡ true → hears a n to ≡ true) → (reply : Option Reference)
@@ -107,21 +134,23 @@ sends_wider f g w role.Judge c h = h
 sends_wider f g w role.Admin c h = h
 sends_wider f g w role.Analyst c h = h
 
-sender_wider : (f g : FixedPart) → Wider f g → (found more : Option Account) (c : Clarification) → ((a : Account) → found ≡ Some a → more ≡ Some a)
-    → option_map_or (λ a. may_send f.settings a.role c) found false ≡ true → option_map_or (λ a. may_send g.settings a.role c) more false ≡ true
-sender_wider f g w None more c same h = absurd (false≢true h)
-sender_wider f g w (Some a) more c same h = rw (same a refl) (sends_wider f g w a.role c h)
+sender_wider : (f g : FixedPart) → Wider f g → (id : List ℕ) (found : Option Account) (c : Clarification) → ((a : Account) → found ≡ Some a → IsNamed g.accounts id a.role)
+    → option_map_or (λ a. may_send f.settings a.role c) found false ≡ true → option_map_or (λ a. may_send g.settings a.role c) (account_named g.accounts id) false ≡ true
+sender_wider f g w id None c same h = absurd (false≢true h)
+sender_wider f g w id (Some a) c same h =
+    let there = same a refl in
+    rw (there.is, there.role) (sends_wider f g w a.role c h)
 
 sent_wider : (f g : FixedPart) → Wider f g → (c : Clarification) → is_well_sent f c ≡ true → is_well_sent g c ≡ true
 sent_wider f g w c h =
     let go : (b : Bool) → (b || option_map_or (λ a. may_send f.settings a.role c) (account_named f.accounts c.account) false) ≡ true → (b || option_map_or (λ a. may_send g.settings a.role c) (account_named g.accounts c.account) false) ≡ true =
     elim [
       | true ↦ λ k. refl
-      | false ↦ λ k. sender_wider f g w (account_named f.accounts c.account) (account_named g.accounts c.account) c (w.named c.account) k
+      | false ↦ λ k. sender_wider f g w c.account (account_named f.accounts c.account) c (w.named c.account) k
     ] in
     go c.from_jury h
 
--- a contest whose lists grow, and whose settings and accounts are valid, is valid
+-- a contest no list of which is shorter, and whose settings and accounts are valid, is valid
 pub widened : (x : ContestState) (types : List JudgementType) (languages : List Language) (problems : List Problem) (groups : List Group) (teams : List Team) (accounts : List Account)
     → Wider x.fixed (with_lists x types languages problems groups teams accounts).fixed → is_valid x ≡ true
     → has_valid_settings (with_lists x types languages problems groups teams accounts) ≡ true → has_valid_accounts (with_lists x types languages problems groups teams accounts) ≡ true
@@ -130,11 +159,11 @@ widened x types languages problems groups teams accounts w h s a =
     let v = parts x h in
     let y = with_lists x types languages problems groups teams accounts in
     let submission : (t : Submission) → is_valid_submission x.fixed t ≡ true → is_valid_submission y.fixed t ≡ true =
-    λ t. weaker (weaker (weaker (weaker (weaker (still_below _ _ t.team w.lists.teams) (still_below _ _ t.problem w.lists.problems)) (still_below _ _ t.language w.lists.languages)) kept) kept) kept in
+    λ t. weaker (weaker (weaker (weaker (weaker (below_wider _ _ t.team w.lists.teams) (below_wider _ _ t.problem w.lists.problems)) (below_wider _ _ t.language w.lists.languages)) kept) kept) kept in
     let release : (r : Release) → is_valid_release x r ≡ true → is_valid_release y r ≡ true =
-    λ r. weaker kept (still_below _ _ r.verdict w.lists.types) in
+    λ r. weaker kept (below_wider _ _ r.verdict w.lists.types) in
     let proposal : (p : Proposal) → is_valid_proposal x p ≡ true → is_valid_proposal y p ≡ true =
-    λ p. weaker (weaker kept (still_below _ _ p.verdict w.lists.types)) (there_wider x.fixed y.fixed w p.proposer) in
+    λ p. weaker (weaker kept (below_wider _ _ p.verdict w.lists.types)) (there_wider x.fixed y.fixed w p.proposer) in
     let clarification : (c : Clarification) → is_valid_clarification x c ≡ true → is_valid_clarification y c ≡ true =
     λ c. weaker (weaker (weaker (weaker (addressee_wider x.fixed y.fixed w c.addressee) (named_wider x.fixed y.fixed w c.account)) (problem_wider _ _ w.lists.problems c.problem)) kept) (sent_wider x.fixed y.fixed w c) in
     let members : (ms : List Member) → list_all (is_valid_member x) ms ≡ true → list_all (is_valid_member y) ms ≡ true =

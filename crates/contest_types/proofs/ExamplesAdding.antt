@@ -3,7 +3,7 @@ use Rattle.std.proofs.Common.{◌≡◌, ℕ, ◌+◌, ◌-◌, List, [], ◌∷
 use Rattle.std.specs.Prelude.{codes, Ok, Err}
 use Rattle.std.specs.List.{list_any, list_all, range_with_len}
 use Rattle.contest_types.specs.PlainRows.{plain_group, plain_language, plain_problem, plain_team, plain_type}
-use Rattle.contest_types.specs.State.{ContestState, new_contest, Entry, NewSubmission, NewProposal, NewRelease, NewClarification, NewRejudging, SetMember, SetRejudging, SetStart, SetThaw, SetFinalized, NewType, NewLanguage, NewProblem, NewGroup, NewTeam, NewAccount}
+use Rattle.contest_types.specs.State.{ContestState, new_contest, Entry, NewSubmission, NewProposal, NewRelease, NewClarification, NewRejudging, SetMember, SetRejudging, SetStart, SetThaw, SetFinalized, SetDuration, SetTeamName, SetDigest, NewType, NewLanguage, NewProblem, NewGroup, NewTeam, NewAccount}
 use Rattle.contest_types.specs.Addable.{is_addable}
 use Rattle.contest_types.specs.Judging.{next_release, last_proposal}
 use Rattle.contest_types.specs.Valid.{is_valid}
@@ -25,6 +25,7 @@ may_be_added =
     ∷ NewClarification (asked 0 3 5) ∷ NewClarification (announced 2 5 None) ∷ NewRejudging (rejudged 0 1 wrong state.Open)
     ∷ SetMember 1 0 (member.Proposed accepted (codes "j2")) ∷ SetMember 1 0 (member.Ready wrong) ∷ SetRejudging 1 state.Applied
     ∷ SetThaw 9 ∷ SetFinalized 9
+    ∷ SetDuration (hours 5 + minutes 20) (Some (hours 1 + minutes 20)) ∷ SetTeamName 0 (codes "Omega") ∷ SetDigest (codes "j1") (codes "other")
     ∷ NewType (plain_type (codes "RE") (codes "run error") false true)
     ∷ NewLanguage (plain_language (codes "py") (codes "Python"))
     ∷ NewProblem (plain_problem (codes "c") (codes "C") (codes "Cakes") 0)
@@ -35,8 +36,8 @@ all_may : list_all (is_addable base) may_be_added ≡ true
 all_may = refl
 
 -- and what they may not: a number or a round left out or held, a time before the team's last, what isn't
--- there, a reopened rejudging, a start once something stands, an equal row, another one under an id or a
--- label
+-- there, a reopened rejudging, a start once something stands, an end that thaws what is frozen or comes
+-- earlier, a token that is held, an equal row, another one under an id or a label
 abbrev may_not : List Entry
 may_not =
     NewSubmission (submitted 0 3 (minutes 10) 1) ∷ NewSubmission (submitted 0 2 (minutes 9) 1) ∷ NewSubmission (submitted 0 2 (hours 5) 1)
@@ -45,6 +46,8 @@ may_not =
     ∷ NewClarification (asked 0 4 5) ∷ NewClarification (record (asked 0 3 5) { account = codes "a2" }) ∷ NewClarification (announced 1 5 None)
     ∷ NewRejudging (rejudged 1 2 wrong state.Open) ∷ SetMember 1 0 (member.Ready 3) ∷ SetMember 1 0 (member.Proposed wrong (codes "j3")) ∷ SetRejudging 1 state.Open
     ∷ SetStart None ∷ SetStart (Some 5)
+    ∷ SetDuration (hours 5 + minutes 20) (Some (hours 1)) ∷ SetDuration (hours 4 + minutes 59) (Some (minutes 59)) ∷ SetDuration (hours 5) (Some (hours 6))
+    ∷ SetTeamName 4 (codes "Omega") ∷ SetDigest (codes "j3") (codes "other") ∷ SetDigest (codes "j1") (codes "j1")
     ∷ NewType (plain_type (codes "AC") (codes "correct") true false)
     ∷ NewLanguage (plain_language (codes "cpp") (codes "C"))
     ∷ NewProblem (plain_problem (codes "c") (codes "A") (codes "Cakes") 0)
@@ -67,6 +70,10 @@ one_import = refl
 -- with nothing submitted or asked the start may be set, moved and unset, and so late that the end is the last moment
 starts : list_all (is_addable empty) (SetStart None ∷ SetStart (Some 5) ∷ SetStart (Some (253_370_764_799_999 - hours 5)) ∷ []) ≡ true
 starts = refl
+
+-- the freeze moves with the end where nothing is frozen
+lasts : list_all (is_addable empty) (SetDuration (hours 5 + minutes 20) (Some (hours 1)) ∷ SetDuration (hours 5) None ∷ []) ≡ true
+lasts = refl
 
 no_start : list_any (is_addable empty) (SetStart (Some (253_370_764_799_999 - hours 5 + 1)) ∷ []) ≡ false
 no_start = refl

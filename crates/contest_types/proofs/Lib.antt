@@ -3,6 +3,7 @@ pub mod Tests
 pub mod Filters
 pub mod Ranges
 pub mod AdditionLemmas
+pub mod ChangeLemmas
 pub mod CopyLemmas
 pub mod SetupLemmas
 pub mod IdLemmas
@@ -22,6 +23,7 @@ pub mod SightLemmas
 pub mod ExampleContest
 mod ExamplesSight
 pub mod GroupLemmas
+pub mod NameLemmas
 pub mod AlikeLemmas
 pub mod ExampleTalk
 mod ExamplesAlike
@@ -36,6 +38,7 @@ pub mod AccountLemmas
 pub mod GrownSettings
 pub mod AddSettings
 pub mod AddRows
+pub mod AddChanges
 pub mod AddEntry
 pub mod VerdictLemmas
 mod ExamplesValid
@@ -59,5 +62,6 @@ pub mod ShownVerdicts
 pub mod RoleLemmas
 pub mod ThawLemmas
 pub mod ReleaseLemmas
+pub mod ExtensionLemmas
 pub mod OwnLemmas
 pub mod JudgementLemmas

@@ -3,17 +3,21 @@ use Rattle.std.specs.Prelude.{◌+◌, Bool, true, false, not, ◌&&◌, ◌||�
 use Rattle.std.specs.List.{list_all}
 use Rattle.std.specs.Option.{option_map_or}
 use Rattle.contest_types.specs.MomentText.{latest}
-use Rattle.contest_types.specs.Clock.{moment_after}
+use Rattle.contest_types.specs.Clock.{moment_after, end_of, is_frozen}
+use Rattle.contest_types.specs.Places.{is_among}
 use Rattle.contest_types.specs.Series.{is_new_key}
-use Rattle.contest_types.specs.Accounts.{account_addition}
+use Rattle.contest_types.specs.Setup.{Setup, is_valid_head}
+use Rattle.contest_types.specs.Accounts.{account_named, account_addition}
 use Rattle.contest_types.specs.SetupAdditions.{type_addition, language_addition, problem_addition, group_addition, team_addition}
-use Rattle.contest_types.specs.State.{ContestState, submissions_of, releases_on, proposals_for, clarifications_to, add, Entry, NewSubmission, NewProposal, NewRelease, NewClarification, NewRejudging, SetMember, SetRejudging, SetStart, SetThaw, SetFinalized, NewType, NewLanguage, NewProblem, NewGroup, NewTeam, NewAccount}
+use Rattle.contest_types.specs.State.{ContestState, submissions_of, releases_on, proposals_for, clarifications_to, with_duration, add, Entry, NewSubmission, NewProposal, NewRelease, NewClarification, NewRejudging, SetMember, SetRejudging, SetStart, SetThaw, SetFinalized, SetDuration, SetTeamName, SetDigest, NewType, NewLanguage, NewProblem, NewGroup, NewTeam, NewAccount}
 use Rattle.contest_types.specs.ValidFixed.{is_valid_account}
 use Rattle.contest_types.specs.ValidSubmissions.{is_valid_submission, is_valid_proposal, is_valid_release, is_imported}
 use Rattle.contest_types.specs.ValidClarifications.{is_valid_clarification, is_request, in_one_scope}
 use Rattle.contest_types.specs.ValidRejudgings.{is_valid_rejudging, is_valid_state, is_open, is_open_by, open_members, are_different_members}
 use Rattle.contest_types.specs.declared.limits.TheConstants.{TEAM_SUBMISSIONS, PROPOSALS, TEAM_REQUESTS, JURY_CLARIFICATIONS, REJUDGINGS}
 use Rattle.contest_types.specs.declared.refusal.Cause.{Cause}
+use Rattle.contest_types.specs.declared.account.Account.{Account}
+use Rattle.contest_types.specs.declared.marks.Marks.{Marks}
 use Rattle.contest_types.specs.declared.submission.Submission.{Submission}
 use Rattle.contest_types.specs.declared.submission.Release.{Release}
 use Rattle.contest_types.specs.declared.proposal.Proposal.{Proposal}
@@ -44,6 +48,18 @@ abbrev pub is_next_rejudging : List Rejudging → Rejudging → Bool
 is_next_rejudging rs r =
     nat_lt (length rs) REJUDGINGS && (not (is_open r) || are_different_members (open_members rs ++ r.members))
 
+-- with both settings the same of these submissions are frozen
+abbrev pub freezes_the_same : Setup → Setup → Marks → List Submission → Bool
+freezes_the_same s t marks =
+    list_all (λ (u : Submission). if is_frozen s marks u.time then is_frozen t marks u.time else not (is_frozen t marks u.time))
+
+-- the settings with the duration are valid, it isn't shorter, and no submission thaws or freezes by it
+abbrev pub may_last : ContestState → Setup → Bool
+may_last x s =
+    is_valid_head s.head && nat_le x.fixed.settings.head.duration s.head.duration
+    && option_map_or (λ end. nat_le end latest) (end_of s x.fixed.marks) true
+    && freezes_the_same x.fixed.settings s x.fixed.marks x.submissions
+
 -- the row is taken as a new one
 abbrev pub is_added : Result Bool Cause → Bool
 is_added (Ok added) = added
@@ -65,6 +81,10 @@ is_addable x (SetStart start) =
     && option_map_or (λ end. nat_le end latest) (moment_after start x.fixed.settings.head.duration) true
 is_addable x (SetThaw thaw) = true
 is_addable x (SetFinalized finalized) = true
+is_addable x (SetDuration duration freeze) = may_last x (with_duration x.fixed.settings duration freeze)
+is_addable x (SetTeamName team name) = nat_lt team (length x.fixed.settings.teams)
+is_addable x (SetDigest id digest) =
+    is_some (account_named x.fixed.accounts id) && not (is_among (map (λ (a : Account). a.digest) x.fixed.accounts) digest)
 is_addable x (NewType t) = is_added (type_addition x.fixed.settings t)
 is_addable x (NewLanguage l) = is_added (language_addition x.fixed.settings l)
 is_addable x (NewProblem p) = is_added (problem_addition x.fixed.settings p)

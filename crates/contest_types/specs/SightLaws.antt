@@ -1,17 +1,18 @@
 -- What a contest director asks of who sees what, in the subject's words. Each is the contract of a
 -- function of src/sight_laws.rt.
-use Rattle.std.specs.Prelude.{◌≡◌, ◌⊎◌, ◌↔◌, ℕ, Bool, true, false, ◌&&◌, ◌||◌, ◌==◌, nat_le, nat_lt, List, map, Some, None, is_some, if◌then◌else◌}
+use Rattle.std.specs.Prelude.{◌≡◌, ◌⊎◌, ◌↔◌, ℕ, Bool, true, false, ◌&&◌, ◌||◌, ◌==◌, nat_le, nat_lt, List, map, Option, Some, None, is_some, if◌then◌else◌}
 use Rattle.std.specs.List.{list_all}
 use Rattle.contest_types.specs.Setup.{Setup}
 use Rattle.contest_types.specs.TeamPlaces.{is_of_group}
 use Rattle.contest_types.specs.Order.{Has, IsInOrder}
 use Rattle.contest_types.specs.Clock.{freeze_of, is_thawed}
 use Rattle.contest_types.specs.Masks.{audience_at, knows_all_of}
-use Rattle.contest_types.specs.State.{ContestState, submissions_of, Entry, NewSubmission, NewProposal, NewRelease, NewClarification, NewRejudging, SetMember, SetRejudging, SetStart, SetThaw, NewGroup, NewTeam, add, add_all}
+use Rattle.contest_types.specs.State.{ContestState, submissions_of, Entry, NewSubmission, NewProposal, NewRelease, NewClarification, NewRejudging, SetMember, SetRejudging, SetStart, SetThaw, SetDuration, NewGroup, NewTeam, add, add_all}
 use Rattle.contest_types.specs.Sight.{Judgement, sees_submission, sees_clarification, hears, last_judgement, seen_judgement, full_verdict, held_verdict, seen_verdict, SeenSubmission, seen_submission, seen_submissions, seen_clarifications, program_of}
 use Rattle.contest_types.specs.Judging.{SeenJudgement, judged, seen_judgements}
 use Rattle.contest_types.specs.Alike.{Alike, MayBeHeld}
 use Rattle.contest_types.specs.Valid.{is_valid}
+use Rattle.contest_types.specs.Addable.{is_addable}
 use Rattle.contest_types.specs.declared.audience.Audience.{Audience}
 use Rattle.contest_types.specs.declared.audience.Audience.TheVariants.{Public, Jury}
 use Rattle.contest_types.specs.declared.submission.Submission.{Submission}
@@ -96,6 +97,7 @@ may_show_submissions (NewSubmission s) = true
 may_show_submissions (NewRelease v) = true
 may_show_submissions (SetStart start) = true
 may_show_submissions (SetThaw thaw) = true
+may_show_submissions (SetDuration duration freeze) = true
 may_show_submissions (NewTeam t) = true
 may_show_submissions _ = false
 
@@ -115,6 +117,13 @@ may_show_clarifications _ = false
 abbrev pub OnlyTheseShowClarifications : Type 0
 OnlyTheseShowClarifications =
     (a : Audience) (x : ContestState) (e : Entry) → may_show_clarifications e ≡ false → seen_clarifications a (add x e) ≡ seen_clarifications a x
+
+-- and an extension shows nothing and hides nothing: where the duration may be set, what anyone sees of
+-- submissions and verdicts and hears of clarifications is as it was, at any moment
+abbrev pub ExtensionShowsNothing : Type 0
+ExtensionShowsNothing =
+    (a : Audience) (now : ℕ) (x : ContestState) (duration : ℕ) (freeze : Option ℕ) → is_addable x (SetDuration duration freeze) ≡ true
+    → (seen_submissions a now (add x (SetDuration duration freeze)) ≡ seen_submissions a now x) × (seen_clarifications a (add x (SetDuration duration freeze)) ≡ seen_clarifications a x)
 
 -- the jury and the team itself know all of a team, and nobody else does
 abbrev pub TeamAndJuryKnowAll : Type 0

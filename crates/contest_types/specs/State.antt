@@ -1,14 +1,18 @@
 -- A contest as whole lists, and what each change makes of it (own; settings, submissions and
 -- clarifications are those of the Contest API 2023-06). Places count from 0, numbers and rounds from 1.
-use Rattle.std.specs.Prelude.{ℕ, Bool, true, false, ◌&&◌, ◌==◌, List, [], ◌∷◌, ◌++◌, filter, map, Some, None, if◌then◌else◌}
+use Rattle.std.specs.Prelude.{ℕ, Bool, true, false, ◌&&◌, ◌==◌, List, [], ◌∷◌, ◌++◌, filter, map, Option, Some, None, if◌then◌else◌}
 use Rattle.std.specs.List.{enumerate_from}
+use Rattle.std.specs.Str.{bytes_eq}
 use Rattle.contest_types.specs.Setup.{Setup}
 use Rattle.contest_types.specs.Accounts.{with_account}
 use Rattle.contest_types.specs.declared.contest.Contest.{Contest}
+use Rattle.contest_types.specs.declared.contest.ContestHead.{ContestHead}
 use Rattle.contest_types.specs.declared.fixed.Fixed.{Fixed}
 pub use Rattle.contest_types.specs.declared.entry.Entry.{Entry}
-pub use Rattle.contest_types.specs.declared.entry.Entry.TheVariants.{NewSubmission, NewProposal, NewRelease, NewClarification, NewRejudging, SetMember, SetRejudging, SetStart, SetThaw, SetFinalized, NewType, NewLanguage, NewProblem, NewGroup, NewTeam, NewAccount}
+pub use Rattle.contest_types.specs.declared.entry.Entry.TheVariants.{NewSubmission, NewProposal, NewRelease, NewClarification, NewRejudging, SetMember, SetRejudging, SetStart, SetThaw, SetFinalized, SetDuration, SetTeamName, SetDigest, NewType, NewLanguage, NewProblem, NewGroup, NewTeam, NewAccount}
+use Rattle.contest_types.specs.declared.account.Account.{Account}
 use Rattle.contest_types.specs.declared.marks.Marks.{Marks}
+use Rattle.contest_types.specs.declared.objects.Team.{Team}
 use Rattle.contest_types.specs.declared.submission.Submission.{Submission}
 use Rattle.contest_types.specs.declared.submission.Release.{Release}
 use Rattle.contest_types.specs.declared.proposal.Proposal.{Proposal}
@@ -97,6 +101,22 @@ changed_at first at change xs = map (λ p. if p.0 == at then change p.1 else p.1
 abbrev pub with_member_state : ℕ → MemberState → Rejudging → Rejudging
 with_member_state place state r = record r { members = changed_at 0 place (λ (m : Member). record m { state = state }) r.members }
 
+-- the head with another duration and freeze duration
+abbrev pub lasting : ContestHead → (duration : ℕ) → (freeze : Option ℕ) → ContestHead
+lasting h duration freeze = record h { duration = duration; freeze = freeze }
+
+-- the settings with them
+abbrev pub with_duration : Setup → (duration : ℕ) → (freeze : Option ℕ) → Setup
+with_duration s duration freeze = record s { head = lasting s.head duration freeze }
+
+-- the settings with another name of the team at a place
+abbrev pub with_team_name : Setup → (team : ℕ) → (name : List ℕ) → Setup
+with_team_name s team name = record s { teams = changed_at 0 team (λ (t : Team). record t { name = name }) s.teams }
+
+-- the accounts with another token of the one with this id
+abbrev pub with_digest : List Account → (id digest : List ℕ) → List Account
+with_digest accounts id digest = map (λ (a : Account). if bytes_eq a.id id then record a { digest = digest } else a) accounts
+
 abbrev pub with_settings : ContestState → Setup → ContestState
 with_settings x settings = record x { fixed = record x.fixed { settings = settings } }
 
@@ -115,6 +135,9 @@ add x (SetRejudging n state) = record x { rejudgings = changed_at 1 n (λ r. rec
 add x (SetStart start) = with_marks x (record x.fixed.marks { start = start })
 add x (SetThaw thaw) = with_marks x (record x.fixed.marks { thaw = Some thaw })
 add x (SetFinalized finalized) = with_marks x (record x.fixed.marks { finalized = Some finalized })
+add x (SetDuration duration freeze) = with_settings x (with_duration x.fixed.settings duration freeze)
+add x (SetTeamName team name) = with_settings x (with_team_name x.fixed.settings team name)
+add x (SetDigest id digest) = record x { fixed = record x.fixed { accounts = with_digest x.fixed.accounts id digest } }
 add x (NewType t) = with_settings x (record x.fixed.settings { types = x.fixed.settings.types ++ t ∷ [] })
 add x (NewLanguage l) = with_settings x (record x.fixed.settings { languages = x.fixed.settings.languages ++ l ∷ [] })
 add x (NewProblem p) = with_settings x (record x.fixed.settings { problems = x.fixed.settings.problems ++ p ∷ [] })

@@ -1,7 +1,7 @@
 //! One change of a contest.
 use crate::{
-    Account, Clarification, Group, JudgementType, Language, MemberState, Moment, Problem, Proposal,
-    Rejudging, RejudgingState, Release, Submission, Team,
+    Account, Clarification, Digest, Group, Id, JudgementType, Language, MemberState, Moment, Name,
+    Problem, Proposal, Rejudging, RejudgingState, Release, Submission, Team, TimeSpan,
 };
 
 /// One change of a contest: everything that a command or an import may add or set.
@@ -27,6 +27,12 @@ pub enum Entry {
     SetThaw(Moment),
     /// The results are made final.
     SetFinalized(Moment),
+    /// The duration is set, and the freeze duration, if there is one.
+    SetDuration(TimeSpan, Option<TimeSpan>),
+    /// The name of the team at a place, from 0, is set.
+    SetTeamName(usize, Name),
+    /// The account with an id gets another token: its digest is set.
+    SetDigest(Id, Digest),
     /// A judgement type is imported.
     NewType(JudgementType),
     /// A language is imported.

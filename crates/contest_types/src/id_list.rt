@@ -1,12 +1,15 @@
 //! Lists whose rows are found by their ids.
 ghost use Rattle.std.specs.Prelude.{◌≡◌, ℕ, ◌<◌, List, [], ◌∷◌, ◌++◌, true, None, Some, IfErr};
 ghost use Rattle.std.specs.Prelude.{OnOk, OnErr, IfOk, IfSome, IsSome, length, map, ◌≤◌, nat_le};
+ghost use Rattle.std.specs.Prelude.{slice_get, slice_set};
 ghost use Rattle.contest_types.specs.IdText.{IsId};
 ghost use Rattle.contest_types.specs.Places.{place_of, are_different};
 ghost use Rattle.contest_types.specs.Additions.{id_match_of, addition, addition_by, IsFaultOf};
 ghost use Rattle.contest_types.specs.Additions.{grown};
+ghost use Rattle.contest_types.specs.State.{changed_at};
+ghost use Rattle.contest_types.specs.declared.objects.Team.{Team as TheTeam};
 
-use crate::{Cause, Id, RowFault};
+use crate::{Cause, Id, Name, RowFault, Team};
 use std::alloc::{AllocError, Global};
 use std::collections::HashMap;
 use std::marker::Model;
@@ -187,4 +190,20 @@ impl<T: Identified + PartialEq + Drop> IdList<T> {
             }
         }
     }
+}
+
+/// Sets the name of the team at a place, from 0. Where no team is, nothing changes.
+pub(crate) fn set_team_name(teams: &mut IdList<Team>, place: usize, name: Name)
+    ensures { teams.new ≡ changed_at 0 place (λ (t : TheTeam). record t { name = name }) teams.old }
+{
+    if place < teams.rows.len() {
+        put_name(&mut teams.rows, place, name);
+    }
+}
+
+fn put_name(rows: &mut Vec<Team>, place: usize, name: Name)
+    requires { place < length rows.old.items }
+    ensures { (t : TheTeam) → slice_get rows.old.items place ≡ Some t → rows.new.items ≡ slice_set rows.old.items place (record t { name = name }) }
+{
+    rows[place].name = name;
 }

@@ -1,17 +1,18 @@
 //! What a contest is set up with.
 ghost use Rattle.std.specs.Prelude.{◌≡◌, ◌<◌, Ok, Err, Some, None, false, IfOk, IfErr, IfSome};
-ghost use Rattle.std.specs.Prelude.{IsSome, OnErr, length, map};
+ghost use Rattle.std.specs.Prelude.{IsSome, OnErr, OnOk, length, map};
 ghost use Rattle.contest_types.specs.IdText.{IsId};
 ghost use Rattle.contest_types.specs.Setup.{Setup, IsValid, is_valid_head, has_valid_freeze};
 ghost use Rattle.contest_types.specs.Setup.{has_valid_medals, labels_of, refers};
 ghost use Rattle.contest_types.specs.Additions.{IsFaultOf};
+ghost use Rattle.contest_types.specs.State.{with_duration, with_team_name};
 ghost use Rattle.contest_types.specs.SetupAdditions.{IsNew, type_addition, language_addition};
 ghost use Rattle.contest_types.specs.SetupAdditions.{problem_addition, group_addition};
 ghost use Rattle.contest_types.specs.SetupAdditions.{team_addition, with_type, with_language};
 ghost use Rattle.contest_types.specs.SetupAdditions.{with_problem, with_group, with_team};
 ghost use Rattle.contest_types.specs.Places.{place_of, is_among};
 
-use crate::id_list::{IdList, IdMatch};
+use crate::id_list::{IdList, IdMatch, set_team_name};
 use crate::{
     Cause, ContestHead, Group, JudgementType, Language, Medals, Name, Problem, RowFault, Team,
     TimeSpan, limits,
@@ -267,6 +268,37 @@ impl Settings {
             return Err(RowFault::Fault(Cause::UnknownReference));
         }
         self.teams.add(alloc, team, limits::TEAMS)
+    }
+
+    /// Sets the duration, and the freeze duration, if there is one.
+    ///
+    /// # Errors
+    ///
+    /// `Malformed` where one of them is off its range. The settings are then as before.
+    pub fn set_duration(
+        &mut self,
+        duration: TimeSpan,
+        freeze: Option<TimeSpan>,
+    ) -> Result<(), Cause>
+        ensures ok { OnOk result (self.new ≡ with_duration self.old duration freeze) }
+        ensures err { IfErr result (λ e. (e ≡ Cause.Malformed) × (is_valid_head (with_duration self.old duration freeze).head ≡ false)) }
+        ensures unchanged { OnErr result (self.new ≡ self.old) }
+    {
+        let was = (self.head.duration, self.head.freeze);
+        self.head.duration = duration;
+        self.head.freeze = freeze;
+        if is_valid_head(&self.head) {
+            return Ok(());
+        }
+        (self.head.duration, self.head.freeze) = was;
+        Err(Cause::Malformed)
+    }
+
+    /// Sets the name of the team at a place, from 0. Where no team is, nothing changes.
+    pub fn set_team_name(&mut self, place: usize, name: Name)
+        ensures { self.new ≡ with_team_name self.old place name }
+    {
+        set_team_name(&mut self.teams, place, name);
     }
 }
 

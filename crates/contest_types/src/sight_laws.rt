@@ -9,7 +9,7 @@ ghost use Rattle.contest_types.specs.SightLaws.{OnlyTheseShowClarifications, Tea
 ghost use Rattle.contest_types.specs.SightLaws.{ProgramIsForItsTeam, ListedProgramIsForItsTeam};
 ghost use Rattle.contest_types.specs.SightLaws.{AskedIsHeardByItsTeam, GroupIsHeardByItsTeams};
 ghost use Rattle.contest_types.specs.SightLaws.{PublicHearsNoGroup, SubmissionsStandByTime};
-ghost use Rattle.contest_types.specs.SightLaws.{SeenJudgementsAreListed};
+ghost use Rattle.contest_types.specs.SightLaws.{SeenJudgementsAreListed, ExtensionShowsNothing};
 ghost use Rattle.contest_types.specs.SightLaws.{AlikeShowTheSameJudgements};
 
 /// Nobody loses sight of a submission, of a verdict or of a clarification by a role: what the
@@ -57,8 +57,8 @@ pub fn judging_shows_nothing()
     ensures { JudgingShowsNothing }
 {}
 
-/// Only a submission, a release, the start, the thaw and a new team may change what anyone sees of
-/// submissions and verdicts.
+/// Only a submission, a release, the start, the thaw, the duration and a new team may change what
+/// anyone sees of submissions and verdicts.
 pub fn only_these_show_submissions()
     ensures { OnlyTheseShowSubmissions }
 {}
@@ -66,6 +66,12 @@ pub fn only_these_show_submissions()
 /// Only a clarification, a new group and a new team may change what anyone hears of clarifications.
 pub fn only_these_show_clarifications()
     ensures { OnlyTheseShowClarifications }
+{}
+
+/// An extension shows nothing and hides nothing: where the duration may be set, what anyone sees of
+/// submissions and verdicts and hears of clarifications is as it was, at any moment.
+pub fn extension_shows_nothing()
+    ensures { ExtensionShowsNothing }
 {}
 
 /// The jury and the team itself know all of a team, and nobody else does.

@@ -1,6 +1,6 @@
 //! A contest's tables take a change of each kind, and show it.
+use crate::each_kind::{CHANGES, change};
 use crate::rows::{SHOWN, Shown};
-use crate::sixteen::{CHANGES, change};
 use contest_fixtures::rehearsal;
 use contest_lists::Lists;
 use contest_store::StoreError;

@@ -5,11 +5,11 @@
 #[cfg(test)]
 mod changes;
 #[cfg(test)]
+mod each_kind;
+#[cfg(test)]
 mod older;
 #[cfg(test)]
 mod rows;
-#[cfg(test)]
-mod sixteen;
 #[cfg(test)]
 mod standing;
 #[cfg(test)]

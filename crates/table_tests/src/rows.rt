@@ -14,8 +14,8 @@ pub static SHOWN: [Shown; 11] = [
             Int(1),
             Text(b"rehearsal"),
             Text(b"Rehearsal"),
-            Int(18_000_000),
-            Int(3_600_000),
+            Int(19_200_000),
+            Int(4_800_000),
             Int(20),
             Int(0),
             Int(4),
@@ -77,7 +77,7 @@ pub static SHOWN: [Shown; 11] = [
                 Int(4),
                 Int(1),
                 Text(b"t1"),
-                Text(b"One"),
+                Text(b"Night Owls"),
                 Text(b""),
                 Int(0),
                 Int(0),
@@ -89,7 +89,7 @@ pub static SHOWN: [Shown; 11] = [
     (
         TableName::Accounts,
         &[
-            &[Text(b"a1"), Int(0), Text(b"t1"), Blob(&[2; 32])],
+            &[Text(b"a1"), Int(0), Text(b"t1"), Blob(&[3; 32])],
             &[Text(b"j1"), Int(1), Null, Blob(&[1; 32])],
         ],
     ),

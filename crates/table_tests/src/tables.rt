@@ -4,6 +4,7 @@ ghost use Rattle.contest_store_tables.specs.Changes.{change_width};
 ghost use Rattle.contest_store_tables.specs.Statements.{insert_width};
 
 use contest_store::StoreError;
+use contest_store_rows::is_row;
 use contest_store_tables::{Counts, RowChange, TableName, Tables};
 use sqlite::types::ValueRef;
 use sqlite::types::ValueRef::{Blob, Int, Null, Text};
@@ -196,7 +197,8 @@ fn change_width(change: RowChange) -> usize
     ensures { result ≡ change_width change }
 {
     match change {
-        RowChange::Version | RowChange::RejudgingState => 2,
+        RowChange::Version | RowChange::Digest | RowChange::RejudgingState => 2,
+        RowChange::Duration | RowChange::ItemName => 3,
         RowChange::Marks => 4,
         RowChange::MemberState => 5,
         RowChange::Cell => 7,
@@ -274,6 +276,93 @@ fn look_at_files(alloc: Global) -> Result<(usize, usize, i64), StoreError> {
 fn a_file_is_found(rt: HostRuntime) {
     let found = look_at_files(rt.alloc());
     assert!(rt; found == Ok((1, 0, 8)));
+}
+
+/// The rows of three tables after changes of what is set up.
+static SET_UP: [(TableName, &[ValueRef<'static>]); 3] = [
+    (
+        TableName::Contest,
+        &[
+            Int(1),
+            Text(b"demo"),
+            Text(b"Demo Cup"),
+            Int(19_200_000),
+            Int(4_800_000),
+            Int(20),
+            Int(0),
+            Int(4),
+            Int(4),
+            Int(4),
+            Int(1_709_370_000_000),
+            Null,
+            Null,
+        ],
+    ),
+    (
+        TableName::Items,
+        &[
+            Int(0),
+            Int(1),
+            Text(b"AC"),
+            Text(b"accepted"),
+            Text(b""),
+            Int(0),
+            Int(1),
+            Int(0),
+            Text(b""),
+        ],
+    ),
+    (
+        TableName::Accounts,
+        &[Text(b"a1"), Int(0), Text(b"t1"), Blob(b"another")],
+    ),
+];
+
+/// Whether a table's first row has these cells.
+fn shows(
+    tables: &mut Tables<MemStore>,
+    table: TableName,
+    cells: &[ValueRef<'_>],
+) -> Result<bool, StoreError> {
+    let rows = load(tables, table)?;
+    match rows.first() {
+        Some(row) => Ok(is_row(row, cells)),
+        None => Ok(false),
+    }
+}
+
+fn count_set_up(alloc: Global) -> Result<usize, StoreError> {
+    let mut tables = filled(alloc)?;
+    change(
+        &mut tables,
+        RowChange::Duration,
+        &[Int(1), Int(19_200_000), Int(4_800_000)],
+    )?;
+    change(
+        &mut tables,
+        RowChange::ItemName,
+        &[Int(0), Int(1), Text(b"accepted")],
+    )?;
+    change(
+        &mut tables,
+        RowChange::Digest,
+        &[Text(b"a1"), Blob(b"another")],
+    )?;
+    let mut count: usize = 0;
+    for (table, cells) in SET_UP {
+        if shows(&mut tables, table, cells)? {
+            count = count.saturating_add(1);
+        }
+    }
+    Ok(count)
+}
+
+/// The duration with the freeze, a name and a token change where they stand, and nothing else of
+/// their rows.
+#[test]
+fn what_is_set_up_changes(rt: HostRuntime) {
+    let shown = count_set_up(rt.alloc());
+    assert!(rt; shown == Ok(3));
 }
 
 fn changed(alloc: Global) -> Result<[i64; 5], StoreError> {

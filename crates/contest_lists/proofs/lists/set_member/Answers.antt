@@ -1,6 +1,6 @@
 use Rattle.std.proofs.Common.{rules}
 use Rattle.contest_types.specs.State.{with_member_state}
-use Rattle.contest_lists.proofs.ChangeLemmas.{changed_by, unchanged}
+use Rattle.contest_types.proofs.ChangeLemmas.{changed_by, unchanged}
 use Rattle.contest_lists.proofs.lists.set_member.Goals as goal
 
 pub returns-in-Some : goal.returns-in-Some

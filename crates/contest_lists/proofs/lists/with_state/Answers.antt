@@ -1,7 +1,7 @@
 use Rattle.std.proofs.Common.{◌∙◌, ap, rules, arith, inr}
 use Rattle.contest_types.specs.State.{changed_at}
 use Rattle.contest_types.specs.declared.rejudging.Member.{Member}
-use Rattle.contest_lists.proofs.ChangeLemmas.{changed_by, unchanged}
+use Rattle.contest_types.proofs.ChangeLemmas.{changed_by, unchanged}
 use Rattle.contest_lists.proofs.lists.with_state.Goals as goal
 
 pub returns-then-place-len : goal.returns-then-place-len

@@ -1,4 +1,4 @@
-use Rattle.std.proofs.Common.{◌≡◌, ◌∙◌, List, [], Some, ap, arith, subst, sym}
+use Rattle.std.proofs.Common.{◌≡◌, ◌∙◌, List, [], Some, ap, arith, subst}
 use Rattle.std.specs.Prelude.{IfSome}
 use Rattle.sqlite.specs.State.{HasCleanDisk}
 use Rattle.sqlite_value.specs.Order.{Row}

@@ -1,5 +1,4 @@
-use Rattle.std.proofs.Common.{◌∙◌, arith, refl}
-use Rattle.std.specs.Prelude.{IfOk}
+use Rattle.std.proofs.Common.{◌∙◌, arith}
 use Rattle.sqlite.specs.State.{HasCleanDisk}
 use Rattle.contest_store_tables.specs.Celless.{FullCelless}
 use Rattle.contest_store_tables.specs.Connected.{shown_by}

@@ -1,4 +1,4 @@
-use Rattle.std.proofs.Common.{length, subst, sym}
+use Rattle.std.proofs.Common.{length, subst}
 use Rattle.contest_types.specs.State.{ContestState}
 use Rattle.contest_store_tables.specs.Connected.{counts_of, shown_by}
 use Rattle.contest_store_tables.specs.Steps.{MakesNone, Step}

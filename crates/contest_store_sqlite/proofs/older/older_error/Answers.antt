@@ -1,4 +1,4 @@
-use Rattle.std.proofs.Common.{◌∙◌, Err, arith, inl, inr, refl, sym}
+use Rattle.std.proofs.Common.{arith, inl, inr, refl}
 use Rattle.sqlite.specs.State.{HasCleanDisk}
 use Rattle.contest_store_tables.specs.Connected.{shown_by}
 use Rattle.contest_store_sqlite.proofs.UpgradedContests.{first_is, first_told, not_made, not_made_then}

@@ -1,7 +1,7 @@
 use Rattle.std.proofs.Common.{◌∙◌, Ok, sym}
 use Rattle.contest_store_tables.specs.Connected.{shown_by}
 use Rattle.contest_store_sqlite.proofs.OpenedContests.{celless_kept, celless_read, desk_kept, desk_read}
-use Rattle.contest_store_sqlite.proofs.UpgradedContests.{keeps_none, not_bare, not_celless, not_of_desk}
+use Rattle.contest_store_sqlite.proofs.UpgradedContests.{keeps_none, not_celless, not_of_desk}
 use Rattle.contest_store_sqlite.proofs.opening.read_desk.Goals as goal
 
 pub returns-in-Ok-clause-read : goal.returns-in-Ok-clause-read

@@ -3,13 +3,13 @@ use contest_fixtures::{after, id, name};
 use contest_types::{
     Account, Addressee, Clarification, Digest, Entry, Group, JudgementType, Language, Member,
     MemberState, Problem, Proposal, Proposer, Rejudging, RejudgingState, Release, Role, Rows,
-    Submission, Team, Text,
+    Submission, Team, Text, TimeSpan,
 };
 use std::alloc::Global;
 use std::test::Fail;
 
 /// How many changes there are: one of each kind, and one account more.
-pub const CHANGES: usize = 17;
+pub const CHANGES: usize = 20;
 
 fn only<T: Drop>(alloc: Global, row: T) -> Result<Rows<T>, Fail> {
     let mut rows = Rows::new(alloc);
@@ -103,6 +103,10 @@ fn rejudging(alloc: Global) -> Result<Rejudging, Fail> {
     })
 }
 
+fn span(milliseconds: u64) -> Result<TimeSpan, Fail> {
+    Ok(TimeSpan::new(milliseconds).ok_or("no length of time")?)
+}
+
 /// The change at a place, from 0; each may be made once those before it are.
 pub fn change(alloc: Global, place: usize) -> Result<Entry, Fail> {
     Ok(match place {
@@ -122,6 +126,9 @@ pub fn change(alloc: Global, place: usize) -> Result<Entry, Fail> {
         13 => Entry::SetMember(1, 0, MemberState::Ready(0)),
         14 => Entry::SetRejudging(1, RejudgingState::Applied),
         15 => Entry::SetThaw(after(5)?),
-        _ => Entry::SetFinalized(after(6)?),
+        16 => Entry::SetFinalized(after(6)?),
+        17 => Entry::SetDuration(span(19_200_000)?, Some(span(4_800_000)?)),
+        18 => Entry::SetTeamName(0, name(alloc, "Night Owls")?),
+        _ => Entry::SetDigest(id(alloc, "a1")?, Digest::new([3; 32])),
     })
 }

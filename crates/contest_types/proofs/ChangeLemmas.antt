@@ -1,9 +1,12 @@
 -- A row that is changed where it stands.
-use Rattle.std.proofs.Common.{◌≡◌, ◌∙◌, ◌+◌, ◌<◌, ◌≤◌, ℕ, zero, suc, true, List, [], ◌∷◌, length, Some, refl, sym, inl, inr, arith}
-use Rattle.std.specs.Prelude.{◌⊎◌, ◌==◌, slice_get, slice_set}
+use Rattle.std.proofs.Common.{◌≡◌, ◌∙◌, ◌+◌, ◌<◌, ◌≤◌, ℕ, zero, suc, Bool, true, false, List, [], ◌∷◌, length, map, Some, refl, sym, ap, inl, inr, arith}
+use Rattle.std.specs.Prelude.{◌⊎◌, ◌==◌, slice_get, slice_set, if◌then◌else◌}
+use Rattle.std.specs.List.{list_all}
+use Rattle.std.specs.Option.{option_map_or}
 use Rattle.std.proofs.lemmas.Bool.Decides.{nat_tests}
 use Rattle.std.proofs.lemmas.Bool.{ne_eqb}
 use Rattle.contest_types.specs.State.{changed_at}
+use Rattle.contest_types.proofs.PlaceLemmas.{and_left, and_right, both_true}
 
 -- no row has the number
 pub before_all : {X : Type 0} (first at : ℕ) (f : X → X) (xs : List X) → at < first → changed_at first at f xs ≡ xs
@@ -37,3 +40,30 @@ changed_by first at i f xs ys is within puts =
 pub unchanged : {X : Type 0} (first at : ℕ) (f : X → X) (xs : List X) → (at < first) ⊎ (first + length xs ≤ at) → xs ≡ changed_at first at f xs
 unchanged first at f xs (inl below) = sym (before_all first at f xs below)
 unchanged first at f xs (inr above) = sym (after_all first at f xs above)
+
+-- a change that keeps a test, made at one row
+pub changed_all : {X : Type 0} (p : X → Bool) (f : X → X) → ((x : X) → p x ≡ true → p (f x) ≡ true) → (first n : ℕ) (xs : List X) → list_all p xs ≡ true → list_all p (changed_at first n f xs) ≡ true
+changed_all p f keeps first n [] h = refl
+changed_all p f keeps first n (x ∷ xs) h =
+    let go : (b : Bool) → p (if b then f x else x) ≡ true = elim [ true ↦ keeps x (and_left _ _ h) | false ↦ and_left _ _ h ] in
+    both_true _ _ (go (first == n)) (changed_all p f keeps (first + 1) n xs (and_right (p x) _ h))
+
+pub length-changed : {X : Type 0} (f : X → X) (first n : ℕ) (xs : List X) → length (changed_at first n f xs) ≡ length xs
+length-changed f first n [] = refl
+length-changed f first n (x ∷ xs) = ap (λ k. suc k) (length-changed f (first + 1) n xs)
+
+-- what a change keeps of each row it keeps of the list
+pub map-changed : {X Y : Type 0} (g : X → Y) (f : X → X) → ((x : X) → g (f x) ≡ g x) → (first n : ℕ) (xs : List X) → map g (changed_at first n f xs) ≡ map g xs
+map-changed g f keeps first n [] = refl
+map-changed g f keeps first n (x ∷ xs) =
+    let go : (b : Bool) → g (if b then f x else x) ≡ g x = elim [ true ↦ keeps x | false ↦ refl ] in
+    rw (go (first == n), map-changed g f keeps (first + 1) n xs) refl
+
+-- what a change keeps of each row it keeps of the row at a place
+pub same_there : {X Y : Type 0} (g : X → Y) (none : Y) (f : X → X) → ((x : X) → g (f x) ≡ g x) → (first n : ℕ) (xs : List X) (i : ℕ)
+    → option_map_or g (slice_get (changed_at first n f xs) i) none ≡ option_map_or g (slice_get xs i) none
+same_there g none f keeps first n [] i = refl
+same_there g none f keeps first n (x ∷ xs) zero =
+    let go : (b : Bool) → g (if b then f x else x) ≡ g x = elim [ true ↦ keeps x | false ↦ refl ] in
+    go (first == n)
+same_there g none f keeps first n (x ∷ xs) (suc i) = same_there g none f keeps (first + 1) n xs i
