@@ -29,7 +29,7 @@ use Rattle.contest_postings.specs.declared.rejudging.RejudgingChange.{RejudgingC
 use Rattle.contest_postings.specs.declared.rejudging.RejudgingStep.TheVariants.{Judge, Apply, Cancel}
 use Rattle.contest_operations.specs.Outcomes.{done_or_ruled}
 use Rattle.contest_operations.specs.Paths.{jury_piece}
-use Rattle.contest_operations.specs.declared.command.Posted.TheVariants.{Submission, Clarification, Proposal, Verification, Opening, Rejudging as OfRejudging, Clock, Final, Row}
+use Rattle.contest_operations.specs.declared.command.Posted.TheVariants.{Submission, Clarification, Proposal, Verification, Opening, Rejudging as OfRejudging, Clock, Final, Change as Changed}
 use Rattle.contest_desk.specs.RejudgingLaws.{AppliedIsUnseen, AppliedWhole, IsApplied, UnappliedIsUnseen, member_releases}
 use Rattle.contest_desk.specs.Unseen.{AreUnseen, IsUnseenRelease}
 
@@ -124,7 +124,7 @@ unapplied_is_unseen a now (OfRejudging path Cancel) x h =
 unapplied_is_unseen a now (OfRejudging path Apply) x h = absurd h
 unapplied_is_unseen a now (Clock w) x h = absurd h
 unapplied_is_unseen a now Final x h = absurd h
-unapplied_is_unseen a now (Row w) x h = absurd h
+unapplied_is_unseen a now (Changed w) x h = absurd h
 
 -- releases that aren't noticed, one after another
 unseen_releases : (a : Audience) (x : ContestState) (number : ℕ) (vs : List Release) → ((v : Release) → Has vs v → IsUnseenRelease a x v) → AreUnseen a x (applied_entries number vs)

@@ -1,14 +1,16 @@
--- The account or the team that a body says (own). A team is told of as in a file; an account by `id`, `role`, `token` and, if
--- it is a team's, `team_id`.
+-- The account, the team, the token or the name that a body says (own). A team is told of as in a file; an account by `id`,
+-- `role`, `token` and, if it is a team's, `team_id`; a token by `account_id` and `token`; a name by `team_id` and `name`.
 use Rattle.std.specs.Prelude.{ℕ, List, [], Option, Some, None, unwrap_or, codes, if◌then◌else◌}
 use Rattle.std.specs.Option.{option_and_then, option_map}
 use Rattle.serde_json.specs.Data.{Data}
-use Rattle.contest_files.specs.JsonMembers.{data_of, optional_id_in, text_in}
+use Rattle.contest_files.specs.JsonMembers.{data_of, id_in, name_in, optional_id_in, text_in}
 use Rattle.contest_types.specs.Places.{are_different}
 use Rattle.contest_import.specs.CsvFiles.{account_id, named_role, token_digest}
 use Rattle.contest_import.specs.SettingsObjects.{team_in}
 use Rattle.contest_import.specs.declared.account_row.AccountRow.{AccountRow}
 use Rattle.contest_import.specs.declared.account_row.NamedRole.{NamedRole}
+use Rattle.contest_import.specs.declared.posted_changes.NameRow.{NameRow}
+use Rattle.contest_import.specs.declared.posted_changes.TokenRow.{TokenRow}
 use Rattle.contest_import.specs.declared.team_row.TeamRow.{TeamRow}
 
 -- an account's id
@@ -41,3 +43,17 @@ team_said d = option_and_then if_different (team_in d)
 -- the team that a body says
 abbrev pub team_posted : (body : List ℕ) → Option TeamRow
 team_posted body = option_and_then team_said (data_of body)
+
+abbrev pub token_said : Data → Option TokenRow
+token_said d = option_and_then (λ id. option_map (λ digest. record { id = id; digest = digest }) (digest_said d)) (id_in (codes "account_id") d)
+
+-- the token that a body says, and whose it is
+abbrev pub token_posted : (body : List ℕ) → Option TokenRow
+token_posted body = option_and_then token_said (data_of body)
+
+abbrev pub name_said : Data → Option NameRow
+name_said d = option_and_then (λ team. option_map (λ name. record { team = team; name = name }) (name_in (codes "name") d)) (id_in (codes "team_id") d)
+
+-- the name that a body says, and which team's it is
+abbrev pub name_posted : (body : List ℕ) → Option NameRow
+name_posted body = option_and_then name_said (data_of body)

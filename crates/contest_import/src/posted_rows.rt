@@ -70,7 +70,7 @@ fn role_said(alloc: Global, object: &Value) -> Result<NamedRole, Refusal>
     }
 }
 
-fn digest_said(object: &Value) -> Option<Digest>
+pub(crate) fn digest_said(object: &Value) -> Option<Digest>
     ensures { result ≡ digest_said (view object.now) }
 {
     token_digest(text_in(object, "token")?.as_bytes())

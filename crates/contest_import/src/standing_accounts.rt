@@ -1,4 +1,4 @@
-//! Whether an account is added to those that stand.
+//! Whether an account is added to those that stand, and whether one of them has a token.
 ghost use Rattle.std.specs.Prelude.{◌≡◌, find, map};
 ghost use Rattle.std.specs.Option.{option_map};
 ghost use Rattle.std.specs.Str.{bytes_eq};
@@ -80,8 +80,8 @@ fn is_same_role(a: Role, b: Role) -> bool
     }
 }
 
-// Whether one of the accounts has this digest.
-fn has_digest(accounts: &[Account], digest: &Digest) -> bool
+/// Whether one of the accounts has a token with this digest.
+pub fn has_digest(accounts: &[Account], digest: &Digest) -> bool
     ensures { result ≡ is_among (map (λ (a : TheAccount). a.digest) accounts.now) digest.now }
 {
     accounts

@@ -1,12 +1,12 @@
 //! What everybody is served of the contest as a whole.
-ghost use Rattle.std.specs.Prelude.{OnOk};
+ghost use Rattle.std.specs.Prelude.{OnOk, ◌≡◌};
 ghost use Rattle.contest_objects.specs.ContestObjects.{state_data};
 ghost use Rattle.contest_objects.specs.JsonTokens.{Wrote, data_tokens};
 
 use crate::json_text::{Served, begin_array, end_array};
 use crate::members::{Member, write_object};
 use crate::state_object::{StateTimes, state_times};
-use contest_types::{Fixed, Marks, Moment, Settings};
+use contest_types::{ContestHead, Fixed, Marks, Moment, Settings, TimeSpan};
 use json::Writer;
 use std::alloc::AllocError;
 
@@ -39,7 +39,7 @@ impl<'a> Served for WholeContest<'a> {
 
     fn write(&self, out: &mut Writer) -> Result<(), AllocError> {
         let (settings, marks) = (&self.fixed.settings, &self.fixed.marks);
-        let contest = ContestObject { settings, marks };
+        let contest = ContestObject::of(settings, marks);
         match self.endpoint {
             ContestEndpoint::Contests => {
                 begin_array(out)?;
@@ -60,33 +60,57 @@ impl<'a> Served for WholeContest<'a> {
     }
 }
 
-/// The contest with these marks of its clock: `duration`, `id`, `name`, `penalty_time` in minutes,
-/// `scoreboard_freeze_duration`, `scoreboard_thaw_time`, `scoreboard_type` and `start_time`.
+/// The contest as long as it runs, with these marks of its clock: `duration`, `id`, `name`,
+/// `penalty_time` in minutes, `scoreboard_freeze_duration`, `scoreboard_thaw_time`,
+/// `scoreboard_type` and `start_time`.
 #[derive(Clone, Copy)]
 pub struct ContestObject<'a> {
-    /// The contest's settings.
-    pub settings: &'a Settings,
+    /// The contest's head, whose duration and freeze duration may be others.
+    pub head: &'a ContestHead,
+    /// How long it runs.
+    pub duration: TimeSpan,
+    /// How long before its end the scoreboard freezes; none: it never does.
+    pub freeze: Option<TimeSpan>,
     /// The marks of its clock.
     pub marks: &'a Marks,
 }
 
+impl<'a> ContestObject<'a> {
+    /// The contest as long as its settings say, with these marks of its clock.
+    pub fn of(settings: &'a Settings, marks: &'a Marks) -> ContestObject<'a>
+        ensures head { result.head.now ≡ settings.now.head }
+        ensures duration { result.duration ≡ settings.now.head.duration }
+        ensures freeze { result.freeze ≡ settings.now.head.freeze }
+        ensures marks { result.marks.now ≡ marks.now }
+    {
+        let head = settings.head();
+        ContestObject {
+            head,
+            duration: head.duration,
+            freeze: head.freeze,
+            marks,
+        }
+    }
+}
+
 impl<'a> Served for ContestObject<'a> {
+    ghost use Rattle.contest_types.specs.State.{lasting};
     ghost use Rattle.contest_objects.specs.ContestObjects.{contest_data};
 
-    ghost value = { λ o. contest_data o.settings.now.head o.marks.now };
+    ghost value = { λ o. contest_data (lasting o.head.now o.duration o.freeze) o.marks.now };
 
     fn write(&self, out: &mut Writer) -> Result<(), AllocError> {
-        let (head, marks) = (self.settings.head(), self.marks);
+        let (head, marks) = (self.head, self.marks);
         write_object(
             out,
             &[
-                ("duration", Member::Span(&head.duration)),
+                ("duration", Member::Span(&self.duration)),
                 ("id", Member::Text(head.id.as_str())),
                 ("name", Member::Text(head.name.as_str())),
                 ("penalty_time", Member::Number(u64::from(head.penalty_time))),
                 (
                     "scoreboard_freeze_duration",
-                    Member::SpanOrNull(&head.freeze),
+                    Member::SpanOrNull(&self.freeze),
                 ),
                 ("scoreboard_thaw_time", Member::TimeOrNull(&marks.thaw)),
                 ("scoreboard_type", Member::Text("pass-fail")),

@@ -18,10 +18,9 @@ use Rattle.contest_operations.specs.Growing.{Grows}
 use Rattle.contest_operations.specs.Outcomes.{refusing, replying}
 use Rattle.contest_operations.specs.Paths.{jury_piece}
 use Rattle.contest_postings.specs.PostProposal.{proposal_object}
-use Rattle.contest_import.specs.PostedRows.{account_posted, team_posted}
-use Rattle.contest_postings.specs.PostRows.{row_added, row_entries, row_object}
-use Rattle.contest_postings.specs.declared.rows.WantedRow.TheVariants as wanted
-use Rattle.contest_operations.proofs.RowFacts.{account_sound, added_addable, row_known, row_refusal_ordinary, team_sound}
+use Rattle.contest_postings.specs.PostChanges.{change_made, made_entries, made_object}
+use Rattle.contest_operations.specs.PostedChanges.{change_in}
+use Rattle.contest_operations.proofs.ChangeFacts.{change_known, change_refusal_ordinary, change_sound, made_addable}
 use Rattle.contest_operations.specs.PostedSubmissions.{submission_outcome}
 use Rattle.contest_postings.specs.PostVerification.{release_entries, release_object}
 use Rattle.contest_postings.specs.PostRejudgings.{change_entries, change_object, rejudging_change, opening, opening_entries, opening_object}
@@ -29,9 +28,9 @@ use Rattle.contest_postings.specs.declared.rejudging.RejudgingStep.TheVariants.{
 use Rattle.contest_operations.specs.Laws.{PostsAlike}
 use Rattle.contest_operations.specs.Replies.{IsOrdinary}
 use Rattle.contest_operations.specs.declared.command.Command.{Command}
-use Rattle.contest_operations.specs.declared.command.Command.TheVariants.{Submit, Clarify, Propose, Verify, OpenRejudging, JudgeRejudging, ApplyRejudging, CancelRejudging, SetClock, Finalize, AddAccount, AddTeam}
+use Rattle.contest_operations.specs.declared.command.Command.TheVariants.{Submit, Clarify, Propose, Verify, OpenRejudging, JudgeRejudging, ApplyRejudging, CancelRejudging, SetClock, Finalize, Change}
 use Rattle.contest_operations.specs.declared.command.Posted.{Posted}
-use Rattle.contest_operations.specs.declared.command.Posted.TheVariants.{Submission, Clarification, Proposal, Verification, Opening, Rejudging, Clock, Final, Row}
+use Rattle.contest_operations.specs.declared.command.Posted.TheVariants.{Submission, Clarification, Proposal, Verification, Opening, Rejudging, Clock, Final, Change as Changed}
 use Rattle.contest_requests.specs.declared.request.Method.TheVariants.{Get, Head}
 use Rattle.contest_requests.specs.declared.request.Request.{Request}
 use Rattle.contest_operations.specs.PostedClarifications.{clarification_outcome}
@@ -60,8 +59,7 @@ post_known f who ApplyRejudging request there = judge_known f who (Rejudging req
 post_known f who CancelRejudging request there = judge_known f who (Rejudging request.path Cancel) tt refl (judge_of who) refl
 post_known f who SetClock request there = clock_known f who (is_admin who) f.settings.head.id request.body refl
 post_known f who Finalize request there = final_known f who (is_admin who) refl
-post_known f who AddAccount request there = row_known wanted.Account f who (is_admin who) (account_posted request.body) refl (account_sound request.body)
-post_known f who AddTeam request there = row_known wanted.Team f who (is_admin who) (team_posted request.body) refl (team_sound (team_posted request.body))
+post_known f who (Change kind) request there = change_known f who (is_admin who) (change_in kind request.body) refl (change_sound kind request.body)
 
 pub post_refusal_ordinary : (f : FixedPart) (who : Caller) (command : Command) (request : Request) → OrdinaryRefusal (posted_by f who command request)
 post_refusal_ordinary f who Submit request = submission_refusal_ordinary f (team_of who) request
@@ -74,8 +72,7 @@ post_refusal_ordinary f who ApplyRejudging request = judge_refusal_ordinary (Rej
 post_refusal_ordinary f who CancelRejudging request = judge_refusal_ordinary (Rejudging request.path Cancel) (judge_of who)
 post_refusal_ordinary f who SetClock request = clock_refusal_ordinary (is_admin who) f.settings.head.id request.body
 post_refusal_ordinary f who Finalize request = final_refusal_ordinary (is_admin who)
-post_refusal_ordinary f who AddAccount request = row_refusal_ordinary wanted.Account (is_admin who) (account_posted request.body)
-post_refusal_ordinary f who AddTeam request = row_refusal_ordinary wanted.Team (is_admin who) (team_posted request.body)
+post_refusal_ordinary f who (Change kind) request = change_refusal_ordinary (is_admin who) (change_in kind request.body)
 
 pub post_ordinary : (now : ℕ) (posted : Posted) (x : ContestState) → IsOrdinary (post_outcome now posted x).reply
 post_ordinary now posted x = told_ordinary (post_done now posted x)
@@ -92,7 +89,7 @@ post_addable now (Opening w) x valid sound = done_addable x (opening_object x.fi
 post_addable now (Rejudging path step) x valid sound = done_addable x (change_object x.fixed) change_entries (rejudging_change now (jury_piece path) step x) (λ c is. changed_addable now (jury_piece path) step x c valid sound is)
 post_addable now (Clock w) x valid sound = done_addable x (contest_after x.fixed) clock_entries (set_clock x.fixed x.submissions x.clarifications now w) (λ c is. both_true _ _ (clock_is_addable x now w c is).0 refl)
 post_addable now Final x valid sound = done_addable x (state_after x.fixed) final_entries (final_results now x) (λ r is. final_addable x now r is)
-post_addable now (Row w) x valid sound = done_addable x (row_object x.fixed) row_entries (row_added now w x.fixed) (λ d is. added_addable x now w d sound is)
+post_addable now (Changed w) x valid sound = done_addable x (made_object x.fixed) made_entries (change_made now w x) (λ d is. made_addable x now w d valid sound is)
 
 -- a post under a key that is answered as done is repeated by whoever asks for the same, and by no other
 pub post_repeats : (x y : ContestState) (now later : ℕ) (first : Posted) → IsSoundPost x.fixed first → is_some (key_of first) ≡ true
@@ -115,7 +112,7 @@ post_repeats x y now later (Submission team v) sound some done grows =
       | (Rejudging path step) ↦ λ same scope reaches. absurd (cc scope)
       | (Clock w) ↦ λ same scope reaches. absurd (cc scope)
       | Final ↦ λ same scope reaches. absurd (cc scope)
-      | (Row w) ↦ λ same scope reaches. absurd (cc scope)
+      | (Changed w) ↦ λ same scope reaches. absurd (cc scope)
     ] in
     (r.0, on)
 post_repeats x y now later (Clarification c) sound some done grows =
@@ -131,7 +128,7 @@ post_repeats x y now later (Clarification c) sound some done grows =
       | (Rejudging path step) ↦ λ same scope reaches. absurd (cc scope)
       | (Clock w) ↦ λ same scope reaches. absurd (cc scope)
       | Final ↦ λ same scope reaches. absurd (cc scope)
-      | (Row w) ↦ λ same scope reaches. absurd (cc scope)
+      | (Changed w) ↦ λ same scope reaches. absurd (cc scope)
     ] in
     (r.0, on)
 post_repeats x y now later (Proposal v) sound some done grows = absurd (cc some)
@@ -140,7 +137,7 @@ post_repeats x y now later (Opening w) sound some done grows = absurd (cc some)
 post_repeats x y now later (Rejudging path step) sound some done grows = absurd (cc some)
 post_repeats x y now later (Clock w) sound some done grows = absurd (cc some)
 post_repeats x y now later Final sound some done grows = absurd (cc some)
-post_repeats x y now later (Row w) sound some done grows = absurd (cc some)
+post_repeats x y now later (Changed w) sound some done grows = absurd (cc some)
 
 pub posts_alike : PostsAlike
 posts_alike now (Submission team w) x y other valid_x valid_y sound h = submissions_alike now team w x y valid_x valid_y sound h
@@ -151,7 +148,7 @@ posts_alike now (Opening w) x y other valid_x valid_y sound h = absurd (other re
 posts_alike now (Rejudging path step) x y other valid_x valid_y sound h = absurd (other refl)
 posts_alike now (Clock w) x y other valid_x valid_y sound h = absurd (other refl)
 posts_alike now Final x y other valid_x valid_y sound h = absurd (other refl)
-posts_alike now (Row w) x y other valid_x valid_y sound h = absurd (other refl)
+posts_alike now (Changed w) x y other valid_x valid_y sound h = absurd (other refl)
 
 pub post_unmoved : (f : FixedPart) (who : Caller) (command : Command) (request : Request) → posted_by f who command (record request { method = Head }) ≡ posted_by f who command (record request { method = Get })
 post_unmoved f who Submit request = submission_unmoved f (team_of who) request
@@ -164,5 +161,4 @@ post_unmoved f who ApplyRejudging request = refl
 post_unmoved f who CancelRejudging request = refl
 post_unmoved f who SetClock request = refl
 post_unmoved f who Finalize request = refl
-post_unmoved f who AddAccount request = refl
-post_unmoved f who AddTeam request = refl
+post_unmoved f who (Change kind) request = refl

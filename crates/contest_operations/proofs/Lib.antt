@@ -10,7 +10,7 @@ pub mod PostedFacts
 pub mod VerdictFacts
 pub mod RejudgingFacts
 pub mod ClockFacts
-pub mod RowFacts
+pub mod ChangeFacts
 pub mod DoneLemmas
 pub mod SubmitLaws
 pub mod Fronts

@@ -10,17 +10,15 @@ use Rattle.contest_requests.specs.JuryVerdicts.{posted_verdict}
 use Rattle.contest_requests.specs.RejudgingBodies.{posted_rejudging}
 use Rattle.contest_operations.specs.PostedClarifications.{clarifying_from, may_write, posted_clarification, sender_for}
 use Rattle.contest_rules.specs.declared.clarifying.Sender.{Sender}
-use Rattle.contest_operations.specs.PostedRows.{posted_row}
+use Rattle.contest_operations.specs.PostedChanges.{change_in, posted_change}
 use Rattle.contest_operations.specs.PostedSubmissions.{posted_submission}
-use Rattle.contest_import.specs.PostedRows.{account_posted, team_posted}
-use Rattle.contest_postings.specs.declared.rows.WantedRow.{WantedRow}
-use Rattle.contest_postings.specs.declared.rows.WantedRow.TheVariants as wanted
+use Rattle.contest_postings.specs.declared.changes.WantedChange.{WantedChange}
 use Rattle.contest_operations.specs.Step.{asked, may_take_memory, or_refused, takes_memory_by, wish_or_reply, wish_or_reply_by}
 use Rattle.contest_operations.specs.Wishes.{may_read, named_by, unread_refusal, wish_to_do}
 use Rattle.contest_operations.specs.declared.command.Command.{Command}
-use Rattle.contest_operations.specs.declared.command.Command.TheVariants.{Submit, Clarify, Propose, Verify, OpenRejudging, JudgeRejudging, ApplyRejudging, CancelRejudging, SetClock, Finalize, AddAccount, AddTeam}
+use Rattle.contest_operations.specs.declared.command.Command.TheVariants.{Submit, Clarify, Propose, Verify, OpenRejudging, JudgeRejudging, ApplyRejudging, CancelRejudging, SetClock, Finalize, Change}
 use Rattle.contest_operations.specs.declared.command.Posted.{Posted}
-use Rattle.contest_operations.specs.declared.command.Posted.TheVariants.{Clarification, Clock, Final, Opening, Row}
+use Rattle.contest_operations.specs.declared.command.Posted.TheVariants.{Change as Changed, Clarification, Clock, Final, Opening}
 use Rattle.contest_requests.specs.declared.jury_verdict.JuryVerdict.{JuryVerdict}
 use Rattle.contest_operations.specs.declared.operation.Operation.{Operation}
 use Rattle.contest_operations.specs.declared.operation.Operation.TheVariants.{Read as ToRead, Do as ToDo}
@@ -54,9 +52,9 @@ final_takes : (wish : Wish) (admin : Bool) → or_refused (wish_to_do (if_admin 
 final_takes wish false h = absurd (cc h)
 final_takes wish true h = refl
 
-row_takes : {A : Type 0} (make : A → WantedRow) (o : Option A) (wish : Wish) (admin : Bool) → or_refused (wish_to_do (posted_as Row (posted_row make admin o))) ≡ Ok wish → admin ≡ true
-row_takes make o wish false h = absurd (cc h)
-row_takes make o wish true h = refl
+change_takes : (o : Option WantedChange) (wish : Wish) (admin : Bool) → or_refused (wish_to_do (posted_as Changed (posted_change admin o))) ≡ Ok wish → admin ≡ true
+change_takes o wish false h = absurd (cc h)
+change_takes o wish true h = refl
 
 writing_takes : (f : FixedPart) (account : List ℕ) (request : Request) (wish : Wish) (o : Option Sender) → or_refused (wish_to_do (posted_as Clarification (clarifying_from f account request o))) ≡ Ok wish → is_some o ≡ true
 writing_takes f account request wish None h = absurd (cc h)
@@ -78,8 +76,7 @@ post_takes f who ApplyRejudging request wish h = judge_takes _ wish (judge_of wh
 post_takes f who CancelRejudging request wish h = judge_takes _ wish (judge_of who) h
 post_takes f who SetClock request wish h = clock_takes f.settings.head.id request.body wish (is_admin who) h
 post_takes f who Finalize request wish h = final_takes wish (is_admin who) h
-post_takes f who AddAccount request wish h = row_takes wanted.Account (account_posted request.body) wish (is_admin who) h
-post_takes f who AddTeam request wish h = row_takes wanted.Team (team_posted request.body) wish (is_admin who) h
+post_takes f who (Change kind) request wish h = change_takes (change_in kind request.body) wish (is_admin who) h
 
 read_takes : (r wish : Wish) (refusal : Refusal) (b : Bool) → or_refused (if b then Ok r else Err refusal) ≡ Ok wish → b ≡ true
 read_takes r wish refusal true h = refl

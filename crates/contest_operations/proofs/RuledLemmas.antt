@@ -8,6 +8,7 @@ use Rattle.contest_operations.specs.Outcomes.{ruled}
 use Rattle.contest_operations.specs.Replies.{IsOrdinary}
 
 pub ruled_ordinary : (r : RuleRefusal) → IsOrdinary (ruled r).reply
+ruled_ordinary rule.Malformed = refl
 ruled_ordinary rule.UnknownReference = refl
 ruled_ordinary rule.EntryPointMissing = refl
 ruled_ordinary rule.KeyReused = refl
@@ -25,6 +26,7 @@ ruled_ordinary rule.ClockRefused = refl
 
 -- nor is it answered as done
 ruled_status : (r : RuleRefusal) → ((ruled r).reply.status == 200) ≡ false
+ruled_status rule.Malformed = refl
 ruled_status rule.UnknownReference = refl
 ruled_status rule.EntryPointMissing = refl
 ruled_status rule.KeyReused = refl

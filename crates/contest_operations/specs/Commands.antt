@@ -23,19 +23,17 @@ use Rattle.contest_operations.specs.PostedClarifications.{may_write, posted_clar
 use Rattle.contest_postings.specs.PostClarification.{clarification_done}
 use Rattle.contest_postings.specs.PostClock.{clock_done, final_done}
 use Rattle.contest_postings.specs.PostProposal.{proposal_done}
-use Rattle.contest_postings.specs.PostRows.{IsSoundRow, row_done}
-use Rattle.contest_postings.specs.declared.rows.WantedRow.TheVariants as wanted
-use Rattle.contest_import.specs.PostedRows.{account_posted, team_posted}
-use Rattle.contest_operations.specs.PostedRows.{posted_row}
+use Rattle.contest_postings.specs.PostChanges.{IsSoundChange, change_done}
+use Rattle.contest_operations.specs.PostedChanges.{change_in, posted_change}
 use Rattle.contest_postings.specs.PostRejudgings.{IsSoundStep, opening_done, rejudging_done}
 use Rattle.contest_postings.specs.declared.rejudging.RejudgingStep.TheVariants.{Judge, Apply, Cancel}
 use Rattle.contest_operations.specs.PostedSubmissions.{IsSoundSubmission, posted_submission}
 use Rattle.contest_postings.specs.PostSubmission.{submission_done}
 use Rattle.contest_postings.specs.PostVerification.{verification_done}
 use Rattle.contest_operations.specs.declared.command.Command.{Command}
-use Rattle.contest_operations.specs.declared.command.Command.TheVariants.{Submit, Clarify, Propose, Verify, OpenRejudging, JudgeRejudging, ApplyRejudging, CancelRejudging, SetClock, Finalize, AddAccount, AddTeam}
+use Rattle.contest_operations.specs.declared.command.Command.TheVariants.{Submit, Clarify, Propose, Verify, OpenRejudging, JudgeRejudging, ApplyRejudging, CancelRejudging, SetClock, Finalize, Change}
 use Rattle.contest_operations.specs.declared.command.Posted.{Posted}
-use Rattle.contest_operations.specs.declared.command.Posted.TheVariants.{Submission, Clarification, Proposal, Verification, Opening, Rejudging, Clock, Final, Row}
+use Rattle.contest_operations.specs.declared.command.Posted.TheVariants.{Submission, Clarification, Proposal, Verification, Opening, Rejudging, Clock, Final, Change as Changed}
 use Rattle.contest_requests.specs.declared.request.Request.{Request}
 use Rattle.contest_postings.specs.OwnSubmissions.{keyed_row}
 
@@ -64,8 +62,7 @@ posted_by f who ApplyRejudging request = if_judge (judge_of who) (Rejudging requ
 posted_by f who CancelRejudging request = if_judge (judge_of who) (Rejudging request.path Cancel)
 posted_by f who SetClock request = posted_as Clock (posted_clock (is_admin who) f.settings.head.id request.body)
 posted_by f who Finalize request = if_admin (is_admin who) Final
-posted_by f who AddAccount request = posted_as Row (posted_row wanted.Account (is_admin who) (account_posted request.body))
-posted_by f who AddTeam request = posted_as Row (posted_row wanted.Team (is_admin who) (team_posted request.body))
+posted_by f who (Change kind) request = posted_as Changed (posted_change (is_admin who) (change_in kind request.body))
 
 -- what is known of it once it is read
 abbrev pub IsSoundPost : FixedPart → Posted → Type 0
@@ -77,7 +74,7 @@ IsSoundPost f (Opening w) = IsSoundRejudging w
 IsSoundPost f (Rejudging path step) = IsSoundStep f step
 IsSoundPost f (Clock w) = Unit {0}
 IsSoundPost f Final = Unit {0}
-IsSoundPost f (Row w) = IsSoundRow w
+IsSoundPost f (Changed w) = IsSoundChange w
 
 -- who posts it
 abbrev pub poster : Posted → Audience
@@ -89,7 +86,7 @@ poster (Opening w) = Jury
 poster (Rejudging path step) = Jury
 poster (Clock w) = Jury
 poster Final = Jury
-poster (Row w) = Jury
+poster (Changed w) = Jury
 
 -- what is done at a moment, or why not
 abbrev pub post_done : (now : ℕ) → Posted → ContestState → Result Done RuleRefusal
@@ -101,7 +98,7 @@ post_done now (Opening w) x = opening_done w x
 post_done now (Rejudging path step) x = rejudging_done now (jury_piece path) step x
 post_done now (Clock w) x = clock_done now w x
 post_done now Final x = final_done now x
-post_done now (Row w) x = row_done now w x
+post_done now (Changed w) x = change_done now w x
 
 -- what becomes of it
 abbrev pub post_outcome : (now : ℕ) → Posted → ContestState → Outcome
@@ -119,8 +116,7 @@ post_takes_memory who ApplyRejudging = is_some (judge_of who)
 post_takes_memory who CancelRejudging = is_some (judge_of who)
 post_takes_memory who SetClock = is_admin who
 post_takes_memory who Finalize = is_admin who
-post_takes_memory who AddAccount = is_admin who
-post_takes_memory who AddTeam = is_admin who
+post_takes_memory who (Change kind) = is_admin who
 
 -- whose file is looked at, by its team and its number: files are large, and no more than one is
 abbrev pub post_file : Posted → ContestState → Option (ℕ × ℕ)
@@ -132,7 +128,7 @@ post_file (Opening w) x = None
 post_file (Rejudging path step) x = None
 post_file (Clock w) x = None
 post_file Final x = None
-post_file (Row w) x = None
+post_file (Changed w) x = None
 
 -- the idempotency key that it comes with, if there is one
 abbrev pub key_of : Posted → Option (List ℕ)
@@ -144,7 +140,7 @@ key_of (Opening w) = None
 key_of (Rejudging path step) = None
 key_of (Clock w) = None
 key_of Final = None
-key_of (Row w) = None
+key_of (Changed w) = None
 
 -- two are of one sender, and ask for rows of one kind
 abbrev pub are_in_one_scope : Posted → Posted → Bool
@@ -168,4 +164,4 @@ reaches_key x (Opening w) = false
 reaches_key x (Rejudging path step) = false
 reaches_key x (Clock w) = false
 reaches_key x Final = false
-reaches_key x (Row w) = false
+reaches_key x (Changed w) = false

@@ -13,4 +13,4 @@ pub mod Growing
 pub mod Laws
 pub mod PostedSubmissions
 pub mod PostedClarifications
-pub mod PostedRows
+pub mod PostedChanges

@@ -13,7 +13,8 @@ use Rattle.contest_objects.specs.declared.contest_objects.ContestEndpoint.TheVar
 use Rattle.contest_objects.specs.declared.settings_objects.SettingsEndpoint.TheVariants.{Groups, JudgementTypes, Languages, Problems, Teams}
 use Rattle.contest_operations.specs.Offers.{nothing, reads}
 use Rattle.contest_operations.specs.declared.offer.Offer.{Offer}
-use Rattle.contest_operations.specs.declared.command.Command.TheVariants.{Submit, Clarify, Propose, Verify, OpenRejudging, JudgeRejudging, ApplyRejudging, CancelRejudging, SetClock, Finalize, AddAccount, AddTeam}
+use Rattle.contest_operations.specs.declared.command.Command.TheVariants.{Submit, Clarify, Propose, Verify, OpenRejudging, JudgeRejudging, ApplyRejudging, CancelRejudging, SetClock, Finalize, Change}
+use Rattle.contest_operations.specs.declared.post_change.ChangeKind.TheVariants as kind
 use Rattle.contest_operations.specs.declared.operation.Endpoint.TheVariants.{Settings, Submissions, Judgements, Clarifications, Awards}
 use Rattle.contest_operations.specs.declared.operation.JuryReading.TheVariants.{Proposals, Rejudgings, Rejudging}
 use Rattle.contest_operations.specs.declared.operation.Reading.TheVariants.{Whole, List as AllOf, Object, File, Scoreboard, GroupScoreboard, Account as OwnAccount, Jury as ForJury}
@@ -49,8 +50,11 @@ route_rows =
     ∷ (codes "/jury/proposals", record (reads (ForJury Proposals)) { post = Some Propose })
     ∷ (codes "/jury/verifications", record nothing { post = Some Verify })
     ∷ (codes "/jury/finalize", record nothing { post = Some Finalize })
-    ∷ (codes "/jury/accounts", record nothing { post = Some AddAccount })
-    ∷ (codes "/jury/teams", record nothing { post = Some AddTeam })
+    ∷ (codes "/jury/accounts", record nothing { post = Some (Change kind.Account) })
+    ∷ (codes "/jury/teams", record nothing { post = Some (Change kind.Team) })
+    ∷ (codes "/jury/tokens", record nothing { post = Some (Change kind.Token) })
+    ∷ (codes "/jury/names", record nothing { post = Some (Change kind.Name) })
+    ∷ (codes "/jury/extension", record nothing { post = Some (Change kind.Extension) })
     ∷ (codes "/jury/rejudgings", record (reads (ForJury Rejudgings)) { post = Some OpenRejudging })
     ∷ (codes "/jury/rejudgings/{n}", reads (ForJury Rejudging))
     ∷ (codes "/jury/rejudgings/{n}/verdicts", record nothing { post = Some JudgeRejudging })

@@ -11,16 +11,16 @@ ghost use Rattle.contest_operations.specs.Commands.{posted_by};
 ghost use Rattle.contest_operations.specs.Callers.{is_admin, judge_of};
 ghost use Rattle.contest_operations.specs.Replies.{IsOrdinary};
 
-use crate::add_rows::{post_account, post_team};
 use crate::caller::{Caller, is_admin, judge_of, team_of};
 use crate::clarify::post_clarification;
 use crate::outcome::Outcome;
 use crate::path::jury_piece;
+use crate::post_change::{ChangeKind, post_change};
 use crate::submit::post_submission;
 use contest_lists::Lists;
 use contest_postings::{
-    AddRow, Clarifying, Done, Finalize, Opening, Proposing, Rejudge, RejudgingStep, SetClock,
-    Submitting, Verifying, WantedRow, carry_out, keyed_row,
+    ChangeFixed, Clarifying, Done, Finalize, Opening, Proposing, Rejudge, RejudgingStep, SetClock,
+    Submitting, Verifying, WantedChange, carry_out, keyed_row,
 };
 use contest_requests::{JuryVerdict, Request, post_clock, post_rejudging, post_verdict};
 use contest_rules::{RuleRefusal, WantedClock, WantedRejudging, WantedSubmission};
@@ -50,10 +50,8 @@ pub enum Command {
     SetClock,
     /// An administrator makes the results final.
     Finalize,
-    /// An administrator adds an account (own).
-    AddAccount,
-    /// An administrator adds a team, until the contest has ended (own).
-    AddTeam,
+    /// An administrator changes the settings or the accounts (own).
+    Change(ChangeKind),
 }
 
 /// What a caller whose role allows it posts, once its body is read.
@@ -75,8 +73,8 @@ pub enum Posted {
     Clock(WantedClock),
     /// An administrator makes the results final.
     Final,
-    /// An administrator adds an account or a team.
-    Row(WantedRow),
+    /// An administrator changes the settings or the accounts.
+    Change(WantedChange),
 }
 
 /// What a caller posts by a command: its role is looked at first, then its body.
@@ -125,13 +123,9 @@ pub fn post(
             Ok(Posted::Clock(wanted))
         }
         Command::Finalize => finalize(caller),
-        Command::AddAccount => {
-            let row = post_account(alloc, is_admin(caller), request.body.as_slice())?;
-            Ok(Posted::Row(row))
-        }
-        Command::AddTeam => {
-            let row = post_team(alloc, is_admin(caller), request.body.as_slice())?;
-            Ok(Posted::Row(row))
+        Command::Change(kind) => {
+            let wanted = post_change(alloc, kind, is_admin(caller), request.body.as_slice())?;
+            Ok(Posted::Change(wanted))
         }
     }
 }
@@ -171,7 +165,7 @@ pub fn post_file(posted: &Posted, lists: &Lists) -> Option<(usize, usize)>
         | Posted::Rejudging(_, _)
         | Posted::Clock(_)
         | Posted::Final
-        | Posted::Row(_) => None,
+        | Posted::Change(_) => None,
     }
 }
 
@@ -217,6 +211,6 @@ fn done_by(
         }
         Posted::Clock(wanted) => carry_out(alloc, lists, now, SetClock { wanted }),
         Posted::Final => carry_out(alloc, lists, now, Finalize),
-        Posted::Row(wanted) => carry_out(alloc, lists, now, AddRow { wanted }),
+        Posted::Change(wanted) => carry_out(alloc, lists, now, ChangeFixed { wanted }),
     }
 }

@@ -2,7 +2,6 @@
 //! routes, callers, reads, commands, replies.
 #![tactic(auto)]
 
-mod add_rows;
 mod answering;
 mod asked;
 mod asking;
@@ -14,6 +13,7 @@ mod offer;
 mod operation;
 mod outcome;
 mod path;
+mod post_change;
 mod reading;
 mod reply;
 mod route_table;
@@ -26,6 +26,7 @@ pub use command::{Command, Posted};
 pub use offer::{AllowedMethods, Offer};
 pub use operation::{Endpoint, JuryReading, Operation, Reading};
 pub use outcome::Outcome;
+pub use post_change::ChangeKind;
 pub use reply::{ContentType, ExtraField, Reply, ReplyBody};
 pub use route_table::routes;
 pub use wish::Wish;

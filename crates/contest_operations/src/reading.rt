@@ -4,7 +4,6 @@ ghost use Rattle.std.specs.Prelude.{◌≡◌, ℕ, true, IfOk, Option, option_m
 ghost use Rattle.serde_json.specs.Data.{Data};
 ghost use Rattle.serde_json.specs.Written.{compact_text};
 ghost use Rattle.contest_lists.specs.Lists.{loaded};
-ghost use Rattle.contest_types.specs.Accounts.{account_named};
 ghost use Rattle.contest_types.specs.State.{ContestState};
 ghost use Rattle.contest_types.specs.Valid.{is_valid};
 ghost use Rattle.contest_view.specs.SeenLists.{Shows};
@@ -18,7 +17,8 @@ use crate::operation::{Endpoint, JuryReading, Reading};
 use crate::path::{jury_piece, object_piece};
 use contest_lists::Lists;
 use contest_objects::{AccountObject, WholeContest, setting_text, settings_text, text_of};
-use contest_types::{Account, Audience, Fixed, Refusal, Rows};
+use contest_postings::account_named;
+use contest_types::{Audience, Fixed, Refusal, Rows};
 use contest_view::{
     Seen, award_by_id, awards_text, clarification_by_id, clarifications_text, file_place,
     group_scoreboard_text, judgement_by_id, judgements_text, named_submission, proposals_text,
@@ -143,12 +143,6 @@ fn account_text(alloc: Global, fixed: &Fixed, id: &[u8]) -> Result<Option<Vec<u8
     };
     let settings = &fixed.settings;
     Ok(Some(text_of(alloc, &AccountObject { settings, account })?))
-}
-
-fn account_named<'a>(accounts: &'a [Account], id: &[u8]) -> Option<&'a Account>
-    ensures { option_map (λ a. a.now) result ≡ account_named accounts.now id.now }
-{
-    accounts.iter().find(|account| account.id.as_bytes() == id)
 }
 
 // The text of what only the jury reads, if it is there.

@@ -7,6 +7,7 @@ ghost use Rattle.contest_operations.specs.Routes.{with_route};
 use crate::command::Command;
 use crate::offer::Offer;
 use crate::operation::{Endpoint, JuryReading, Reading};
+use crate::post_change::ChangeKind;
 use contest_objects::{ContestEndpoint, SettingsEndpoint};
 use matchit::{InsertError, Router};
 use std::alloc::{AllocError, Global};
@@ -19,7 +20,7 @@ const NOTHING: Offer = Offer {
 
 /// The text of each route, as matchit reads it, and what is offered there (paths are the Contest
 /// API 2023-06's; a group's scoreboard and those under `/jury/` are own).
-static ROUTES: [(&str, Offer); 35] = [
+static ROUTES: [(&str, Offer); 38] = [
     (
         "/contests",
         Offer {
@@ -223,14 +224,35 @@ static ROUTES: [(&str, Offer); 35] = [
     (
         "/jury/accounts",
         Offer {
-            post: Some(Command::AddAccount),
+            post: Some(Command::Change(ChangeKind::Account)),
             ..NOTHING
         },
     ),
     (
         "/jury/teams",
         Offer {
-            post: Some(Command::AddTeam),
+            post: Some(Command::Change(ChangeKind::Team)),
+            ..NOTHING
+        },
+    ),
+    (
+        "/jury/tokens",
+        Offer {
+            post: Some(Command::Change(ChangeKind::Token)),
+            ..NOTHING
+        },
+    ),
+    (
+        "/jury/names",
+        Offer {
+            post: Some(Command::Change(ChangeKind::Name)),
+            ..NOTHING
+        },
+    ),
+    (
+        "/jury/extension",
+        Offer {
+            post: Some(Command::Change(ChangeKind::Extension)),
             ..NOTHING
         },
     ),
@@ -272,7 +294,7 @@ static ROUTES: [(&str, Offer); 35] = [
     ),
 ];
 
-fn rows() -> &'static [(&'static str, Offer); 35]
+fn rows() -> &'static [(&'static str, Offer); 38]
     ensures { map (λ row. (row.0.now, row.1)) result.now ≡ route_rows }
 {
     &ROUTES

@@ -6,4 +6,4 @@ pub mod OwnSubmissions
 pub mod PostClarification
 pub mod PostRejudgings
 pub mod PostClock
-pub mod PostRows
+pub mod PostChanges

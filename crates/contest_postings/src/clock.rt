@@ -44,10 +44,7 @@ impl<'a> Posting<'a> for SetClock {
     }
 
     fn tell(alloc: Global, fixed: &Fixed, done: ClockChange) -> Result<Done, AllocError> {
-        let object = ContestObject {
-            settings: &fixed.settings,
-            marks: &done.marks,
-        };
+        let object = ContestObject::of(&fixed.settings, &done.marks);
         let text = text_of(alloc, &object)?;
         let mut entries = Rows::new(alloc);
         entries.push(done.entry)?;

@@ -1,6 +1,8 @@
 pub mod BodyLemmas
 pub mod RejudgingLemmas
 pub mod MomentTexts
+pub mod ExtensionLemmas
+mod ExamplesExtensionBodies
 mod ExamplesRejudgingBodies
 mod ExamplesClarificationBodies
 mod ExamplesClockBodies

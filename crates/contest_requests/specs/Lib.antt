@@ -3,3 +3,4 @@ pub mod ClarificationBodies
 pub mod JuryVerdicts
 pub mod RejudgingBodies
 pub mod ClockBodies
+pub mod ExtensionBodies

@@ -3,6 +3,7 @@
 
 mod clarification_body;
 mod clock_body;
+mod extension_body;
 mod jury_verdict;
 mod rejudging_body;
 mod request;
@@ -11,6 +12,7 @@ mod wanted_ids;
 
 pub use clarification_body::read_clarification;
 pub use clock_body::{post_clock, read_clock};
+pub use extension_body::read_extension;
 pub use jury_verdict::{JuryVerdict, post_verdict};
 pub use rejudging_body::{post_rejudging, read_rejudging};
 pub use request::{Credential, KeyField, Method, Request};

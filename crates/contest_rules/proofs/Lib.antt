@@ -8,11 +8,13 @@ mod ExamplesClarifying
 mod ExamplesProposing
 mod ExamplesRejudging
 mod ExamplesClock
+mod ExamplesExtension
 pub mod VerifiedLemmas
 pub mod CandidateLemmas
 pub mod OpenedLemmas
 pub mod AppliedLemmas
 pub mod RejudgedLemmas
 pub mod ClockLemmas
+pub mod ExtensionLemmas
 pub mod JudgedLemmas
 pub mod NamedLemmas

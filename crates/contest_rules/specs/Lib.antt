@@ -8,4 +8,5 @@ pub mod Opening
 pub mod Candidates
 pub mod Rejudging
 pub mod ClockChanges
+pub mod Extensions
 pub mod Laws

@@ -6,6 +6,7 @@ use Rattle.contest_rules.specs.declared.rule_refusal.RuleRefusal.TheVariants as 
 
 -- the refusal that it is
 abbrev pub refusal_of : RuleRefusal → Refusal
+refusal_of rule.Malformed = refusal.Malformed
 refusal_of rule.UnknownReference = refusal.UnknownReference
 refusal_of rule.EntryPointMissing = refusal.EntryPointMissing
 refusal_of rule.KeyReused = refusal.KeyReused

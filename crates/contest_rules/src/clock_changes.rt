@@ -129,7 +129,7 @@ fn is_ahead(moment: &Option<Moment>, now: Moment) -> bool
 }
 
 // Whether there still is a moment so long after the start, if that is set.
-fn has_end(duration: TimeSpan, start: &Option<Moment>) -> bool
+pub(crate) fn has_end(duration: TimeSpan, start: &Option<Moment>) -> bool
     ensures { result ≡ has_end duration start.now }
 {
     match start {

@@ -5,6 +5,7 @@ mod candidates;
 mod clarifying;
 mod clock_changes;
 mod decision;
+mod extensions;
 mod judged;
 pub mod laws;
 mod opening;
@@ -22,6 +23,7 @@ pub use clarifying::{
 };
 pub use clock_changes::{ClockChange, WantedClock, decide_clock, decide_final};
 pub use decision::Decision;
+pub use extensions::{Extension, WantedExtension, decide_extension};
 pub use judged::Judged;
 pub use opening::{WantedRejudging, decide_opening};
 pub use proposing::{NewVerdict, decide_proposal, release_at_once};

@@ -7,6 +7,7 @@ use contest_types::Refusal;
 /// Why a command is refused by the rules of a contest: never for want of memory, nor by a store.
 #[derive(Clone, Copy, PartialEq, Eq)]
 pub enum RuleRefusal {
+    Malformed,
     UnknownReference,
     EntryPointMissing,
     KeyReused,
@@ -29,6 +30,7 @@ impl RuleRefusal {
         ensures { result ≡ refusal_of self }
     {
         match self {
+            RuleRefusal::Malformed => Refusal::Malformed,
             RuleRefusal::UnknownReference => Refusal::UnknownReference,
             RuleRefusal::EntryPointMissing => Refusal::EntryPointMissing,
             RuleRefusal::KeyReused => Refusal::KeyReused,
