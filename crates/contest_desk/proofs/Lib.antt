@@ -20,3 +20,5 @@ pub mod TwoRunLemmas
 pub mod RepeatLemmas
 pub mod BoardLemmas
 pub mod ScoredStores
+pub mod TokenLemmas
+pub mod AccountFacts

@@ -13,3 +13,4 @@ pub mod Moves
 pub mod TwoRuns
 pub mod Repeats
 pub mod Boards
+pub mod AccountLaws

@@ -3,12 +3,14 @@
 ghost use Rattle.contest_desk.specs.Laws.{ImportedAgainAddsNothing, ImportsKeepValid};
 ghost use Rattle.contest_desk.specs.Laws.{ImportsNeverFail};
 
+mod accounts;
 mod rejudgings;
 mod repeats;
 mod two_runs;
 mod unseen;
 mod verdicts;
 
+pub use self::accounts::{accounts_stay, only_tokens_are_replaced};
 pub use self::rejudgings::{applied_is_unseen, applied_whole, unapplied_is_unseen};
 pub use self::repeats::{posts_repeat_once, repeats_once, runs_grow};
 pub use self::two_runs::{moves_stay_alike, runs_alike};
