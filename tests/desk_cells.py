@@ -5,11 +5,11 @@
 
 The cells are counted anew by lib/cells_opinion.py, under either mask, from what sqlite3 reads while the desk is stopped. First
 come two worked contests: attempts in the freeze, and a rejudging that takes a solved problem back. Then N days (4) of N stops
-each (60), made from a seed: between two stops some requests of every role are served, or verdicts are imported. Then cells that
-somebody changed: a wrong row, one too many, also of zeros, one missing among others and another missing table are all refused,
-and leave the file's bytes as they were; a file without rows of cells, or vacuumed without their table, is filled when it is
-opened, by each command, and shows else what it did. At last servers that are killed while a team posts N times (40): what is
-left has right cells.
+each (60), made from a seed: between two stops some requests of every role are served, or verdicts are imported, and half-way the
+contest is prolonged, before the freeze, in it or after the end. Then cells that somebody changed: a wrong row, one too many, also
+of zeros, one missing among others and another missing table are all refused, and leave the file's bytes as they were; a file
+without rows of cells, or vacuumed without their table, is filled when it is opened, by each command, and shows else what it did.
+At last servers that are killed while a team posts N times (40): what is left has right cells.
 
 Takes faketime. Ends with the line `N passed, M failed`; the exit status is 0 if M is 0.
 """
@@ -27,7 +27,7 @@ from lib.demo import AT_REHEARSAL, START
 from lib.import_opinion import compact
 from lib.program import FAULT, Program
 from lib.rehearsal import contest_of, files_of, judged, posted, sent
-from lib.requester import Requester
+from lib.requester import Requester, prolonging
 from lib.server import Server
 from lib.sqlite import dump, opened
 
@@ -101,10 +101,12 @@ def try_days(desk):
                 now = imported(desk, chance, contest, folder, now)
             count = chance.random.randint(1, 5)
             server = Server(desk, folder, requests=count)
-            for _ in range(count):
+            for number in range(count):
                 now += chance.random.randint(0, 22_000_000 // (3 * desk.options.steps))
-                server.at(text_of(now))
                 request = chance.request(contest)
+                if (stop, number) == (desk.options.steps // 2, 0):
+                    now, request = prolonging(chance, contest, now)
+                server.at(text_of(now))
                 _, contest = desk_opinion.handled(contest, now, *request)
                 statuses[server.ask(sent(*request))[9:12]] += 1
             server.ended()

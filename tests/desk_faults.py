@@ -6,7 +6,7 @@ well.
 
 What lib/trials.py tells is done again and again: `desk init`, imports of teams and of two verdicts, a board that
 fills the cells; and, by a server, a submission with a key, a verdict, a rejudging of three that is applied, a thaw, a
-late team and an account.
+late team, an account, an extension, a token and a name.
 
 - Each call on the files (each Nth) fails, alone and with all later ones (lib/fail_disk.c), up to a run in which none
   does.
@@ -15,7 +15,8 @@ late team and an account.
 Each time the answer is that of a whole run, or a refusal: a line of status 1, or a reply 503. sqlite3 shows the
 contest before or after the command or request, as a whole run leaves it at the same moment, and right cells; what was
 answered as done stands. Once the disk is well and has room the same ends as a whole run does: a submission that is
-posted again with its key, a team and an account get their first reply and stand once.
+posted again with its key, a team and an account get their first reply and stand once, and so do an extension, a token
+and a name.
 
 Takes faketime, sqlite3 and a C compiler, and runs as root, which may mount disks. Ends with the line `N passed, M
 failed`; the exit status is 0 if M is 0.

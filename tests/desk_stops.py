@@ -7,10 +7,11 @@ A write is one at an offset, a change of length, a sync or a removal of a file (
 before the first that it makes, in the next run before the second, and so on, until a run ends without a stop. So is
 done what lib/trials.py tells: `desk init`, imports of teams and of two verdicts, a board that fills the cells, one
 that makes their table anew, upgrades of the first schema; and, by a server, a submission with a key, a verdict, a
-rejudging of three that is applied, a thaw, a late team and an account. Whatever the stop, sqlite3 shows the contest
-before or after the command or request, as a whole run leaves it at the same moment, and right cells. What was
-answered stands. The same once more ends as a whole run does: a submission that is posted again with its key, a team
-and an account get their first reply and stand once.
+rejudging of three that is applied, a thaw, a late team, an account, an extension, a token and a name. Whatever the
+stop, sqlite3 shows the contest before or after the command or request, as a whole run leaves it at the same moment,
+and right cells. What was answered stands. The same once more ends as a whole run does: a submission that is posted
+again with its key, a team and an account get their first reply and stand once, and so do an extension, a token and a
+name.
 
 Takes faketime, sqlite3 and a C compiler. Ends with the line `N passed, M failed`; the exit status is 0 if M is 0.
 """

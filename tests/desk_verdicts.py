@@ -6,13 +6,13 @@
 Contests are made by `desk init` and `desk import`, with verification and without, and the clock is stopped by faketime. First
 come the walks about verdicts, rejudgings and clarifications of crates/walks/data, reply by reply, over HTTP, and the last clarification that
 the jury may write to a team. Then N requests (20,000) made from a seed, by every role, before the freeze, in it and after it, in
-days whose clock administrators set, and at last beside final results, which sqlite3 sets between two servers: the replies are
-those of lib/desk_opinion.py. Then N pairs (5,000) of worlds that a team, or the public, may not tell apart: they differ in hidden
-teams' submissions, in verdicts on others' frozen submissions, in rejudgings, of which those that are applied change such verdicts
-alone, in others' clarifications, in which of these the jury answers, by whom and under which key, and in the order of acceptance,
-nothing else. Their rows are written by sqlite3, the results of both are final or those of neither, and an administrator sets the
-same thaw in both, and another one in its place. Each reply to that team, at one moment before the thaw, is the same in both. With
---leak a verdict that the team may see differs too, and the pairs have to tell it.
+days whose clock administrators set and which they prolong, and at last beside final results, which sqlite3 sets between two
+servers: the replies are those of lib/desk_opinion.py. Then N pairs (5,000) of worlds that a team, or the public, may not tell
+apart: they differ in hidden teams' submissions, in verdicts on others' frozen submissions, in rejudgings, of which those that are
+applied change such verdicts alone, in others' clarifications, in which of these the jury answers, by whom and under which key, and
+in the order of acceptance, nothing else. Their rows are written by sqlite3, the results of both are final or those of neither, and an administrator sets the
+same thaw in both, and another one in its place, or gives both an hour more. Each reply to that team, at one moment before the thaw, is
+the same in both. With --leak a verdict that the team may see differs too, and the pairs have to tell it.
 
 Takes faketime. Ends with the line `N passed, M failed`; the exit status is 0 if M is 0.
 """
@@ -32,7 +32,7 @@ from lib.desk_opinion import moment
 from lib.import_opinion import compact
 from lib.program import ROOT, Program
 from lib.rehearsal import ACCOUNTS, END, FREEZE, GROUPS, PROBLEMS, TEAMS, TYPES, contest_of, files_of, sent
-from lib.requester import Requester
+from lib.requester import Requester, longer, prolonging
 from lib.rejudger import AT_REJUDGINGS, JURY, NUMBERS, REASONS
 from lib.server import Server
 from lib.sqlite import insert, opened
@@ -147,8 +147,10 @@ def try_requests(desk):
                 contest["finalized"] = now
                 mark(folder, contest["thaw"], now)
                 server = Server(desk, folder)
-            server.at(text_of(now))
             asked = chance.request(contest)
+            if step == count * 6 // 10:
+                now, asked = prolonging(chance, contest, now)
+            server.at(text_of(now))
             wanted, contest = desk_opinion.handled(contest, now, *asked)
             given = told(server.ask(sent(*asked)), asked[2])
             desk.note(same(given, wanted, asked[2]), f"{asked} at {moment(now)}: {given}, wanted {wanted}")
@@ -362,10 +364,18 @@ def with_thaws(chance, now, thaw, asked):
     return [thawed_at(thaw), *asked[:half], thawed_at(later), *asked[half:]]
 
 
+def with_extension(now, worlds, asked):
+    """The team's questions with an administrator's between them, if the freeze has come in both worlds or in neither: an hour more."""
+    came = {now >= FREEZE or any(row["time"] >= FREEZE for row in rows) for rows in worlds}
+    half = len(asked) // 2
+    return asked if len(came) > 1 else [*asked[:half], longer(contest_of(False), now), *asked[half:]]
+
+
 def answers(desk, folder, one_world, finalized, now, asked):
     """The replies in one world."""
     with opened(folder / "cup.db") as database:
         write(database, *one_world)
+        database.execute("UPDATE contest SET duration = ?, freeze = ?", (END - START, END - FREEZE))
     mark(folder, None, finalized)
     server = Server(desk, folder, requests=len(asked))
     server.at(text_of(now))
@@ -395,7 +405,7 @@ def try_worlds(desk):
         now = START + chance.random.randint(0, (thaw or END + 3_600_000) - START - 1)
         ids = [id_of(row) for row in told_first + told_second] or ["g-1"]
         asked = [(who, *one) for one in questions(rows, ids, repeats(told_first, own), chance)]
-        asked = with_thaws(chance, now, thaw, asked)
+        asked = with_extension(now, (rows, others), asked) if thaw is None else with_thaws(chance, now, thaw, asked)
         given = [answers(desk, folder, one_world, finalized, now, asked) for folder, one_world in zip((first, second), worlds)]
         if desk.options.leak:
             differed += given[0] != given[1]

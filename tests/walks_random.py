@@ -16,6 +16,7 @@ import sys
 
 from lib import desk_opinion, program, verdict_file_opinion
 from lib.adder import Adder
+from lib.changer import Changer
 from lib.clarifier import Clarifier
 from lib.demo import AT_REHEARSAL, REHEARSAL, START
 from lib.desk_opinion import moment
@@ -23,13 +24,14 @@ from lib.director import ACCOUNTS, IDS, SETTINGS, Director
 from lib.import_opinion import compact
 from lib.program import Program, ran
 from lib.rejudger import JURY, Rejudger
+from lib.requester import prolonging
 from lib.timekeeper import Timekeeper
 
 KEYS = [None, None, "k1", "k2", "k3", "?"]
 FILES = [b"abc", b"", b"abd", bytes(7)]
 
 
-class Asker(Adder, Clarifier, Director, Rejudger, Timekeeper):
+class Asker(Adder, Changer, Clarifier, Director, Rejudger, Timekeeper):
     """What is asked next, by a seed."""
 
     def post(self):
@@ -79,6 +81,8 @@ def next_request(chance, contest):
         return chance.about_clock(contest, ACCOUNTS)
     if what > 0.92:
         return chance.about_rows(contest, ACCOUNTS)
+    if what > 0.86:
+        return chance.about_changes(contest, ACCOUNTS)
     if what < 0.5:
         return (chance.about_clarifications if what < 0.25 else chance.about_rejudgings)(contest, ACCOUNTS)
     who = chance.often(f"token-{chance.one(ACCOUNTS)}", ["public", "bad token", "token-none"], 0.85)
@@ -87,16 +91,16 @@ def next_request(chance, contest):
     return who, chance.one(KEYS) if method == "POST" and path.endswith("submissions") else None, method, path, body
 
 
-def item(chance, contest, now):
-    """An item of a walk at a moment: its lines, its answer, and the contest after it."""
+def item(chance, contest, now, request=None):
+    """An item of a walk at a moment, of this request if there is one: its lines, its answer, and the contest after it."""
     head = f"at {moment(now).replace('+00:00', 'Z')}"
-    if chance.random.random() < (0.8 if now < START else 0.15):
+    if request is None and chance.random.random() < (0.8 if now < START else 0.15):
         kind = chance.one(SETTINGS + ["teams-csv", "accounts-csv", "accounts-csv"])
         kind = chance.often(kind, ["verdicts-csv"], 0.97 if now < START else 0.4)
         file = chance.verdicts_file(contest) if kind == "verdicts-csv" else chance.file(kind)
         answer, after = verdict_file_opinion.imported(contest, now, kind, file.encode())
         return f"{head} import\n{kind} {file[:-1].replace(chr(10), ' | ')}\n", answer, after
-    who, key, method, path, body = next_request(chance, contest)
+    who, key, method, path, body = request or next_request(chance, contest)
     answer, after = desk_opinion.handled(contest, now, who, key, method, path, body)
     return f"{head} {who}{f' key {key}' if key else ''}\n{method} {path} {body}\n", answer, after
 
@@ -113,10 +117,12 @@ def walk(number, seed, steps):
     text += "verdicts are verified\n" if head["verification"] else ""
     text += ("" if start else "no start is set\n") + "nothing is set up\n"
     for step in range(steps):
-        lines, answers = "", ""
+        lines, answers, request = "", "", None
+        if step == steps * 6 // 10:
+            now, request = prolonging(chance, contest, now)
         for _ in range(chance.random.randint(1, 3)):
             now = max(START - 4_000_000, now + chance.random.randint(-100_000, 30_000_000 // steps))
-            asked, answer, contest = item(chance, contest, now)
+            asked, answer, contest = item(chance, contest, now, request)
             lines, answers = lines + asked, answers + answer + "\n"
             kinds[re.sub(r"E22 ImportRow \d+|added [1-9]\d*|\{.*|\[.*", lambda found: found[0].rstrip("0123456789")[:12], answer)[:40]] += 1
         text += f"\n-- {step + 1}\n{lines}{answers}"

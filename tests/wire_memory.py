@@ -33,7 +33,7 @@ LARGE = compact({"problem_id": "a", "language_id": "cpp", "files": [{"data": "YW
 JAVA = compact({"problem_id": "b", "language_id": "java", "entry_point": "Main", "files": [{"data": "YWJk"}]})
 QUESTION = compact({"text": "Is 0 allowed?", "problem_id": "a"})
 READS = [("token-j1", None, "GET", path, "") for path in (
-    SUBMISSIONS, f"{AT_REHEARSAL}/judgements", AT_ALL, "/jury/proposals", AT_REJUDGINGS, f"{AT_REHEARSAL}/scoreboard", f"{AT_REHEARSAL}/teams",
+    AT_REHEARSAL, SUBMISSIONS, f"{AT_REHEARSAL}/judgements", AT_ALL, "/jury/proposals", AT_REJUDGINGS, f"{AT_REHEARSAL}/scoreboard", f"{AT_REHEARSAL}/teams",
     f"{AT_REHEARSAL}/languages", f"{AT_REHEARSAL}/problems", f"{AT_REHEARSAL}/groups", f"{AT_REHEARSAL}/judgement-types")]  # fmt: skip
 
 
@@ -59,6 +59,9 @@ REQUESTS = {
     "a rejudging that is applied": (by("j1", f"{AT_REJUDGINGS}/1/apply", ""), JUDGED),
     "a rejudging that is cancelled": (by("j1", f"{AT_REJUDGINGS}/1/cancel", ""), JUDGED),
     "a thaw": (("token-adm", None, "PATCH", AT_REHEARSAL, '{"scoreboard_thaw_time":"2024-03-02T15:00:00.000+00:00"}'), []),
+    "an extension": (by("adm", "/jury/extension", compact({"duration": "5:20:00"})), []),
+    "a token": (by("adm", "/jury/tokens", compact({"account_id": "a3", "token": "other-a3"})), []),
+    "a name": (by("adm", "/jury/names", compact({"team_id": "t2", "name": "Zeta"})), []),
     "a scoreboard": (("public", None, "GET", f"{AT_REHEARSAL}/scoreboard", ""), []),
     "a file": (("token-a1", None, "GET", f"{SUBMISSIONS}/s1-1/files", ""), []),
     "a list": (("token-a1", None, "GET", SUBMISSIONS, ""), []),

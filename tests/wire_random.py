@@ -4,13 +4,14 @@
     wire_random.py [--program PATH] [--desk PATH] [--requests N] [--files N] [--http N] [--seed N]
 
 The program is wire, which serves each connection over a contest in memory by itself. Contests are those of lib/rehearsal.py. Each has
-some hundred requests of every route, role and moment, from before the start to beside final results; half of them are spoiled by
-lib/spoiler.py: bytes that are changed, cut or repeated, second requests that are smuggled in, wrong lengths, odd UTF-8, numbers out of
-range, JSON that nests too deep, members that stand twice, files that are none or two, base64 that is off its form, odd heads. The
-bytes come in pieces, some reads are interrupted, some writers fail. What goes out, how many bytes are read and what stands after that
-are those of lib/wire_opinion.py, byte for byte; none is without a reply that has to have one, and none is 503. N requests (20,000) are
-asked so. Then N files (10,000) of settings, teams and accounts are imported, half of them spoiled, and N requests (2,000) are sent to
-`desk serve` over sockets, on contests in files, at moments that faketime sets; half-way each server is killed and started again.
+some hundred requests of every route, role and moment, from before the start to beside final results, and one that prolongs it, before
+the freeze, in it or after the end; half of them are spoiled by lib/spoiler.py: bytes that are changed, cut or repeated, second
+requests that are smuggled in, wrong lengths, odd UTF-8, numbers out of range, JSON that nests too deep, members that stand twice,
+files that are none or two, base64 that is off its form, odd heads. The bytes come in pieces, some reads are interrupted, some writers
+fail. What goes out, how many bytes are read and what stands after that are those of lib/wire_opinion.py, byte for byte; none is
+without a reply that has to have one, and none is 503. N requests (20,000) are asked so. Then N files (10,000) of settings, teams and
+accounts are imported, half of them spoiled, and N requests (2,000) are sent to `desk serve` over sockets, on contests in files, at
+moments that faketime sets; half-way each server is killed and started again.
 
 Takes faketime. Ends with the line `N passed, M failed`; the exit status is 0 if M is 0.
 """
@@ -28,7 +29,7 @@ from lib.demo import AT_REHEARSAL, REHEARSAL, START
 from lib.director import SETTINGS, Director
 from lib.rehearsal import ACCOUNTS, END, FREEZE, contest_of, files_of, sent
 from lib.rejudger import AT_REJUDGINGS
-from lib.requester import Requester, closing
+from lib.requester import Requester, closing, prolonging
 from lib.server import Server
 from lib.spoiler import Spoiler, can_say
 from lib.wire import Streams, Wire
@@ -40,6 +41,8 @@ PIECES = [1, 2, 3, 17, 4_096, 65_536]
 IDS = ["AC", "cpp", "north", "a", "t1", "t9", "x", "", "a/b"]
 # Moments that are asked for now and then, whatever the time is.
 MOMENTS = [0, START - 1, START, FREEZE - 1, FREEZE, END - 1, END, LAST_MOMENT]
+# Extensions that must come, by what had come before them: nothing, the freeze, the freeze and the end.
+PROLONGED = ["extensions before the freeze", "extensions in the freeze", "extensions after the end"]
 READS = ["submissions", "judgements", "clarifications", "scoreboard", "awards", "state", *SETTINGS]
 
 
@@ -98,6 +101,23 @@ def connected(chance, contest, now, data, may_break):
     return streams._replace(room=room, stop=stop), ("write", 0, left, written[:room]), after
 
 
+def end_of(contest):
+    """The end of a contest, unless that is days away."""
+    end = (contest["start"] or START) + contest["duration"]
+    return end if end < START + 72 * 3_600_000 else END
+
+
+def extension(contest, now, after):
+    """The kind of an extension that a request was, or None."""
+    if contest["duration"] == after["duration"]:
+        return None
+    if contest["start"] is None:
+        return "extensions without a start"
+    end = contest["start"] + contest["duration"]
+    came = [one for one in (end - contest["freeze"], end) if one <= now]
+    return PROLONGED[len(came)]
+
+
 def session(seed, count, moments=()):
     """Connections at one contest, some of them at these moments, each with its moment, its bytes, its streams and what must come of
     it. Also whether another judge verifies verdicts, and how many there were of each kind."""
@@ -105,12 +125,17 @@ def session(seed, count, moments=()):
     contest, now, asked, made = contest_of(verification), START - 600_000, [], []
     for number in range(count):
         if number == count * 7 // 10:
-            now, asked = max(now, END), [sent(*one) for one in closing(contest)]
+            now, asked = max(now, END, end_of(contest)), [sent(*one) for one in closing(contest)]
+        if number == count * 6 // 10:
+            now, request = prolonging(chance, contest, now)
+            asked = [sent(*request)]
         now += chance.random.randint(0, 44_000_000 // count)
         is_odd = bool(moments) and not asked
         at = chance.often(now, [*moments, now - 100_000], 0.93) if is_odd else now
         data = asked.pop(0) if asked else chance.connection(contest, kinds)
-        streams, right, contest = connected(chance, contest, at, data, is_odd)
+        streams, right, after = connected(chance, contest, at, data, is_odd)
+        kinds.update(filter(None, [extension(contest, at, after)]))
+        contest = after
         made.append((at, data, streams, right))
     kinds["contests with final results"] += contest["finalized"] is not None
     kinds["contests with a thaw"] += contest["thaw"] is not None
@@ -189,6 +214,8 @@ def try_library(desk):
     for at in range(0, len(seeds), BATCH):
         kinds += batch(desk, seeds[at : at + BATCH])
     show(kinds)
+    for what in PROLONGED:
+        desk.note(kinds[what] > 0 or desk.options.requests < 20_000, f"no {what}")
 
 
 def try_http(desk):

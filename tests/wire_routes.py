@@ -39,14 +39,17 @@ JUDGED = compact({"submission_id": "s1-1", "judgement_type_id": "AC"})
 OPENED = compact({"reason": "data", "submission_ids": ["s1-1"]})
 ACCOUNT = compact({"id": "n1", "role": "team", "team_id": "t1", "token": "token-n1"})
 TEAM = compact({"id": "t5", "name": "Late", "group_ids": ["north"]})
-# Each path of the table of routes, with a body that its command takes.
+EXTENSION = compact({"duration": "5:20:00", "scoreboard_freeze_duration": "0:50:00"})
+TOKEN, NAME = compact({"account_id": "b1", "token": "other-b1"}), compact({"team_id": "t2", "name": "Zeta"})
+# Each path of the table of routes, with a body that its command takes. An extension comes before a thaw.
 ROUTES = {
+    "/jury/extension": EXTENSION,
     **{f"{AT_REHEARSAL}/{name}": "" for name in COLLECTIONS}, **{f"{AT_REHEARSAL}/{name}/{one}": "" for name, one in COLLECTIONS.items()},
     SUBMISSIONS: POST, AT_ALL: QUESTION, f"{SUBMISSIONS}/s1-1/files": "", f"{AT_REHEARSAL}/scoreboard": "", f"{AT_REHEARSAL}/state": "",
-    f"{AT_REHEARSAL}/groups/north/scoreboard": "", f"{AT_REHEARSAL}/account": "", "/contests": "", AT_REHEARSAL: compact({"scoreboard_thaw_time": moment(END)}), "/jury/proposals": JUDGED, "/jury/verifications": JUDGED,
+    f"{AT_REHEARSAL}/groups/north/scoreboard": "", f"{AT_REHEARSAL}/account": "", "/contests": "", AT_REHEARSAL: compact({"scoreboard_thaw_time": moment(END + 1_200_000)}), "/jury/proposals": JUDGED, "/jury/verifications": JUDGED,
     AT_REJUDGINGS: OPENED, f"{AT_REJUDGINGS}/1": "", f"{AT_REJUDGINGS}/1/verdicts": JUDGED, f"{AT_REJUDGINGS}/1/apply": "",
     f"{AT_REJUDGINGS}/1/cancel": "", "/jury/finalize": "",
-    "/jury/accounts": ACCOUNT, "/jury/teams": TEAM,
+    "/jury/accounts": ACCOUNT, "/jury/teams": TEAM, "/jury/tokens": TOKEN, "/jury/names": NAME,
 }  # fmt: skip
 MOMENTS = {"before the start": START - 1, "at 9:05": START + 300_000, "at 13:20": FREEZE + 1_200_000, "final": END}
 # One of each command comes first, so that there is something to read.
@@ -182,7 +185,11 @@ def try_json_files(test):
 def try_bodies(test):
     """Bodies of each command, spoiled: those that are taken are asked by who may, the others change nothing."""
     posted = {SUBMISSIONS: ("token-a1", POST), AT_ALL: ("token-a1", QUESTION), "/jury/proposals": ("token-j1", JUDGED),
-              AT_REJUDGINGS: ("token-j1", OPENED), f"{AT_REJUDGINGS}/1/verdicts": ("token-j1", JUDGED)}  # fmt: skip
+              AT_REJUDGINGS: ("token-j1", OPENED), f"{AT_REJUDGINGS}/1/verdicts": ("token-j1", JUDGED),
+              "/jury/extension": ("token-adm", EXTENSION), "/jury/tokens": ("token-adm", TOKEN), "/jury/names": ("token-adm", NAME)}  # fmt: skip
+    # What is read after each body, where nothing is read at the path itself.
+    reads = {f"{AT_REJUDGINGS}/1/verdicts": AT_REJUDGINGS, "/jury/extension": AT_REHEARSAL, "/jury/tokens": "/contests",
+             "/jury/names": f"{AT_REHEARSAL}/teams"}  # fmt: skip
     now = START + 300_000
     for path, (who, body) in posted.items():
         session = Session(True)
@@ -200,7 +207,7 @@ def try_bodies(test):
             if path == AT_REJUDGINGS and status == 200:
                 number += 1
                 session.ask(now, sent("token-j1", None, "POST", f"{AT_REJUDGINGS}/{number}/cancel", ""), 200)
-            session.ask(now, sent("token-j1", None, "GET", path if path.count("/") < 4 else AT_REJUDGINGS, ""), 200)
+            session.ask(now, sent("token-j1", None, "GET", reads.get(path, path), ""), 200)
         session.hold(test, path)
 
 

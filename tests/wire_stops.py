@@ -9,11 +9,11 @@ that was written, or only what was synced: each stop is tried in these four ways
 copy of the log into the database file. --every N stops at each Nth alone.
 
 So is done: a contest that is made; a submission with a key; a verdict that is proposed and verified; a rejudging of three that is
-applied; a file of two verdicts; a thaw; a late team and an account; cells that are filled; an upgrade of the first schema. The store
-is then opened over what is left, and its lists and scoreboards are read. They are those of the contest before or after what was asked
-for when the stop came, as the second opinions count them; what was answered as done stands. The same once more is answered as the
-second opinions answer it: a submission with its key has its first body, and stands once. Where a contest was to be made and none is
-found, it can be made.
+applied; a file of two verdicts; a thaw; a late team and an account; an extension in the freeze; a token that is replaced and a name
+that is corrected; cells that are filled; an upgrade of the first schema. The store is then opened over what is left, and its lists and
+scoreboards are read. They are those of the contest before or after what was asked for when the stop came, as the second opinions count
+them; what was answered as done stands. The same once more is answered as the second opinions answer it: a submission with its key has
+its first body, and stands once. Where a contest was to be made and none is found, it can be made.
 
 Ends with the line `N passed, M failed`; the exit status is 0 if M is 0.
 """
@@ -26,7 +26,8 @@ from lib import program, verdict_file_opinion, wire, wire_opinion
 from lib.demo import AT_REHEARSAL, START
 from lib.program import FAULT
 from lib.rehearsal import contest_of, files_of, judged, posted, sent
-from lib.trials import ACCOUNT, APPLY, ASKED, AT_END, AT_TEN, EARLY, LATE, POSTS, REJUDGED, THAW, THREE, TWO, VERDICTS
+from lib.trials import ACCOUNT, APPLY, ASKED, AT_END, AT_TEN, EARLY, EXTENSION, FROZEN, LATE, NAME, POSTS, REJUDGED, THAW, THREE, TOKEN
+from lib.trials import TWO, VERDICTS
 from lib.wire import Ended, Served, Wire
 
 MANY, CHUNK = 1_000_000_000, 16
@@ -185,6 +186,8 @@ def trials(test):
     yield at_open(test, "a file of verdicts", AT_TEN, [("verdicts-csv", VERDICTS.encode())], TWO)
     yield at_open(test, "a thaw", AT_END, [sent(*THAW)], THREE)
     yield at_open(test, "a late team and an account", AT_TEN, [sent(*LATE), sent(*ACCOUNT)], THREE)
+    yield at_open(test, "an extension", FROZEN, [sent(*EXTENSION)], THREE)
+    yield at_open(test, "a token and a name", AT_TEN, [sent(*TOKEN), sent(*NAME)], THREE)
     yield at_open(test, "cells that are filled", AT_TEN, [], ASKED, sql=NO_CELLS)
     base, contest = made(test, False, ASKED, FIRST)
     yield Trial("an upgrade", base, (State(OLD, contest), State(OPENED, contest)), "upgrade", "upgraded", AT_TEN)

@@ -5,7 +5,7 @@ Written to be read beside docs/FORMATS.md, as desk_opinion.py is, which asks it:
 
 import datetime
 
-from .import_opinion import Refused, has_come, json_of
+from .import_opinion import LONGEST_CONTEST, Refused, has_come, json_of, span
 from .replay_opinion import Fault
 
 EPOCH = datetime.datetime(1970, 1, 1, tzinfo=datetime.timezone.utc)
@@ -54,6 +54,54 @@ def set_clock(contest, now, body):
     if not {"start": may_start, "thaw": may_thaw}[mark](contest, now, one):
         raise Refused("ClockRefused")
     contest[mark] = one
+
+
+def wanted_extension(body):
+    """The duration that a body names, and the freeze duration, which may be None."""
+    try:
+        row = json_of(body)
+        if not isinstance(row, dict):
+            raise Fault("Malformed")
+        duration = span(row.get("duration"))
+        freeze = span(row["scoreboard_freeze_duration"]) if "scoreboard_freeze_duration" in row else None
+    except Fault:
+        raise Refused("Malformed")
+    if not 0 < duration <= LONGEST_CONTEST or (freeze or 0) > duration:
+        raise Refused("Malformed")
+    return duration, freeze
+
+
+def has_frozen(contest, now, duration, freeze):
+    """Whether a freeze so long before the end of a contest so long has come: by the clock, or by a submission's time."""
+    if contest["start"] is None or freeze is None:
+        return False
+    times = [now] + [one["time"] for one in contest["submissions"]]
+    return any(contest["start"] + duration - freeze <= time for time in times)
+
+
+def may_extend(contest, now, duration, freeze):
+    if contest["finalized"] is not None or contest["thaw"] is not None or duration < contest["duration"]:
+        return False
+    if contest["start"] is not None and contest["start"] + duration <= now:
+        return False
+    moments = [(contest["duration"], contest["freeze"]), (duration, freeze)]
+    return freeze is None or not any(has_frozen(contest, now, *one) for one in moments)
+
+
+def extend(contest, now, body):
+    """Has the contest last longer. A freeze that has come stays where it is; one that hasn't moves with the end, unless the body
+    says another."""
+    duration, freeze = wanted_extension(body)
+    if duration == contest["duration"] and freeze in (None, contest["freeze"]):
+        return
+    if contest["start"] is not None and contest["start"] + duration > LAST_MOMENT:
+        raise Refused("Malformed")
+    if not may_extend(contest, now, duration, freeze):
+        raise Refused("ClockRefused")
+    if freeze is None and contest["freeze"] is not None:
+        is_come = has_frozen(contest, now, contest["duration"], contest["freeze"])
+        freeze = contest["freeze"] + (duration - contest["duration"] if is_come else 0)
+    contest["duration"], contest["freeze"] = duration, freeze
 
 
 def finalize(contest, now, known):

@@ -9,13 +9,13 @@ rejudging_opinion.py, how the clock is set by clock_opinion.py, and who wins wha
 import base64
 import binascii
 import copy
-import hashlib
 from dataclasses import dataclass
 
 from . import awards_opinion, clock_opinion, rejudging_opinion
 from .clarification_opinion import clarification_object, clarify, heard_clarifications
 from .contest_opinion import is_jury, moment, owns, place_of, sees_all
-from .import_opinion import COLLECTIONS, Refused, compact, has_come, is_id, is_name, is_new, json_of, member, posted_account, row_of
+from .import_opinion import COLLECTIONS, Refused, compact, digest_of, has_come, is_id, is_name, is_new, is_token, json_of, member
+from .import_opinion import posted_account, row_of
 from .replay_opinion import Fault, reltime_text
 
 FILE_LIMIT = 1_048_576
@@ -315,7 +315,7 @@ def offered(contest, path):
         return ["GET", "HEAD", "POST"] if pieces[2] == "proposals" else ["POST"], pieces[2], None
     if pieces[:3] == ["", "contests", contest["id"]] and pieces[3:] in (["account"], ["state"], ["scoreboard"]):
         return ["GET", "HEAD"], pieces[3], None
-    if path in ("/jury/finalize", "/jury/accounts", "/jury/teams"):
+    if path in [f"/jury/{name}" for name in ADMINISTRATORS]:
         return ["POST"], pieces[2], None
     if path == "/contests":
         return ["GET", "HEAD"], "contests", None
@@ -345,7 +345,7 @@ def caller_of(contest, who):
     """The account that asks; None for the public."""
     if who == "public":
         return None
-    digest = hashlib.sha256(who.encode()).hexdigest()
+    digest = digest_of(who.encode())
     for account in contest["accounts"]:
         if account["digest"] == digest:
             return account
@@ -367,12 +367,14 @@ class Asked:
 
 
 def clock_set(asked):
-    """What an administrator is answered that sets the start or the thaw, by PATCH, or makes the results final."""
+    """What an administrator is answered that sets the start or the thaw, by PATCH, has the contest last longer, or makes the results
+    final."""
     contest, now = asked.contest, asked.now
     if asked.caller is None or asked.caller["role"] != "admin":
         raise Refused("RoleForbids")
-    if asked.method == "PATCH":
-        clock_opinion.set_clock(contest, now, asked.body)
+    if asked.name != "finalize":
+        change = clock_opinion.set_clock if asked.method == "PATCH" else clock_opinion.extend
+        change(contest, now, asked.body)
         return contest_object(contest)
     clock_opinion.finalize(contest, now, [submission_id(contest, one) for one in contest["submissions"]])
     return state_object(contest, now)
@@ -439,6 +441,32 @@ def row_added(asked):
     return account_object(row) if which == "accounts" else row
 
 
+def found(rows, which):
+    """The row that has this id."""
+    for row in rows:
+        if row["id"] == which:
+            return row
+    raise Refused("UnknownReference")
+
+
+def row_changed(asked):
+    """The account whose token an administrator replaces, or the team whose name it corrects."""
+    contest, is_account = asked.contest, asked.name == "tokens"
+    if asked.caller is None or asked.caller["role"] != "admin":
+        raise Refused("RoleForbids")
+    try:
+        said = json_of(asked.body)
+        which = member(said, "account_id" if is_account else "team_id", is_id)
+        value = digest_of(member(said, "token", is_token).encode()) if is_account else member(said, "name", is_name)
+    except Fault:
+        raise Refused("Malformed")
+    row = found(contest["accounts" if is_account else "teams"], which)
+    if is_account and any(other["digest"] == value for other in contest["accounts"] if other is not row):
+        raise Refused("KeyReused")
+    row["digest" if is_account else "name"] = value
+    return account_object(row) if is_account else row
+
+
 def group_scoreboard(asked):
     if all(group["id"] != asked.which for group in asked.contest["groups"]):
         raise Refused("NotFound")
@@ -457,12 +485,19 @@ def listed(asked):
 
 
 REJUDGINGS = dict.fromkeys(("rejudgings", *rejudging_opinion.STEPS), rejudged)
+# The routes under /jury/ that are for administrators alone.
+ADMINISTRATORS = {
+    "finalize": clock_set,
+    "extension": clock_set,
+    "accounts": row_added,
+    "teams": row_added,
+    "tokens": row_changed,
+    "names": row_changed,
+}
 # By the name of a route, what a POST or PATCH is answered there, and what is read there; every other name is a collection.
 CHANGES = {
     "contest": clock_set,
-    "finalize": clock_set,
-    "accounts": row_added,
-    "teams": row_added,
+    **ADMINISTRATORS,
     "submissions": submitted,
     "clarifications": clarified,
     "proposals": lambda asked: propose(asked.contest, asked.now, asked.caller, asked.body),

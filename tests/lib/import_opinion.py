@@ -36,6 +36,10 @@ def is_name(value):
     return isinstance(value, str) and bool(re.fullmatch(r"[^\x00-\x1f\x7f-\x9f]+", value)) and len(value.encode()) <= 200
 
 
+def is_token(value):
+    return isinstance(value, str) and re.fullmatch(r"[A-Za-z0-9._~+/-]+=*", value) is not None and 8 <= len(value) <= 128
+
+
 def is_truth(value):
     return isinstance(value, bool)
 
@@ -166,6 +170,11 @@ def row_of(kind, row, contest):
     return COLLECTIONS[kind], made
 
 
+def digest_of(token):
+    """What is kept of the bytes of a token."""
+    return hashlib.sha256(token).hexdigest()
+
+
 def csv_row(kind, fields, contest):
     """The same of a record of a CSV file."""
     if len(fields) != 4:
@@ -177,12 +186,12 @@ def csv_row(kind, fields, contest):
         return "teams", {"id": row_id, "name": name, "group_ids": groups_of(ids, contest), "hidden": hidden}
     row_id, role = replay_opinion.identifier(fields[0]), fields[1].decode("utf-8", "replace")
     team = replay_opinion.identifier(fields[2]) if role == "team" else None
-    is_token = re.fullmatch(rb"[A-Za-z0-9._~+/-]+=*", fields[3]) and 8 <= len(fields[3]) <= 128
-    if row_id == "import" or role not in ("team", "judge", "admin", "analyst") or (team is None and fields[2]) or not is_token:
+    has_form = role in ("team", "judge", "admin", "analyst") and not (team is None and fields[2])
+    if row_id == "import" or not has_form or not is_token(fields[3].decode("utf-8", "replace")):
         raise Fault("Malformed")
     if team is not None and all(one["id"] != team for one in contest["teams"]):
         raise Fault("UnknownReference")
-    return "accounts", {"id": row_id, "role": role, "team": team, "digest": hashlib.sha256(fields[3]).hexdigest()}
+    return "accounts", {"id": row_id, "role": role, "team": team, "digest": digest_of(fields[3])}
 
 
 def posted_account(row, contest):

@@ -2,12 +2,16 @@
 
 from . import desk_opinion
 from .adder import Adder
+from .changer import Changer
 from .clarifier import Clarifier
-from .demo import AT_REHEARSAL
+from .demo import AT_REHEARSAL, START
 from .import_opinion import compact
-from .rehearsal import ACCOUNTS
+from .rehearsal import ACCOUNTS, END, FREEZE
 from .rejudger import AT_REJUDGINGS, Rejudger
+from .replay_opinion import reltime_text
 from .timekeeper import Timekeeper
+
+HOUR = 3_600_000
 
 
 def closing(contest):
@@ -23,7 +27,19 @@ def closing(contest):
     return asked + [("token-adm", None, "POST", "/jury/finalize", "")]
 
 
-class Requester(Adder, Clarifier, Rejudger, Timekeeper):
+def longer(contest, now):
+    """What an administrator asks: an hour more, from now on if the contest has ended."""
+    duration = max(contest["duration"], now - (START if contest["start"] is None else contest["start"])) + HOUR
+    return "token-adm", None, "POST", "/jury/extension", compact({"duration": reltime_text(duration)})
+
+
+def prolonging(chance, contest, now):
+    """A moment before the freeze, in it or after the end, not before now, and what an administrator asks then."""
+    now = max(now, chance.one([START, FREEZE, END]) + chance.random.randint(0, HOUR // 2))
+    return now, longer(contest, now)
+
+
+class Requester(Adder, Changer, Clarifier, Rejudger, Timekeeper):
     """What is asked next."""
 
     def submission(self, contest):
@@ -37,6 +53,8 @@ class Requester(Adder, Clarifier, Rejudger, Timekeeper):
             return self.about_clock(contest, accounts)
         if what > 0.93:
             return self.about_rows(contest, accounts)
+        if what > 0.89:
+            return self.about_changes(contest, accounts)
         if what < 0.5:
             return (self.about_clarifications if what < 0.25 else self.about_rejudgings)(contest, accounts)
         role = self.random.random()

@@ -14,10 +14,15 @@ BODIES = ["", "{", "[]", "null", "{}", '{"id":"rehearsal"}', '{"id":null,"start_
 class Timekeeper(Chance):
     """Choices of an administrator, that are often taken."""
 
+    def __init__(self, seed):
+        super().__init__(seed)
+        # On some days nobody lifts the freeze: else hardly a contest would be extended.
+        self.thaws = self.random.random() < 0.5
+
     def mark(self, contest):
         """A start or a thaw that is asked for, mostly one that may be set."""
         end = (contest["start"] or START) + contest["duration"]
-        if self.random.random() < 0.5:
+        if not self.thaws or self.random.random() < 0.5:
             start = moment(START + self.random.randint(-2_000_000, 2_000_000))
             return "start_time", self.often(start, [None, *TIMES, *WRONG_TIMES], 0.8)
         thaw = moment(end + self.often(self.random.randint(0, 9_000_000), [0, -1], 0.7))

@@ -10,12 +10,12 @@ from .clock import text_of
 from .demo import AT_REHEARSAL, START
 from .import_opinion import compact
 from .program import Program, ran
-from .rehearsal import END, files_of, judged, posted, sent
+from .rehearsal import END, FREEZE, files_of, judged, posted, sent
 from .server import Server, read_all
 from .sqlite import asked, dump
 
 POSTS = f"{AT_REHEARSAL}/submissions"
-EARLY, AT_TEN, AT_END = START - 3_600_000, START + 3_600_000, END + 1_000
+EARLY, AT_TEN, FROZEN, AT_END = START - 3_600_000, START + 3_600_000, FREEZE + 1_200_000, END + 1_000
 TEAMS = "id,name,group_ids,hidden\n" + "".join(f"n{n},Team {n},,\n" for n in range(1, 201))
 
 # What was asked before: minutes after nine, who asks, a path, a body. Three submissions; two of two teams; a submission that is
@@ -34,6 +34,9 @@ THAWED = compact({"id": "rehearsal", "scoreboard_thaw_time": clock.moment(END + 
 THAW = ("token-adm", None, "PATCH", AT_REHEARSAL, THAWED)
 LATE = ("token-adm", None, "POST", "/jury/teams", compact({"id": "t5", "name": "Late", "group_ids": ["north"]}))
 ACCOUNT = ("token-adm", None, "POST", "/jury/accounts", compact({"id": "n1", "role": "team", "team_id": "t1", "token": "token-n1"}))
+EXTENSION = ("token-adm", None, "POST", "/jury/extension", compact({"duration": "5:20:00"}))
+TOKEN = ("token-adm", None, "POST", "/jury/tokens", compact({"account_id": "a1", "token": "other-a1"}))
+NAME = ("token-adm", None, "POST", "/jury/names", compact({"team_id": "t1", "name": "Zeta"}))
 VERDICTS = "submission_id,judgement_type_id\ns1-1,AC\ns2-1,WA\n"
 
 
@@ -183,7 +186,8 @@ def upgrades(desk):
 
 
 def requests(desk):
-    """A submission with a key, a verdict, a rejudging of three that is applied, a thaw, a late team and an account."""
+    """A submission with a key, a verdict, a rejudging of three that is applied, a thaw, a late team and an account; an extension in the
+    freeze, a token that is replaced and a name that is corrected."""
     for name, calls, now, asked_for, is_repeated in (
         ("a submission", THREE, AT_TEN, ("token-a2", "k1", "POST", POSTS, posted(size=20_000)), SAME),
         ("a verdict", THREE, AT_TEN, ("token-j1", None, "POST", "/jury/proposals", judged("s1-1", "AC")), None),
@@ -191,5 +195,8 @@ def requests(desk):
         ("a thaw", THREE, AT_END, THAW, None),
         ("a late team", THREE, AT_TEN, LATE, SAME),
         ("an account", THREE, AT_TEN, ACCOUNT, SAME),
+        ("an extension", THREE, FROZEN, EXTENSION, SAME),
+        ("a token", THREE, AT_TEN, TOKEN, SAME),
+        ("a name", THREE, AT_TEN, NAME, SAME),
     ):
         yield Trial(desk, name, served(desk, calls), now, request(desk, sent(*asked_for)), is_repeated)
