@@ -4,7 +4,7 @@
     desk_verdicts.py [--program PATH] [--requests N] [--pairs N] [--seed N] [--leak]
 
 Contests are made by `desk init` and `desk import`, with verification and without, and the clock is stopped by faketime. First
-come the walks about verdicts, rejudgings and clarifications of crates/walks/data, reply by reply, over HTTP, and the last clarification that
+come the walks about verdicts, rejudgings, clarifications and extensions of crates/walks/data, reply by reply, over HTTP, and the last clarification that
 the jury may write to a team. Then N requests (20,000) made from a seed, by every role, before the freeze, in it and after it, in
 days whose clock administrators set and which they prolong, and at last beside final results, which sqlite3 sets between two
 servers: the replies are those of lib/desk_opinion.py. Then N pairs (5,000) of worlds that a team, or the public, may not tell
@@ -45,7 +45,8 @@ WALKS = ["Judgements, where nobody verifies", "Verdicts are verified", "The scor
          "What a clarification says", "What refuses a clarification first", "Keys of clarifications", "How many requests a team makes",
          "In which order clarifications stand", "A hidden team asks, and is written to", "Alpha beside others' clarifications",
          "Alpha beside none of others'", "A rejudging is applied", "A rejudging is cancelled", "What a rejudging is opened over",
-         "Members are verified", "Alpha beside a rejudging", "Alpha beside none"]  # fmt: skip
+         "Members are verified", "Alpha beside a rejudging", "Alpha beside none", "An extension before the freeze",
+         "An extension in the freeze", "An ended contest goes on", "How long a contest may be"]  # fmt: skip
 
 
 def made(desk, verification, thaw=None, finalized=None):
