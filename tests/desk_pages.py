@@ -6,7 +6,8 @@
 The demo contest, with verification and with names that look like markup or run from right to left, is served by the
 program behind Debian's nginx; the clock is set by faketime. In one tab each: a director sets the start, a team
 submits and asks, one judge proposes and answers, another verifies, an analyst watches, the public looks at the board
-before, in and after the freeze. A post whose reply breaks off, or whose desk is away, is sent again by a page that was
+before, in and after the freeze. The director adds a team, replaces its token, corrects its name, and extends the
+contest in the freeze. A post whose reply breaks off, or whose desk is away, is sent again by a page that was
 loaded anew. With --shots the pages are kept as pictures in that folder, wide and narrow.
 
 Takes nginx, openssl, chromium, chromium-driver and faketime. Ends with the line `N passed, M failed`; the exit status
@@ -179,6 +180,38 @@ def try_adding(pages):
     pages.sees("its account", "#told", "The token of a5 is ")
     pages.sign_in("late", "team", browser.text("#told").split()[5])
     pages.sees("who is signed in", "#who", "Late")
+
+
+def try_changes(pages):
+    """The late team loses its token and gets another one; its name was misspelt."""
+    browser = pages.browser
+    browser.look_at("director")
+    browser.type("#replace-account", "a7")
+    browser.click("#replace-button")
+    pages.is_sure("an account that isn't there", "Replace the token of a7?")
+    pages.sees("an account that isn't there", "#told", "One of the ids that were given isn't known.")
+    browser.type("#replace-account", "a5")
+    browser.click("#replace-button")
+    pages.is_sure("a lost token", "Replace the token of a5?")
+    pages.sees("a lost token", "#told", "The new token of a5 is ")
+    pages.sees("whose it is", "#told", "It is for Late. It is shown this once.")
+    token = browser.text("#told").split()[6]
+    browser.look_at("late")
+    pages.sees("the token that was lost", "#away", "No account has this token.")
+    browser.click("#sign-out")
+    browser.type("#token", token)
+    browser.click("#sign-in button")
+    pages.sees("who is signed in", "#who", "Late")
+    browser.look_at("director")
+    browser.choose_text("#correct-team", "Late")
+    browser.type("#correct-name", f"Latte {MARKUP}")
+    browser.click("#correct-button")
+    pages.is_sure("a misspelt name", f"Call the team Late from now on Latte {MARKUP}?")
+    pages.sees("a misspelt name", "#told", f"t5 is called Latte {MARKUP}.")
+    named = "return [...document.getElementById('correct-team').options].some((one) => one.text.startsWith('Latte'))"
+    pages.note(browser.comes(lambda: browser.run(named)), "the corrected name is among the teams")
+    browser.look_at("public")
+    pages.sees("the corrected name", "#board tbody", f"Latte {MARKUP}")
     browser.look_at("director")
     browser.click("#tab-Clock")
 
@@ -242,6 +275,32 @@ def try_freeze(pages):
     pages.lacks("the jury's board", "#board .pending")
 
 
+def try_extension(pages):
+    """Five minutes more in the freeze: the end moves, the freeze stays, and nothing that was held back is shown."""
+    browser = pages.browser
+    browser.look_at("director")
+    browser.type("#extension-duration", "4:59")
+    browser.click("#extension button")
+    pages.is_sure("shorter", "Extend the contest? It ends at Mar 2, 2024, 1:59:00")
+    pages.sees("shorter", "#told", "The desk doesn't set the clock so")
+    browser.type("#extension-duration", "5:05")
+    browser.click("#extension button")
+    pages.sees("the freeze", "dialog", "The freeze stays at Mar 2, 2024, 1:00:00")
+    pages.is_sure("five minutes more", "Extend the contest? It ends at Mar 2, 2024, 2:05:00")
+    pages.sees("five minutes more", "#told", "The contest ends at Mar 2, 2024, 2:05:00")
+    browser.look_at("public")
+    pages.sees("five minutes more", "#clock", "of 5:05:00")
+    pages.sees("the banner", "#banner", "The board is frozen")
+    pages.sees("the board", "#board .pending", "?1")
+    pages.at("2024-03-02 14:00:00")
+    browser.look_at("other")
+    pages.submits("a")
+    pages.sees("a submission after five hours", "#told", "The desk has your submission s2-2.")
+    pages.judges("judge1", "s2-2", "WA", "propose")
+    pages.judges("judge2", "s2-2", "WA", "verify")
+    pages.sees("its verdict", "#told", "s2-2: WA is verified.")
+
+
 def try_analyst(pages):
     """An analyst sees what the jury sees, and is shown nothing to do; a post of it is refused."""
     browser = pages.browser
@@ -268,7 +327,7 @@ def try_end(pages):
     browser.click("#finalize button")
     pages.is_sure("too soon", "Make the results final?")
     pages.sees("too soon", "#told", "The desk doesn't set the clock so")
-    pages.at("2024-03-02 14:00:00")
+    pages.at("2024-03-02 14:05:00")
     browser.click("#finalize button")
     pages.is_sure("final results", "Make the results final?")
     pages.sees("final results", "#told", "The results are final.")
@@ -307,7 +366,10 @@ def try_markup(pages):
     pages.same("the names at the desk", names[:3], [MARKUP, RIGHT, TURNED])
 
 
-PARTS = [try_start, try_team, try_verdicts, try_questions, try_adding, try_rejudging, try_freeze, try_analyst, try_end, try_markup]
+PARTS = [
+    try_start, try_team, try_verdicts, try_questions, try_adding, try_changes, try_rejudging, try_freeze, try_extension, try_analyst,
+    try_end, try_markup,
+]  # fmt: skip
 
 
 if __name__ == "__main__":

@@ -6,8 +6,8 @@ may be.
 
 The demo contest with verification is served by the program behind Debian's nginx; the clock is set by faketime. What a judge wrote
 to one team goes to no other and not to all, unless somebody says so. A group can be written to. No verdict, problem or language
-goes over from one submission to the next. Final results, the thaw and a rejudging are asked about. A text of too many bytes is
-told so.
+goes over from one submission to the next. Final results, the thaw, a rejudging, an extension, another token and another name are
+asked about. A text of too many bytes is told so.
 
 Takes nginx, openssl, chromium, chromium-driver and faketime. Ends with the line `N passed, M failed`; the exit status
 is 0 if M is 0.
@@ -201,6 +201,30 @@ def try_apply(pages):
     pages.sees("it is applied", "#told", f"Rejudging {rejudging} is applied.")
 
 
+def try_changes(pages):
+    """An extension, another token and another name likewise; a duration that is none isn't sent."""
+    browser = pages.browser
+    pages.sign_in("director", "jury", "token-adm")
+    browser.click("#tab-Clock")
+    browser.type("#extension-duration", "soon")
+    browser.click("#extension button")
+    pages.note(browser.text("dialog") is None, "a duration that is none is asked about")
+    browser.type("#extension-duration", "5:20:00")
+    browser.click("#extension button")
+    pages.is_sure("an extension", "Extend the contest? It ends at Mar 2, 2024, 2:20:00", "no")
+    pages.stay("as long as before", lambda: pages.listed(AT)["duration"], "5:00:00.000")
+    browser.click("#tab-Teams")
+    browser.type("#replace-account", "a1")
+    browser.click("#replace-button")
+    pages.is_sure("another token", "Replace the token of a1?", "no")
+    pages.stay("the first token", lambda: pages.listed(f"{AT}/account", "token-a1")["id"], "a1")
+    browser.choose_text("#correct-team", "Alpha")
+    browser.type("#correct-name", "Omega")
+    browser.click("#correct-button")
+    pages.is_sure("another name", "Call the team Alpha from now on Omega?", "no")
+    pages.stay("the first name", lambda: pages.listed(f"{AT}/teams/t1")["name"], "Alpha")
+
+
 def try_clock(pages):
     """Final results and the thaw likewise."""
     browser = pages.browser
@@ -210,7 +234,7 @@ def try_clock(pages):
         for token, step in (("token-j1", "proposals"), ("token-j2", "verifications")):
             pages.posts(token, f"jury/{step}", submission_id=submission, judgement_type_id="AC")
     pages.at("2024-03-02 14:00:00")
-    pages.sign_in("director", "jury", "token-adm")
+    browser.look_at("director")
     browser.click("#tab-Clock")
     browser.click("#finalize button")
     pages.is_sure("final results", "Make the results final?", "no")
@@ -231,7 +255,7 @@ def try_clock(pages):
 
 
 PARTS = [
-    try_drafts, try_groups, try_team_choices, try_verdict_choices, try_bytes, try_apply, try_clock
+    try_drafts, try_groups, try_team_choices, try_verdict_choices, try_bytes, try_apply, try_changes, try_clock
 ]  # fmt: skip
 
 if __name__ == "__main__":

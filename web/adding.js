@@ -1,7 +1,8 @@
-// What an administrator adds while the contest goes on: a team, and an account with a token that is made here.
+// What an administrator does about teams and accounts while the contest goes on: it adds a team, or an account with a
+// token that is made here, gives an account a new token, and corrects the name of a team.
 
-import { at, fill } from "./elements.js";
-import { choice, onSubmit } from "./forms.js";
+import { at, fill, freeText } from "./elements.js";
+import { choice, choicesOfNone, onSubmit } from "./forms.js";
 import { post } from "./posts.js";
 import { nameIn } from "./settings.js";
 import { isSure } from "./telling.js";
@@ -13,6 +14,7 @@ const ROLES = [
   { id: "analyst", name: "an analyst, who reads all and does nothing" },
 ];
 const NO_TEAM = { id: "", name: "none" };
+const ONCE = "It is shown this once.";
 
 export const TEAM = {
   name: "team", buttons: "#team-button", words: (team) => `${team.name} takes part, as ${team.id}.`,
@@ -20,14 +22,28 @@ export const TEAM = {
 // The desk keeps no token, so it is told here and never again.
 export const ACCOUNT = {
   name: "account", buttons: "#account-button",
-  words: (account, { value }) => `The token of ${account.id} is ${value.token} . It is shown this once.`,
+  words: (account, { value }) => `The token of ${account.id} is ${value.token} . ${ONCE}`,
 };
+export const TOKEN = {
+  name: "token", buttons: "#replace-button",
+  words: (account, { value }) => `The new token of ${account.id} is ${value.token} .${forWhom(account)} ${ONCE}`,
+};
+export const NAME = {
+  name: "name", buttons: "#correct-button", words: (team) => `${team.id} is called ${team.name}.`,
+};
+
+// The teams, as the settings were read last.
+let teams = new Map();
+const forWhom = ({ team_id: team }) => (team === null ? "" : ` It is for ${nameIn(teams, team)}.`);
 
 const newToken = () => Array.from(crypto.getRandomValues(new Uint8Array(12)), (byte) => LETTERS[byte % 32]).join("");
 
 export function showAddingChoices(jury) {
-  fill(at("account-role"), ROLES.map((role) => choice(role, ({ name }) => name)));
-  fill(at("account-team"), [NO_TEAM, ...jury.settings.teams.values()].map((team) => choice(team, ({ name }) => name)));
+  teams = jury.settings.teams;
+  const rows = [...teams.values()], nameOf = ({ name }) => name;
+  fill(at("account-role"), ROLES.map((role) => choice(role, nameOf)));
+  fill(at("account-team"), [NO_TEAM, ...rows].map((team) => choice(team, nameOf)));
+  choicesOfNone(at("correct-team"), rows, nameOf);
 }
 
 async function addTeam(jury) {
@@ -51,7 +67,26 @@ async function addAccount(jury) {
   if ((await post(ACCOUNT, "jury/accounts", value)) !== null) at("account").reset();
 }
 
+async function replaceToken() {
+  const value = { account_id: at("replace-account").value, token: newToken() };
+  const question = `Replace the token of ${value.account_id}? The one that it has is unknown from then on.`;
+  if (!(await isSure("Replace it", question))) return;
+  if ((await post(TOKEN, "jury/tokens", value)) !== null) at("replace").reset();
+}
+
+async function correctName(jury) {
+  const value = { team_id: at("correct-team").value, name: at("correct-name").value };
+  const names = [nameIn(jury.settings.teams, value.team_id), value.name].map((name) => freeText(name));
+  if (!(await isSure("Correct it", "Call the team ", names[0], " from now on ", names[1], "?"))) return;
+  if ((await post(NAME, "jury/names", value)) === null) return;
+  at("correct").reset();
+  jury.isBehind = true;
+  jury.renew();
+}
+
 export function beginAdding(jury) {
   onSubmit("team", () => addTeam(jury));
   onSubmit("account", () => addAccount(jury));
+  onSubmit("replace", replaceToken);
+  onSubmit("correct", () => correctName(jury));
 }

@@ -1,22 +1,34 @@
-// What an administrator sets: the start, the thaw and final results.
+// What an administrator sets: the start, how long the contest lasts, the thaw and final results.
 
+import { clockText, secondsOf } from "./board.js";
+import { ask } from "./desk.js";
 import { at, element, fill } from "./elements.js";
 import { onSubmit } from "./forms.js";
 import { post } from "./posts.js";
-import { isSure } from "./telling.js";
+import { doing, isSure } from "./telling.js";
 
 export const CLOCK = {
   name: "clock", buttons: "#times button",
   words: (_, { method }) => (method === "PATCH" ? "The clock is set." : "The results are final."),
 };
+export const EXTENSION = {
+  name: "extension", buttons: "#times button", words: (contest) => `The contest ${endText(contest, contest.duration)}.`,
+};
 const MOMENTS = [
   ["started", "Started"], ["frozen", "Frozen"], ["ended", "Ended"], ["finalized", "Final results"],
   ["thawed", "Thawed"], ["end_of_updates", "Nothing changes any more"],
 ];
+const SHORTER = "It can't be made shorter again.";
 const FINAL = "Make the results final? That can't be taken back.";
 
 // A moment by this machine's clock, with the name of its time zone at that moment.
 const timeText = (time) => new Date(time).toLocaleString(undefined, { dateStyle: "medium", timeStyle: "long" });
+
+// When a contest ends that lasts so long; how long it lasts, if no start is set.
+function endText({ start_time: start }, duration) {
+  const seconds = secondsOf(duration);
+  return start === null ? `lasts ${clockText(seconds)}` : `ends at ${timeText(Date.parse(start) + seconds * 1000)}`;
+}
 
 export function showMoments(contest, state) {
   const rows = [["Start that is set", contest.start_time], ["Thaw that is set", contest.scoreboard_thaw_time]];
@@ -29,6 +41,21 @@ export function showMoments(contest, state) {
 
 async function set(jury, member, field) {
   await post(CLOCK, jury.path, { [member]: new Date(at(field).value).toISOString() }, "PATCH");
+  jury.renew();
+}
+
+// Hours and minutes get their seconds: all else goes to the desk as it stands.
+const durationOf = (text) => (/^\d+:\d\d$/.test(text) ? `${text}:00` : text);
+
+async function extend(jury) {
+  const duration = durationOf(at("extension-duration").value);
+  const found = await doing(() => Promise.all([ask(jury.path), ask(`${jury.path}/state`)]));
+  if (found === null) return;
+  const [contest, { frozen }] = found;
+  const stays = frozen === null ? "" : ` The freeze stays at ${timeText(frozen)}.`;
+  const question = `Extend the contest? It ${endText(contest, duration)} then.${stays} ${SHORTER}`;
+  if (!(await isSure("Extend it", question))) return;
+  if ((await post(EXTENSION, "jury/extension", { duration })) !== null) at("extension").reset();
   jury.renew();
 }
 
@@ -47,6 +74,7 @@ async function finalize(jury) {
 export function beginClock(jury) {
   at("zone").textContent = Intl.DateTimeFormat().resolvedOptions().timeZone;
   onSubmit("start", () => set(jury, "start_time", "start-time"));
+  onSubmit("extension", () => extend(jury));
   onSubmit("thaw", () => thaw(jury));
   onSubmit("finalize", () => finalize(jury));
 }

@@ -1,10 +1,10 @@
 // The jury's page. What each part of it does stands in a file of its own; this one reads the contest and shows the
 // parts.
 
-import { ACCOUNT, beginAdding, showAddingChoices, TEAM } from "./adding.js";
+import { ACCOUNT, beginAdding, NAME, showAddingChoices, TEAM, TOKEN } from "./adding.js";
 import { ANSWER, beginAnswers, showAnswerChoices, showClarifications } from "./answers.js";
 import { awardItem, showBoard, showState } from "./board.js";
-import { beginClock, CLOCK, showMoments } from "./clock.js";
+import { beginClock, CLOCK, EXTENSION, showMoments } from "./clock.js";
 import { ask, Refusal } from "./desk.js";
 import { at, button, fill } from "./elements.js";
 import { beginJudging, showJudged, showVerdictChoices, showWaiting, VERDICT } from "./judging.js";
@@ -62,7 +62,7 @@ async function begin() {
   beginClock(jury);
   beginAdding(jury);
   jury.renew = renewing(renew, SECONDS);
-  await sendKept([ANSWER, VERDICT, REJUDGING, CLOCK, TEAM, ACCOUNT]);
+  await sendKept([ANSWER, VERDICT, REJUDGING, CLOCK, EXTENSION, TEAM, ACCOUNT, TOKEN, NAME]);
   await jury.renew();
 }
 

@@ -7,7 +7,7 @@
 // its token, in the name under which the post is kept. That is all that stays of a token after sign-out, and only while
 // a post waits. The desk keeps no more of a token either: whoever reads the digest would have to try all tokens. A name
 // that is made anew at each sign-in would say still less, but not that the same account is there again. A post that
-// adds an account has that account's token in it, until it is answered.
+// adds an account, or replaces its token, has that token in it, until it is answered.
 
 import { change, persistently, Refusal } from "./desk.js";
 import { digestOf } from "./digest.js";
