@@ -174,6 +174,7 @@ def try_adding(pages):
     has_team = "return [...document.getElementById('account-team').options].some((one) => one.value === 't5')"
     pages.note(browser.comes(lambda: browser.run(has_team)), "a late team may get an account")
     browser.type("#account-id", "a5")
+    pages.note(not browser.run("return document.getElementById('account').checkValidity()"), "an account for a team has a team")
     browser.choose("#account-team", "t5")
     browser.click("#account-button")
     pages.is_sure("its account", "Add the account a5 of Late?")

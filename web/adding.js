@@ -44,6 +44,14 @@ export function showAddingChoices(jury) {
   fill(at("account-role"), ROLES.map((role) => choice(role, nameOf)));
   fill(at("account-team"), [NO_TEAM, ...rows].map((team) => choice(team, nameOf)));
   choicesOfNone(at("correct-team"), rows, nameOf);
+  askForTeam();
+}
+
+// An account for a team has one, and no other has.
+function askForTeam() {
+  const isForTeam = at("account-role").value === "team";
+  at("account-team").required = isForTeam;
+  at("account-team").disabled = !isForTeam;
 }
 
 async function addTeam(jury) {
@@ -60,11 +68,13 @@ async function addTeam(jury) {
 
 async function addAccount(jury) {
   const value = { id: at("account-id").value, role: at("account-role").value, token: newToken() };
-  const team = at("account-team").value;
+  const team = value.role === "team" ? at("account-team").value : "";
   if (team !== "") value.team_id = team;
   const whose = team === "" ? "" : ` of ${nameIn(jury.settings.teams, team)}`;
   if (!(await isSure("Add it", `Add the account ${value.id}${whose}? It can't be taken back.`))) return;
-  if ((await post(ACCOUNT, "jury/accounts", value)) !== null) at("account").reset();
+  if ((await post(ACCOUNT, "jury/accounts", value)) === null) return;
+  at("account").reset();
+  askForTeam();
 }
 
 async function replaceToken() {
@@ -87,6 +97,7 @@ async function correctName(jury) {
 export function beginAdding(jury) {
   onSubmit("team", () => addTeam(jury));
   onSubmit("account", () => addAccount(jury));
+  at("account-role").addEventListener("change", askForTeam);
   onSubmit("replace", replaceToken);
   onSubmit("correct", () => correctName(jury));
 }
