@@ -28,7 +28,7 @@ use Rattle.contest_rules.specs.Extensions.{extension}
 use Rattle.contest_rules.specs.declared.extensions.WantedExtension.{WantedExtension}
 use Rattle.contest_rules.specs.ClockChanges.{has_ended}
 use Rattle.contest_rules.specs.declared.rule_refusal.RuleRefusal.{RuleRefusal}
-use Rattle.contest_rules.specs.declared.rule_refusal.RuleRefusal.TheVariants.{UnknownReference, KeyReused, NotOpen, TeamLimit}
+use Rattle.contest_rules.specs.declared.rule_refusal.RuleRefusal.TheVariants.{AlreadyReleased, KeyReused, Malformed, NotOpen, TeamLimit, UnknownReference}
 use Rattle.contest_postings.specs.DoneThings.{Done, done_as, ruled_with}
 use Rattle.contest_postings.specs.declared.changes.MadeChange.{MadeChange}
 use Rattle.contest_postings.specs.declared.changes.FixedChange.{FixedChange}
@@ -40,13 +40,20 @@ use Rattle.contest_postings.specs.declared.changes.WantedChange.TheVariants as w
 abbrev pub is_over : FixedPart → (now : ℕ) → Bool
 is_over f now = has_ended (phase_at f.settings f.marks now) || is_some f.marks.finalized
 
+-- the refusal of a command for what refuses a row
+abbrev pub refusal_for : Cause → RuleRefusal
+refusal_for cause.Malformed = Malformed
+refusal_for cause.UnknownReference = UnknownReference
+refusal_for cause.KeyReused = KeyReused
+refusal_for cause.TableFull = TeamLimit
+refusal_for cause.AlreadyReleased = AlreadyReleased
+refusal_for cause.NotOpen = NotOpen
+
 -- what adding a row comes to: after the end none is added; an equal one that stands adds nothing, at any time
 abbrev pub ruled_row : (over : Bool) → Result Bool Cause → Result Bool RuleRefusal
 ruled_row over (Ok is_new) = if is_new && over then Err NotOpen else Ok is_new
-ruled_row over (Err cause.KeyReused) = Err KeyReused
 ruled_row over (Err cause.TableFull) = if over then Err NotOpen else Err TeamLimit
--- the only other cause is a team or a group that isn't there
-ruled_row over (Err _) = Err UnknownReference
+ruled_row over (Err c) = Err (refusal_for c)
 
 abbrev pub made_as : FixedChange → Result Bool RuleRefusal → Result MadeChange RuleRefusal
 made_as change r = ruled_with (λ is_new. record { change = change; is_new = is_new }) r

@@ -2,8 +2,8 @@
 ghost use Rattle.std.specs.Prelude.{◌≡◌, Ok, Err, IfOk, IfErr};
 ghost use Rattle.contest_import.specs.CsvFiles.{account_of};
 ghost use Rattle.contest_import.specs.Teams.{named_team};
-ghost use Rattle.contest_postings.specs.PostChanges.{account_added, is_over, made_as, ruled_row};
-ghost use Rattle.contest_postings.specs.PostChanges.{team_added};
+ghost use Rattle.contest_postings.specs.PostChanges.{account_added, is_over, made_as, refusal_for};
+ghost use Rattle.contest_postings.specs.PostChanges.{ruled_row, team_added};
 
 use crate::changes::{FixedChange, MadeChange};
 use contest_import::{
@@ -91,10 +91,21 @@ fn ruled_row(over: bool, added: Result<bool, Cause>) -> Result<bool, RuleRefusal
     match added {
         Ok(is_new) if is_new && over => Err(RuleRefusal::NotOpen),
         Ok(is_new) => Ok(is_new),
-        Err(Cause::KeyReused) => Err(RuleRefusal::KeyReused),
         Err(Cause::TableFull) if over => Err(RuleRefusal::NotOpen),
-        Err(Cause::TableFull) => Err(RuleRefusal::TeamLimit),
-        Err(Cause::UnknownReference | Cause::Malformed | Cause::AlreadyReleased | Cause::NotOpen) =>
-            Err(RuleRefusal::UnknownReference),
+        Err(cause) => Err(refusal_for(cause)),
+    }
+}
+
+// The refusal of a command for what refuses a row.
+fn refusal_for(cause: Cause) -> RuleRefusal
+    ensures { result ≡ refusal_for cause }
+{
+    match cause {
+        Cause::Malformed => RuleRefusal::Malformed,
+        Cause::UnknownReference => RuleRefusal::UnknownReference,
+        Cause::KeyReused => RuleRefusal::KeyReused,
+        Cause::TableFull => RuleRefusal::TeamLimit,
+        Cause::AlreadyReleased => RuleRefusal::AlreadyReleased,
+        Cause::NotOpen => RuleRefusal::NotOpen,
     }
 }
