@@ -127,8 +127,8 @@ module _ (s : Setup) (team : ℕ) (name : List ℕ) where
       ap₂ ◌++◌ types (ap₂ ◌++◌ languages (ap₂ ◌++◌ groups (ap₂ ◌++◌ problems (teams_changed 0 s.teams) ∙ joined problem_row s.problems _) ∙ joined group_row s.groups _) ∙ joined language_row s.languages _)
       ∙ joined type_row s.types _
     where
-      joined : {X : Type 0} (row : ℕ → X → Row) (xs : List X) (rows : List Row) → map change (rows_from row 1 xs) ++ map change rows ≡ map change (rows_from row 1 xs ++ rows)
-      joined row xs rows = sym (map-append change (rows_from row 1 xs) rows)
+      joined : {X : Type 0} (made : ℕ → X → Row) (xs : List X) (rows : List Row) → map change (rows_from made 1 xs) ++ map change rows ≡ map change (rows_from made 1 xs ++ rows)
+      joined made xs rows = sym (map-append change (rows_from made 1 xs) rows)
 
 -- rows of settings are held
 items_held : (s : Setup) → All (IsHeld (form_of Items)) (items_rows s)
