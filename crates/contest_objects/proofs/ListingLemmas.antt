@@ -1,5 +1,5 @@
 -- Rows in an order, and what is served of them.
-use Rattle.std.proofs.Common.{◌≡◌, ◌<◌, ◌+◌, ℕ, Bool, true, false, inl, inr, List, [], ◌∷◌, ◌++◌, map, take, get_or, length, Option, Some, None, refl, sym, ap, subst, ◌∙◌, arith}
+use Rattle.std.proofs.Common.{◌≡◌, ◌<◌, ◌+◌, ℕ, Bool, true, false, inl, inr, List, [], ◌∷◌, ◌++◌, append_assoc, map, take, get_or, length, Option, Some, None, refl, sym, ap, subst, ◌∙◌, arith}
 use Rattle.std.specs.Prelude.{bytes_eq, find, if◌then◌else◌}
 use Rattle.std.specs.List.{cons_option, filter_map, swap}
 use Rattle.std.specs.List.Sorted.{IsPermutation, IsSortedBy, SwapsInRange, apply_swaps}
@@ -151,6 +151,22 @@ mapped_served {V} {W} {Z} f g (v ∷ vs) =
     let rest = mapped_served f g vs in
     let go : (o : Option W) → cons_option (option_map f o) (filter_map (λ u. option_map f (g u)) vs) ≡ map f (cons_option o (filter_map g vs)) = elim [ None ↦ rest | (Some w) ↦ ap (λ zs. f w ∷ zs) rest ] in
     go (g v)
+
+-- the same of rows that are looked at through a map
+pub mapped_through : {R X Z W : Type 0} (f : Z → W) (item : X → Option Z) (now : R → X) (rows : List R) → filter_map (λ r. option_map f (item (now r))) rows ≡ map f (filter_map item (map now rows))
+mapped_through f item now [] = refl
+mapped_through {R} {X} {Z} {W} f item now (r ∷ rows) =
+    let rest = mapped_through f item now rows in
+    let go : (o : Option Z) → cons_option (option_map f o) (filter_map (λ s. option_map f (item (now s))) rows) ≡ map f (cons_option o (filter_map item (map now rows))) = elim [ None ↦ rest | (Some z) ↦ ap (λ ws. f z ∷ ws) rest ] in
+    go (item (now r))
+
+-- what is shown of one more, behind what was there
+pub next_behind : {X Y : Type 0} (show : X → Option Y) (xs : List X) (i : ℕ) (d : X) (old before after : List Y) → i < length xs → before ≡ old ++ filter_map show (take i xs)
+    → after ≡ before ++ option_to_list (show (get_or xs i d)) → after ≡ old ++ filter_map show (take (i + 1) xs)
+next_behind show xs i d old before after l was is =
+    let so_far = filter_map show (take i xs) in
+    let one = option_to_list (show (get_or xs i d)) in
+    is ∙ (ap (λ ys. ys ++ one) was ∙ (append_assoc old so_far one ∙ ap (λ ys. old ++ ys) (next_shown show xs i d so_far (so_far ++ one) l refl refl)))
 
 -- of lists with the same elements, of which one passes, the same is found
 pub find_alike : {X : Type 0} (p : X → Bool) (xs ys : List X) → ((z : X) → Has xs z → Has ys z) → ((z : X) → Has ys z → Has xs z)

@@ -12,3 +12,5 @@ pub mod JudgementObjects
 pub mod RejudgingObjects
 pub mod AwardObjects
 pub mod AccountObjects
+pub mod EventFeed
+pub mod CollectionObjects

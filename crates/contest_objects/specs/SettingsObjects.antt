@@ -49,16 +49,20 @@ team_item s t = record {
 }
 
 -- problems by ordinal, then id
-abbrev pub problems_data : Setup → Data
-problems_data s = array_of (map problem_item (filter_map (slice_get s.problems) (problem_order s)))
+abbrev pub problem_items : Setup → List Item
+problem_items s = map problem_item (filter_map (slice_get s.problems) (problem_order s))
 
 -- all objects of an endpoint; all but problems in the order in which they were imported
+abbrev pub settings_items : SettingsEndpoint → Setup → List Item
+settings_items Languages s = map language_item s.languages
+settings_items JudgementTypes s = map type_item s.types
+settings_items Groups s = map group_item s.groups
+settings_items Problems s = problem_items s
+settings_items Teams s = map (team_item s) s.teams
+
+-- the array of them
 abbrev pub settings_data : SettingsEndpoint → Setup → Data
-settings_data Languages s = array_of (map language_item s.languages)
-settings_data JudgementTypes s = array_of (map type_item s.types)
-settings_data Groups s = array_of (map group_item s.groups)
-settings_data Problems s = problems_data s
-settings_data Teams s = array_of (map (team_item s) s.teams)
+settings_data endpoint s = array_of (settings_items endpoint s)
 
 -- the one with this id
 abbrev pub setting_found : SettingsEndpoint → Setup → (id : List ℕ) → Option Data

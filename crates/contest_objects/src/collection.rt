@@ -1,16 +1,18 @@
 //! Collections as they are served: listed in an order, and looked up by id, whatever they hold.
-ghost use Rattle.std.specs.Prelude.{◌≡◌, ◌++◌, Option, Some, slice_get, IfOk, OnOk};
-ghost use Rattle.std.specs.Prelude.{map, find, option_map, IsPermutation, IsSorted};
+ghost use Rattle.std.specs.Prelude.{◌≡◌, ◌++◌, ℕ, List, Option, Some, slice_get, IfOk, OnOk};
+ghost use Rattle.std.specs.Prelude.{IfSome, map, find, option_map};
 ghost use Rattle.std.specs.Cmp.{IsTotalOrder};
 ghost use Rattle.std.specs.List.{filter_map, flat_map};
 ghost use Rattle.std.specs.Option.{option_to_list};
 ghost use Rattle.std.specs.declared.cmp.Ordering.{Ordering as TheOrdering};
 ghost use Rattle.serde_json.specs.Written.{compact_text};
-ghost use Rattle.contest_objects.specs.Items.{Item, IsListed, array_of, found_in, has_this_id};
-ghost use Rattle.contest_objects.specs.Items.{object_in};
+ghost use Rattle.contest_objects.specs.CollectionObjects.{collection_of, item_of};
+ghost use Rattle.contest_objects.specs.Items.{Item, IsListed, IsOrderOf, array_of, found_in};
+ghost use Rattle.contest_objects.specs.Items.{has_this_id, object_in};
 ghost use Rattle.contest_objects.specs.JsonTokens.{Wrote, value_tokens};
 
-use crate::json_text::{begin_array, end_array};
+use crate::collection_object::CollectionObject;
+use crate::json_text::{Served, begin_array, end_array};
 use json::Writer;
 use std::alloc::{AllocError, Global};
 use std::cmp::Ordering;
@@ -24,17 +26,13 @@ pub trait Collection {
     /// A row as it is served; none where it isn't.
     ghost item: { Self → Self.Row → Option Item };
 
-    /// Whether a row is served, and a text is its id, byte for byte.
-    fn has_id(&self, row: &Self::Row, id: &[u8]) -> bool
-        ensures { result ≡ has_this_id id.now (item self.now row.now) };
+    /// Its name.
+    ghost name: { List ℕ };
 
-    /// Writes the object of a row behind what stands in a text, where it is served.
-    ///
-    /// # Errors
-    ///
-    /// Want of memory alone.
-    fn write(&self, out: &mut Writer, row: &Self::Row) -> Result<(), AllocError>
-        ensures { OnOk result (Wrote out.old out.new (value_tokens (object_in (item self.now row.now)))) };
+    /// The object of a row, where it is served.
+    fn object<'r>(&'r self, row: &'r Self::Row) -> Option<CollectionObject<'r>>
+        ensures item { option_map item_of result ≡ item self.now row.now }
+        ensures name { IfSome result (λ o. collection_of o ≡ name) };
 }
 
 /// A collection that is listed in an order of its own.
@@ -127,14 +125,17 @@ pub fn get_whole<C: Whole>(
     Ok(found)
 }
 
-// The rows in their order.
-fn sorted<'r, C: Ordered>(
+/// References to the rows, in their order.
+///
+/// # Errors
+///
+/// Want of memory alone.
+pub fn sorted<'r, C: Ordered>(
     alloc: Global,
     collection: &C,
     rows: &'r [C::Row],
 ) -> Result<Vec<&'r C::Row>, AllocError>
-    ensures moved { IfOk result (λ refs. IsPermutation rows.now (map (λ r. r.now) refs.items)) }
-    ensures sorted { IfOk result (λ refs. IsSorted (C.cmp collection.now) (map (λ r. r.now) refs.items)) }
+    ensures { IfOk result (λ refs. IsOrderOf (C.cmp collection.now) rows.now (map (λ r. r.now) refs.items)) }
 {
     let mut refs = refs(alloc, rows)?;
     refs.sort_unstable_by(|first, second| collection.compare(*first, *second));
@@ -156,7 +157,16 @@ pub fn refs<T>(alloc: Global, rows: &[T]) -> Result<Vec<&T>, AllocError>
     Ok(refs)
 }
 
-fn refs_at<'r, T>(alloc: Global, rows: &'r [T], places: &[usize]) -> Result<Vec<&'r T>, AllocError>
+/// References to the rows at these places.
+///
+/// # Errors
+///
+/// Want of memory alone.
+pub(crate) fn refs_at<'r, T>(
+    alloc: Global,
+    rows: &'r [T],
+    places: &[usize],
+) -> Result<Vec<&'r T>, AllocError>
     ensures { IfOk result (λ refs. map (λ r. r.now) refs.items ≡ filter_map (slice_get rows.now) places.now) }
 {
     let mut refs = Vec::new(alloc);
@@ -206,9 +216,33 @@ fn write_each<C: Collection>(
     ensures { OnOk result (Wrote out.old out.new (flat_map (λ r. value_tokens (object_in (C.item collection.now r.now))) rows.now)) }
 {
     for row in rows {
-        collection.write(out, *row)?;
+        write_row(out, collection, *row)?;
     }
     Ok(())
+}
+
+// Writes the object of a row, where it is served.
+fn write_row<C: Collection>(
+    out: &mut Writer,
+    collection: &C,
+    row: &C::Row,
+) -> Result<(), AllocError>
+    ensures { OnOk result (Wrote out.old out.new (value_tokens (object_in (C.item collection.now row.now)))) }
+{
+    match collection.object(row) {
+        Some(object) => object.write(out),
+        None => Ok(()),
+    }
+}
+
+// Whether a row is served, and a text is its id, byte for byte.
+fn has_id<C: Collection>(collection: &C, row: &C::Row, id: &[u8]) -> bool
+    ensures { result ≡ has_this_id id.now (C.item collection.now row.now) }
+{
+    match collection.object(row) {
+        Some(object) => object.has_id(id),
+        None => false,
+    }
 }
 
 /// The text of the object with an id, if one of these rows is served under it: what isn't served is as what
@@ -243,12 +277,12 @@ fn row_text<C: Collection>(
     ensures { (i : Item) → C.item collection.now row.now ≡ Some i → IfOk result (λ text. text.items ≡ compact_text i.object) }
 {
     let mut out = Writer::new(Vec::new(alloc));
-    collection.write(&mut out, row)?;
+    write_row(&mut out, collection, row)?;
     Ok(out.into_inner())
 }
 
 fn with_id<'r, C: Collection>(collection: &C, rows: &'r [C::Row], id: &[u8]) -> Option<&'r C::Row>
     ensures { option_map (λ r. r.now) result ≡ find (λ r. has_this_id id.now (C.item collection.now r)) rows.now }
 {
-    rows.iter().find(|row| collection.has_id(row, id))
+    rows.iter().find(|row| has_id(collection, row, id))
 }

@@ -1,10 +1,12 @@
 //! The rows of a contest's settings as they are served: everybody is served all of them alike.
 ghost use Rattle.std.specs.Prelude.{◌≡◌, IfOk, option_map};
 ghost use Rattle.serde_json.specs.Written.{compact_text};
-ghost use Rattle.contest_objects.specs.SettingsObjects.{problems_data, setting_found};
+ghost use Rattle.contest_objects.specs.Items.{array_of};
+ghost use Rattle.contest_objects.specs.SettingsObjects.{problem_items, setting_found};
 ghost use Rattle.contest_objects.specs.SettingsObjects.{settings_data};
 
 use crate::collection::{Collection, Whole, get_whole, list_at, list_whole};
+use crate::collection_object::CollectionObject;
 use crate::json_text::Served;
 use crate::members::{IdKind, Member, write_object};
 use contest_types::{Group, JudgementType, Language, Problem, Settings, Team, problem_order};
@@ -79,10 +81,28 @@ pub fn setting_text(
 }
 
 fn problems_text(alloc: Global, settings: &Settings) -> Result<Vec<u8>, AllocError>
-    ensures { IfOk result (λ text. text.items ≡ compact_text (problems_data settings.now)) }
+    ensures { IfOk result (λ text. text.items ≡ compact_text (array_of (problem_items settings.now))) }
 {
     let places = problem_order(alloc, settings)?;
     list_at(alloc, &Problems, settings.problems(), &places)
+}
+
+impl Served for JudgementType {
+    ghost use Rattle.contest_objects.specs.SettingsObjects.{type_item};
+
+    ghost value = { λ o. (type_item o).object };
+
+    fn write(&self, out: &mut Writer) -> Result<(), AllocError> {
+        write_object(
+            out,
+            &[
+                ("id", Member::Text(self.id.as_str())),
+                ("name", Member::Text(self.name.as_str())),
+                ("penalty", Member::Flag(self.penalty)),
+                ("solved", Member::Flag(self.solved)),
+            ],
+        )
+    }
 }
 
 /// Judgement types (Contest API 2023-06, judgement-types): `id`, `name`, `penalty` and `solved`.
@@ -90,27 +110,17 @@ fn problems_text(alloc: Global, settings: &Settings) -> Result<Vec<u8>, AllocErr
 pub struct JudgementTypes;
 
 impl Collection for JudgementTypes {
-    ghost use Rattle.std.specs.Prelude.{Some};
+    ghost use Rattle.std.specs.Prelude.{Some, codes};
     ghost use Rattle.contest_objects.specs.SettingsObjects.{type_item};
 
     type Row = JudgementType;
 
     ghost item = { λ c row. Some (type_item row) };
 
-    fn has_id(&self, row: &JudgementType, id: &[u8]) -> bool {
-        row.id.as_bytes() == id
-    }
+    ghost name = { codes "judgement-types" };
 
-    fn write(&self, out: &mut Writer, row: &JudgementType) -> Result<(), AllocError> {
-        write_object(
-            out,
-            &[
-                ("id", Member::Text(row.id.as_str())),
-                ("name", Member::Text(row.name.as_str())),
-                ("penalty", Member::Flag(row.penalty)),
-                ("solved", Member::Flag(row.solved)),
-            ],
-        )
+    fn object<'r>(&'r self, row: &'r JudgementType) -> Option<CollectionObject<'r>> {
+        Some(CollectionObject::JudgementType(row))
     }
 }
 
@@ -123,34 +133,42 @@ impl Whole for JudgementTypes {
     ghost all = { λ c row. refl };
 }
 
+impl Served for Language {
+    ghost use Rattle.contest_objects.specs.SettingsObjects.{language_item};
+
+    ghost value = { λ o. (language_item o).object };
+
+    fn write(&self, out: &mut Writer) -> Result<(), AllocError> {
+        write_object(
+            out,
+            &[
+                (
+                    "entry_point_required",
+                    Member::Flag(self.entry_point_required),
+                ),
+                ("id", Member::Text(self.id.as_str())),
+                ("name", Member::Text(self.name.as_str())),
+            ],
+        )
+    }
+}
+
 /// Languages (Contest API 2023-06, languages): `entry_point_required`, `id` and `name`.
 #[derive(Clone, Copy)]
 pub struct Languages;
 
 impl Collection for Languages {
-    ghost use Rattle.std.specs.Prelude.{Some};
+    ghost use Rattle.std.specs.Prelude.{Some, codes};
     ghost use Rattle.contest_objects.specs.SettingsObjects.{language_item};
 
     type Row = Language;
 
     ghost item = { λ c row. Some (language_item row) };
 
-    fn has_id(&self, row: &Language, id: &[u8]) -> bool {
-        row.id.as_bytes() == id
-    }
+    ghost name = { codes "languages" };
 
-    fn write(&self, out: &mut Writer, row: &Language) -> Result<(), AllocError> {
-        write_object(
-            out,
-            &[
-                (
-                    "entry_point_required",
-                    Member::Flag(row.entry_point_required),
-                ),
-                ("id", Member::Text(row.id.as_str())),
-                ("name", Member::Text(row.name.as_str())),
-            ],
-        )
+    fn object<'r>(&'r self, row: &'r Language) -> Option<CollectionObject<'r>> {
+        Some(CollectionObject::Language(row))
     }
 }
 
@@ -163,32 +181,40 @@ impl Whole for Languages {
     ghost all = { λ c row. refl };
 }
 
+impl Served for Problem {
+    ghost use Rattle.contest_objects.specs.SettingsObjects.{problem_item};
+
+    ghost value = { λ o. (problem_item o).object };
+
+    fn write(&self, out: &mut Writer) -> Result<(), AllocError> {
+        write_object(
+            out,
+            &[
+                ("id", Member::Text(self.id.as_str())),
+                ("label", Member::Text(self.label.as_str())),
+                ("name", Member::Text(self.name.as_str())),
+                ("ordinal", Member::Number(u64::from(self.ordinal))),
+            ],
+        )
+    }
+}
+
 /// Problems (Contest API 2023-06, problems): `id`, `label`, `name` and `ordinal`.
 #[derive(Clone, Copy)]
 pub struct Problems;
 
 impl Collection for Problems {
-    ghost use Rattle.std.specs.Prelude.{Some};
+    ghost use Rattle.std.specs.Prelude.{Some, codes};
     ghost use Rattle.contest_objects.specs.SettingsObjects.{problem_item};
 
     type Row = Problem;
 
     ghost item = { λ c row. Some (problem_item row) };
 
-    fn has_id(&self, row: &Problem, id: &[u8]) -> bool {
-        row.id.as_bytes() == id
-    }
+    ghost name = { codes "problems" };
 
-    fn write(&self, out: &mut Writer, row: &Problem) -> Result<(), AllocError> {
-        write_object(
-            out,
-            &[
-                ("id", Member::Text(row.id.as_str())),
-                ("label", Member::Text(row.label.as_str())),
-                ("name", Member::Text(row.name.as_str())),
-                ("ordinal", Member::Number(u64::from(row.ordinal))),
-            ],
-        )
+    fn object<'r>(&'r self, row: &'r Problem) -> Option<CollectionObject<'r>> {
+        Some(CollectionObject::Problem(row))
     }
 }
 
@@ -201,30 +227,38 @@ impl Whole for Problems {
     ghost all = { λ c row. refl };
 }
 
+impl Served for Group {
+    ghost use Rattle.contest_objects.specs.SettingsObjects.{group_item};
+
+    ghost value = { λ o. (group_item o).object };
+
+    fn write(&self, out: &mut Writer) -> Result<(), AllocError> {
+        write_object(
+            out,
+            &[
+                ("id", Member::Text(self.id.as_str())),
+                ("name", Member::Text(self.name.as_str())),
+            ],
+        )
+    }
+}
+
 /// Groups (Contest API 2023-06, groups): `id` and `name`.
 #[derive(Clone, Copy)]
 pub struct Groups;
 
 impl Collection for Groups {
-    ghost use Rattle.std.specs.Prelude.{Some};
+    ghost use Rattle.std.specs.Prelude.{Some, codes};
     ghost use Rattle.contest_objects.specs.SettingsObjects.{group_item};
 
     type Row = Group;
 
     ghost item = { λ c row. Some (group_item row) };
 
-    fn has_id(&self, row: &Group, id: &[u8]) -> bool {
-        row.id.as_bytes() == id
-    }
+    ghost name = { codes "groups" };
 
-    fn write(&self, out: &mut Writer, row: &Group) -> Result<(), AllocError> {
-        write_object(
-            out,
-            &[
-                ("id", Member::Text(row.id.as_str())),
-                ("name", Member::Text(row.name.as_str())),
-            ],
-        )
+    fn object<'r>(&'r self, row: &'r Group) -> Option<CollectionObject<'r>> {
+        Some(CollectionObject::Group(row))
     }
 }
 
@@ -275,23 +309,21 @@ pub struct Teams<'a> {
 }
 
 impl<'a> Collection for Teams<'a> {
-    ghost use Rattle.std.specs.Prelude.{Some};
+    ghost use Rattle.std.specs.Prelude.{Some, codes};
     ghost use Rattle.contest_objects.specs.SettingsObjects.{team_item};
 
     type Row = Team;
 
     ghost item = { λ c row. Some (team_item c.settings.now row) };
 
-    fn has_id(&self, row: &Team, id: &[u8]) -> bool {
-        row.id.as_bytes() == id
-    }
+    ghost name = { codes "teams" };
 
-    fn write(&self, out: &mut Writer, row: &Team) -> Result<(), AllocError> {
+    fn object<'r>(&'r self, row: &'r Team) -> Option<CollectionObject<'r>> {
         let team = TeamObject {
             settings: self.settings,
             team: row,
         };
-        team.write(out)
+        Some(CollectionObject::Team(team))
     }
 }
 

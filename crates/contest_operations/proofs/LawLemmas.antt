@@ -11,6 +11,9 @@ use Rattle.contest_objects.specs.ContestObjects.{whole_data}
 use Rattle.contest_objects.specs.SettingsObjects.{settings_data, setting_found}
 use Rattle.contest_view.proofs.BoardLaws.{scoreboard_alike}
 use Rattle.contest_view.proofs.JudgementLaws.{judgements_alike, proposals_alike}
+use Rattle.contest_objects.specs.EventFeed.{feed_text}
+use Rattle.contest_operations.specs.Replies.{lines_answer}
+use Rattle.contest_view.proofs.FeedLaws.{feed_alike}
 use Rattle.contest_view.proofs.FileReadLemmas.{files_alike}
 use Rattle.contest_view.proofs.RejudgingLaws.{only_the_jury}
 use Rattle.contest_view.proofs.AwardReads.{read_alike as awards_alike}
@@ -25,7 +28,7 @@ use Rattle.contest_operations.specs.Step.{wish_or_reply, outcome_of, outcome}
 use Rattle.contest_operations.specs.Wishes.{wish_outcome, IsSound}
 use Rattle.contest_operations.specs.declared.operation.Endpoint.TheVariants.{Settings, Submissions, Judgements, Clarifications, Awards}
 use Rattle.contest_operations.specs.declared.operation.JuryReading.TheVariants.{Proposals, Rejudgings, Rejudging}
-use Rattle.contest_operations.specs.declared.operation.Reading.TheVariants.{Whole, List as AllOf, Object, File, Scoreboard, GroupScoreboard, Account as OwnAccount, Jury as ForJury}
+use Rattle.contest_operations.specs.declared.operation.Reading.TheVariants.{Whole, List as AllOf, Object, File, Feed, Scoreboard, GroupScoreboard, Account as OwnAccount, Jury as ForJury}
 use Rattle.contest_operations.specs.declared.reply.Reply.{Reply}
 use Rattle.contest_requests.specs.declared.request.Credential.{Credential}
 use Rattle.contest_requests.specs.declared.request.Request.{Request}
@@ -47,6 +50,7 @@ reads_alike a now x y (Object Judgements) path held h = ap told ((judgements_ali
 reads_alike a now x y (Object Clarifications) path held h = ap told ((clarifications_alike a x y h).1 (object_piece path))
 reads_alike a now x y (Object Awards) path held h = ap told ((awards_alike a now x y held h).1 (object_piece path))
 reads_alike a now x y File path held h = ap file_told (files_alike a now x y (object_piece path) held h)
+reads_alike a now x y Feed path held h = ap (λ es. lines_answer (feed_text es)) (feed_alike a now x y held h)
 reads_alike a now x y Scoreboard path held h = ap (λ d. told (Some d)) ((scoreboard_alike a now x y held h).0 None)
 reads_alike a now x y GroupScoreboard path held h = ap told ((scoreboard_alike a now x y held h).1 (object_piece path))
 reads_alike a now x y OwnAccount id held h = ap (λ (f : FixedPart). told (account_found f id)) h.fixed

@@ -14,17 +14,19 @@ use Rattle.contest_view.specs.Proposals.{proposals_data}
 use Rattle.contest_view.specs.Rejudgings.{rejudgings_data, rejudging_found}
 use Rattle.contest_objects.specs.AccountObjects.{account_data}
 use Rattle.contest_objects.specs.ContestObjects.{whole_data}
+use Rattle.contest_view.specs.Feeds.{feed_events}
 use Rattle.contest_view.specs.FileReads.{file_found, file_place}
 use Rattle.contest_view.specs.Reads.{submissions_data, submission_found}
+use Rattle.contest_objects.specs.EventFeed.{feed_text}
 use Rattle.contest_objects.specs.SettingsObjects.{settings_data, setting_found}
 use Rattle.contest_operations.specs.Paths.{jury_piece, object_piece}
-use Rattle.contest_operations.specs.Replies.{refused, answer, file_answer}
+use Rattle.contest_operations.specs.Replies.{refused, answer, file_answer, lines_answer}
 use Rattle.contest_operations.specs.declared.operation.Endpoint.{Endpoint}
 use Rattle.contest_operations.specs.declared.operation.Endpoint.TheVariants.{Settings, Submissions, Judgements, Clarifications, Awards}
 use Rattle.contest_operations.specs.declared.operation.JuryReading.{JuryReading}
 use Rattle.contest_operations.specs.declared.operation.JuryReading.TheVariants.{Proposals, Rejudgings, Rejudging}
 use Rattle.contest_operations.specs.declared.operation.Reading.{Reading}
-use Rattle.contest_operations.specs.declared.operation.Reading.TheVariants.{Whole, List as AllOf, Object, File, Scoreboard, GroupScoreboard, Account as OwnAccount, Jury as ForJury}
+use Rattle.contest_operations.specs.declared.operation.Reading.TheVariants.{Whole, List as AllOf, Object, File, Feed, Scoreboard, GroupScoreboard, Account as OwnAccount, Jury as ForJury}
 use Rattle.contest_operations.specs.declared.reply.Reply.{Reply}
 
 -- the array of an endpoint's objects that an audience sees
@@ -69,6 +71,7 @@ read a now x (Whole endpoint) path = told (Some (whole_data endpoint x.fixed now
 read a now x (AllOf endpoint) path = told (Some (all_data a now x endpoint))
 read a now x (Object endpoint) path = told (object_found a now x endpoint (object_piece path))
 read a now x File path = file_told (file_found a now x (object_piece path))
+read a now x Feed path = lines_answer (feed_text (feed_events a now x))
 read a now x Scoreboard path = told (Some (scoreboard_data a now None x))
 read a now x GroupScoreboard path = told (group_scoreboard_found a now x (object_piece path))
 read a now x OwnAccount id = told (account_found x.fixed id)
@@ -80,6 +83,7 @@ read_file a (Whole endpoint) path x = None
 read_file a (AllOf endpoint) path x = None
 read_file a (Object endpoint) path x = None
 read_file a File path x = file_place a x.fixed x.submissions (object_piece path)
+read_file a Feed path x = None
 read_file a Scoreboard path x = None
 read_file a GroupScoreboard path x = None
 read_file a OwnAccount id x = None

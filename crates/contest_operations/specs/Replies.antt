@@ -9,7 +9,7 @@ use Rattle.contest_operations.specs.declared.offer.AllowedMethods.{AllowedMethod
 use Rattle.contest_operations.specs.declared.reply.Reply.{Reply}
 use Rattle.contest_operations.specs.declared.reply.ExtraField.{ExtraField}
 use Rattle.contest_operations.specs.declared.reply.ExtraField.TheVariants.{Nothing, Allow, WwwAuthenticate}
-use Rattle.contest_operations.specs.declared.reply.ContentType.TheVariants.{Json, Zip}
+use Rattle.contest_operations.specs.declared.reply.ContentType.TheVariants.{Json, JsonLines, Zip}
 
 -- the object that a refusal's body is
 abbrev pub refusal_data : Refusal → Data
@@ -37,6 +37,10 @@ answer_with text = record { status = 200; content = Json; extra = Nothing; body 
 -- a value is answered as its compact text
 abbrev pub answer : Data → Reply
 answer d = answer_with (compact_text d)
+
+-- lines, each a value's compact text, are answered as they are
+abbrev pub lines_answer : List ℕ → Reply
+lines_answer text = record { status = 200; content = JsonLines; extra = Nothing; body = text }
 
 -- a file is answered as its bytes
 abbrev pub file_answer : List ℕ → Reply

@@ -17,7 +17,7 @@ use Rattle.contest_operations.specs.declared.command.Command.TheVariants.{Submit
 use Rattle.contest_operations.specs.declared.post_change.ChangeKind.TheVariants as kind
 use Rattle.contest_operations.specs.declared.operation.Endpoint.TheVariants.{Settings, Submissions, Judgements, Clarifications, Awards}
 use Rattle.contest_operations.specs.declared.operation.JuryReading.TheVariants.{Proposals, Rejudgings, Rejudging}
-use Rattle.contest_operations.specs.declared.operation.Reading.TheVariants.{Whole, List as AllOf, Object, File, Scoreboard, GroupScoreboard, Account as OwnAccount, Jury as ForJury}
+use Rattle.contest_operations.specs.declared.operation.Reading.TheVariants.{Whole, List as AllOf, Object, File, Feed, Scoreboard, GroupScoreboard, Account as OwnAccount, Jury as ForJury}
 
 -- each route's text, and what is offered there
 abbrev pub route_rows : List (List ℕ × Offer)
@@ -27,6 +27,7 @@ route_rows =
     ∷ (codes "/contests/{contest}/state", reads (Whole State))
     ∷ (codes "/contests/{contest}/account", reads OwnAccount)
     ∷ (codes "/contests/{contest}/scoreboard", reads Scoreboard)
+    ∷ (codes "/contests/{contest}/event-feed", reads Feed)
     ∷ (codes "/contests/{contest}/judgement-types", reads (AllOf (Settings JudgementTypes)))
     ∷ (codes "/contests/{contest}/judgement-types/{id}", reads (Object (Settings JudgementTypes)))
     ∷ (codes "/contests/{contest}/languages", reads (AllOf (Settings Languages)))

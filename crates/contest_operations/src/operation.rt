@@ -28,6 +28,8 @@ pub enum Reading {
     Object(Endpoint),
     /// The file of a submission, by its id, for the team itself and the jury.
     File,
+    /// The event feed that the caller is served (Contest API 2023-06, event feed).
+    Feed,
     /// The scoreboard that the caller sees.
     Scoreboard,
     /// The scoreboard of a group, by the group's id (own).

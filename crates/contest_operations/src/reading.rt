@@ -20,7 +20,7 @@ use contest_objects::{AccountObject, WholeContest, setting_text, settings_text, 
 use contest_postings::account_named;
 use contest_types::{Audience, Fixed, Refusal, Rows};
 use contest_view::{
-    Seen, award_by_id, awards_text, clarification_by_id, clarifications_text, file_place,
+    Seen, award_by_id, awards_text, clarification_by_id, clarifications_text, feed_text, file_place,
     group_scoreboard_text, judgement_by_id, judgements_text, named_submission, proposals_text,
     rejudging_by_id, rejudgings_text, scoreboard_text, submission_by_id, submissions_text,
 };
@@ -44,6 +44,7 @@ pub fn read_file(
         Reading::Whole(_)
         | Reading::List(_)
         | Reading::Object(_)
+        | Reading::Feed
         | Reading::Scoreboard
         | Reading::GroupScoreboard
         | Reading::Account
@@ -83,6 +84,7 @@ pub fn read(
             Ok(tell(found))
         }
         Reading::File => Ok(tell_file(file)),
+        Reading::Feed => Ok(Reply::lines(feed_text(alloc, seen)?)),
         Reading::Scoreboard => Ok(Reply::answer(scoreboard_text(alloc, seen, None)?)),
         Reading::GroupScoreboard => {
             let found = group_scoreboard_text(alloc, seen, object_piece(path))?;

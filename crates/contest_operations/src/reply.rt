@@ -1,7 +1,7 @@
 //! What the desk answers.
 ghost use Rattle.std.specs.Prelude.{◌≡◌};
-ghost use Rattle.contest_operations.specs.Replies.{answer_with, file_answer, refused};
-ghost use Rattle.contest_operations.specs.Replies.{refused_method};
+ghost use Rattle.contest_operations.specs.Replies.{answer_with, file_answer, lines_answer};
+ghost use Rattle.contest_operations.specs.Replies.{refused, refused_method};
 
 use crate::offer::AllowedMethods;
 use contest_types::Refusal;
@@ -12,6 +12,8 @@ use std::marker::Model;
 pub enum ContentType {
     /// `application/json`.
     Json,
+    /// `application/x-ndjson`, for event feeds.
+    JsonLines,
     /// `application/zip`, for files.
     Zip,
 }
@@ -122,6 +124,18 @@ impl Reply {
         Reply {
             status: 200,
             content: ContentType::Json,
+            extra: ExtraField::Nothing,
+            body: ReplyBody::made(text),
+        }
+    }
+
+    /// The answer with these lines, each a JSON text.
+    pub fn lines(text: Vec<u8>) -> Reply
+        ensures { result ≡ lines_answer text.items }
+    {
+        Reply {
+            status: 200,
+            content: ContentType::JsonLines,
             extra: ExtraField::Nothing,
             body: ReplyBody::made(text),
         }

@@ -20,7 +20,7 @@ const NOTHING: Offer = Offer {
 
 /// The text of each route, as matchit reads it, and what is offered there (paths are the Contest
 /// API 2023-06's; a group's scoreboard and those under `/jury/` are own).
-static ROUTES: [(&str, Offer); 38] = [
+static ROUTES: [(&str, Offer); 39] = [
     (
         "/contests",
         Offer {
@@ -54,6 +54,13 @@ static ROUTES: [(&str, Offer); 38] = [
         "/contests/{contest}/scoreboard",
         Offer {
             get: Some(Reading::Scoreboard),
+            ..NOTHING
+        },
+    ),
+    (
+        "/contests/{contest}/event-feed",
+        Offer {
+            get: Some(Reading::Feed),
             ..NOTHING
         },
     ),
@@ -294,7 +301,7 @@ static ROUTES: [(&str, Offer); 38] = [
     ),
 ];
 
-fn rows() -> &'static [(&'static str, Offer); 38]
+fn rows() -> &'static [(&'static str, Offer); 39]
     ensures { map (λ row. (row.0.now, row.1)) result.now ≡ route_rows }
 {
     &ROUTES

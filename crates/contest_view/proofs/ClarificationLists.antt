@@ -18,11 +18,11 @@ use Rattle.contest_types.specs.declared.clarification.Clarification.{Clarificati
 use Rattle.contest_types.proofs.AddClarification.{addressed_itself}
 use Rattle.contest_types.proofs.HeardWhole.{goes_to, has_few, heard_listed, listed_heard, one_clarification, one_id, one_list, own_number, tests}
 use Rattle.contest_types.proofs.SeenWhole.{both_equal}
-use Rattle.contest_view.specs.Clarifications.{clarification_found, clarifications_data, heard_cmp, heard_row, heard_total, heard_where}
+use Rattle.contest_view.specs.Clarifications.{clarification_found, clarification_items, heard_cmp, heard_row, heard_total, heard_where}
 use Rattle.contest_objects.specs.ClarificationObjects.{clarification_data, clarification_item}
-use Rattle.contest_objects.specs.Items.{Item, IsListed, array_of, found_in, object_in}
+use Rattle.contest_objects.specs.Items.{Item, IsOrderOf, found_in, object_in}
 use Rattle.contest_objects.specs.JsonTokens.{data_tokens, value_tokens}
-use Rattle.contest_view.proofs.Listed.{HaveOwnIds, IsSeenOf, Serves, array_is, found_is}
+use Rattle.contest_view.proofs.Listed.{HaveOwnIds, IsSeenOf, Serves, found_is, items_are}
 use Rattle.contest_objects.proofs.ListingLemmas.{ShownOf, all_served, shown_where, where_shown}
 use Rattle.contest_view.proofs.SeriesApart.{apart}
 use Rattle.contest_types.proofs.InOrderLemmas.{is_equal}
@@ -76,11 +76,11 @@ heard_tokens f a c h =
     let go : (b : Bool) → b ≡ true → data_tokens (clarification_data f seen) ≡ value_tokens (object_in (option_map (clarification_item f) (if b then Some seen else None))) = elim [ true ↦ λ e. refl | false ↦ λ e. absurd (cc e) ] in
     go (sees_clarification a f.settings c) h
 
-pub clarifications_are : (a : Audience) (x : ContestState) → is_valid x ≡ true → (text : List ℕ) → IsListed (heard_row x.fixed a) heard_cmp x.clarifications text → text ≡ compact_text (clarifications_data a x)
-clarifications_are a x valid text l =
-    array_is x.clarifications (heard_where a x.fixed.settings) (λ c. c) heard_cmp clarification_cmp (seen_clarifications a x) (heard_of a x valid) (heard_row x.fixed a) (λ v. Some (clarification_item x.fixed v)) (serves a x) text
-    (subst (λ rows. IsListed (heard_row x.fixed a) heard_cmp rows text) (sym (map-id x.clarifications)) l)
-    ∙ ap (λ is. compact_text (array_of is)) (all_served (clarification_item x.fixed) (seen_clarifications a x))
+pub clarifications_are : (a : Audience) (x : ContestState) → is_valid x ≡ true → (order : List Clarification) → IsOrderOf heard_cmp x.clarifications order → filter_map (heard_row x.fixed a) order ≡ clarification_items a x
+clarifications_are a x valid order l =
+    items_are x.clarifications (heard_where a x.fixed.settings) (λ c. c) heard_cmp clarification_cmp (seen_clarifications a x) (heard_of a x valid) (heard_row x.fixed a) (λ v. Some (clarification_item x.fixed v)) (serves a x) order
+    (subst (λ rows. IsOrderOf heard_cmp rows order) (sym (map-id x.clarifications)) l)
+    ∙ all_served (clarification_item x.fixed) (seen_clarifications a x)
 
 pub clarification_is : (a : Audience) (x : ContestState) → is_valid x ≡ true → (id : List ℕ) → found_in (filter_map (heard_row x.fixed a) x.clarifications) id ≡ clarification_found a x id
 clarification_is a x valid id =

@@ -4,6 +4,7 @@ use Rattle.std.specs.Prelude.{if◌then◌else◌}
 use Rattle.std.specs.List.{filter_map}
 use Rattle.serde_json.specs.Data.{array}
 use Rattle.serde_json.specs.View.{items_of}
+use Rattle.contest_types.specs.Alike.{Alike, MayBeHeld}
 use Rattle.contest_types.specs.Judging.{Proposed, judged, open_proposals, seen_judgements}
 use Rattle.contest_types.specs.Masks.{is_jury}
 use Rattle.contest_types.specs.declared.audience.Audience.{Audience}
@@ -15,10 +16,13 @@ use Rattle.contest_view.specs.Judgements.{item_of, judgement_items}
 use Rattle.contest_view.specs.Laws.{AlikeReadTheSameJudgements, AlikeReadTheSameProposals}
 use Rattle.contest_view.specs.Proposals.{proposals_data}
 
+pub same_judgements : (a : Audience) (now : ℕ) (x y : ContestState) → MayBeHeld a now x → Alike a x y → judgement_items a now x ≡ judgement_items a now y
+same_judgements a now x y held alike =
+    ap (λ f. map (item_of f) (seen_judgements a now x)) alike.fixed ∙ ap (λ vs. map (item_of y.fixed) (filter_map judged vs)) (seen_alike a now x y held alike)
+
 pub judgements_alike : AlikeReadTheSameJudgements
 judgements_alike a now x y held alike =
-    let same : judgement_items a now x ≡ judgement_items a now y =
-    ap (λ f. map (item_of f) (seen_judgements a now x)) alike.fixed ∙ ap (λ vs. map (item_of y.fixed) (filter_map judged vs)) (seen_alike a now x y held alike) in
+    let same = same_judgements a now x y held alike in
     (ap array_of same, λ id. ap (λ items. found_in items id) same)
 
 none_shown : (a : Audience) (now : ℕ) (x : ContestState) → is_jury a ≡ false → proposals_data a now x ≡ array (items_of [])

@@ -18,12 +18,12 @@ use Rattle.contest_types.specs.declared.submission.Submission.{Submission}
 use Rattle.contest_types.proofs.SettingsTest.{is_settings}
 use Rattle.contest_types.proofs.SeenWhole.{one_submission, team_there}
 use Rattle.contest_types.proofs.ValidParts.{parts}
-use Rattle.contest_objects.specs.Items.{Item, IsListed, array_of, found_in}
+use Rattle.contest_objects.specs.Items.{Item, IsOrderOf, found_in}
 use Rattle.contest_view.specs.Rows.{row_cmp}
 use Rattle.contest_objects.proofs.ListingLemmas.{mapped_served}
 use Rattle.contest_view.proofs.SeenApart.{number_small}
-use Rattle.contest_view.proofs.SeenOrder.{HaveOwnIds, ServesSeen, array_is, found_is}
-use Rattle.contest_view.specs.Judgements.{item_of, judgement_found, judgement_row, judgements_data, seen_of}
+use Rattle.contest_view.proofs.SeenOrder.{HaveOwnIds, ServesSeen, found_is, items_are}
+use Rattle.contest_view.specs.Judgements.{item_of, judgement_found, judgement_items, judgement_row, seen_of}
 use Rattle.contest_objects.specs.JudgementObjects.{judgement_item}
 use Rattle.contest_lists.specs.RowsOn.{last_row}
 use Rattle.contest_view.proofs.JudgementIds.{one_submission_id}
@@ -71,9 +71,9 @@ own_ids a now x last valid s t i j hs ht is it same =
     one_submission x s t valid hs ht both.0 both.1
 
 pub judgements_are : (a : Audience) (now : ℕ) (x : ContestState) → is_valid x ≡ true → (last : ℕ → ℕ → Option Release) → ((team number : ℕ) → last team number ≡ last_row of_release x.releases team number)
-    → (text : List ℕ) → IsListed (judgement_row a now x.fixed last) (row_cmp x.fixed.settings) (loaded_submissions x) text → text ≡ compact_text (judgements_data a now x)
-judgements_are a now x valid last lasts text l =
-    array_is a now x valid (judgement_row a now x.fixed last) (of_seen x.fixed) (serves a now x last lasts) text l ∙ ap (λ is. compact_text (array_of is)) (mapped_served (item_of x.fixed) judged (seen_submissions a now x))
+    → (order : List Submission) → IsOrderOf (row_cmp x.fixed.settings) (loaded_submissions x) order → filter_map (judgement_row a now x.fixed last) order ≡ judgement_items a now x
+judgements_are a now x valid last lasts order l =
+    items_are a now x valid (judgement_row a now x.fixed last) (of_seen x.fixed) (serves a now x last lasts) order l ∙ mapped_served (item_of x.fixed) judged (seen_submissions a now x)
 
 pub judgement_is : (a : Audience) (now : ℕ) (x : ContestState) → is_valid x ≡ true → (last : ℕ → ℕ → Option Release) → ((team number : ℕ) → last team number ≡ last_row of_release x.releases team number)
     → (id : List ℕ) → found_in (filter_map (judgement_row a now x.fixed last) (loaded_submissions x)) id ≡ judgement_found a now x id

@@ -1,3 +1,4 @@
+pub mod FeedLemmas
 pub mod Listed
 pub mod SeriesApart
 pub mod SeenApart
@@ -22,3 +23,4 @@ pub mod JudgementLaws
 pub mod ProposalLemmas
 pub mod RejudgingLemmas
 pub mod RejudgingLaws
+pub mod FeedLaws

@@ -14,7 +14,7 @@ use Rattle.std.proofs.lemmas.Slice.Eq.{bytes_eq-Decides}
 use Rattle.serde_json.specs.Written.{compact_text}
 use Rattle.contest_types.specs.Order.{Has, IsInOrder}
 use Rattle.contest_types.proofs.InOrderLemmas.{map_has}
-use Rattle.contest_objects.specs.Items.{Item, IsListed, array_of, found_in}
+use Rattle.contest_objects.specs.Items.{Item, IsListed, IsOrderOf, array_of, found_in}
 use Rattle.contest_objects.proofs.ListingLemmas.{ShownOf, find_alike, served_all, shown_in_order, shown_of, sorted_unmap, unmap}
 use Rattle.contest_objects.proofs.Sorting.{moved_has, rises}
 use Rattle.contest_types.proofs.JudgementLemmas.{some_from}
@@ -43,13 +43,18 @@ in_turn {X} {V} rows show R S seen s ys p up =
 abbrev pub Serves : {X Y V : Type 0} → (X → Option V) → (load : X → Y) → (item : Y → Option Item) → (of : V → Option Item) → Type 0
 Serves {X} show load item of = (x : X) → item (load x) ≡ option_and_then of (show x)
 
--- so the array of the rows is that of what is seen
-pub array_is : {X Y V : Type 0} (rows : List X) (show : X → Option V) (load : X → Y) (T : Y → Y → Ordering) (S : V → V → Ordering) (seen : List V) → IsSeenOf rows show (λ x y. T (load x) (load y)) S seen
-    → (item : Y → Option Item) (of : V → Option Item) → Serves show load item of → (text : List ℕ) → IsListed item T (map load rows) text → text ≡ compact_text (array_of (filter_map of seen))
-array_is rows show load T S seen s item of serves text l =
-    let u = unmap load rows l.order l.moved in
+-- so what is served of the rows in their order is what is served of what is seen
+pub items_are : {X Y V : Type 0} (rows : List X) (show : X → Option V) (load : X → Y) (T : Y → Y → Ordering) (S : V → V → Ordering) (seen : List V) → IsSeenOf rows show (λ x y. T (load x) (load y)) S seen
+    → (item : Y → Option Item) (of : V → Option Item) → Serves show load item of → (order : List Y) → IsOrderOf T (map load rows) order → filter_map item order ≡ filter_map of seen
+items_are rows show load T S seen s item of serves order l =
+    let u = unmap load rows order l.moved in
     let up : IsSorted (λ x y. T (load x) (load y)) u.from = sorted_unmap load (λ x y. is_lt (T x y)) u.from (subst (IsSorted T) u.is l.sorted) in
-    l.is ∙ ap (λ is. compact_text (array_of is)) (ap (filter_map item) u.is ∙ (served_all item load show of serves u.from ∙ ap (filter_map of) (in_turn rows show (λ x y. T (load x) (load y)) S seen s u.from u.moved up)))
+    ap (filter_map item) u.is ∙ (served_all item load show of serves u.from ∙ ap (filter_map of) (in_turn rows show (λ x y. T (load x) (load y)) S seen s u.from u.moved up))
+
+-- the text of an array, by what is served of the rows in any order in which they are listed
+pub listed_text : {X : Type 0} (item : X → Option Item) (cmp : X → X → Ordering) (rows : List X) (items : List Item) (text : List ℕ) → IsListed item cmp rows text
+    → ((order : List X) → IsOrderOf cmp rows order → filter_map item order ≡ items) → text ≡ compact_text (array_of items)
+listed_text item cmp rows items text l are = l.is ∙ ap (λ is. compact_text (array_of is)) (are l.order l.listed)
 
 -- no two rows are served under one id
 abbrev pub HaveOwnIds : {X Y : Type 0} → List X → (load : X → Y) → (item : Y → Option Item) → Type 0

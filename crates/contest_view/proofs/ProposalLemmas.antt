@@ -1,5 +1,5 @@
 -- What is served of the proposals that stand.
-use Rattle.std.proofs.Common.{◌≡◌, ◌∙◌, ℕ, true, Option, Some, None, refl, ap, List}
+use Rattle.std.proofs.Common.{◌≡◌, ◌∙◌, ℕ, true, Option, Some, None, refl, ap, List, map}
 use Rattle.std.specs.Prelude.{is_some, if◌then◌else◌}
 use Rattle.std.specs.List.{filter_map, last_or}
 use Rattle.std.specs.Option.{option_map}
@@ -8,7 +8,7 @@ use Rattle.serde_json.specs.Data.{array}
 use Rattle.serde_json.specs.View.{items_of}
 use Rattle.serde_json.specs.Written.{compact_text}
 use Rattle.contest_types.specs.Loads.{loaded_submissions}
-use Rattle.contest_types.specs.Judging.{Proposed, waiting}
+use Rattle.contest_types.specs.Judging.{Proposed, open_proposals, waiting}
 use Rattle.contest_types.specs.Masks.{is_jury}
 use Rattle.contest_types.specs.Setup.{Setup}
 use Rattle.contest_types.specs.Sight.{SeenSubmission, judgement_of, last_judgement, seen_submission, seen_submissions}
@@ -19,10 +19,10 @@ use Rattle.contest_types.specs.declared.audience.Audience.TheVariants.{Jury, Pub
 use Rattle.contest_types.specs.declared.proposal.Proposal.{Proposal}
 use Rattle.contest_types.specs.declared.submission.Release.{Release}
 use Rattle.contest_types.specs.declared.submission.Submission.{Submission}
-use Rattle.contest_objects.specs.Items.{Item, IsListed, array_of}
+use Rattle.contest_objects.specs.Items.{Item, IsOrderOf, array_of}
 use Rattle.contest_view.specs.Rows.{row_cmp}
 use Rattle.contest_objects.proofs.ListingLemmas.{mapped_served}
-use Rattle.contest_view.proofs.SeenOrder.{ServesSeen, array_is}
+use Rattle.contest_view.proofs.SeenOrder.{ServesSeen, items_are}
 use Rattle.contest_lists.specs.RowsOn.{last_row}
 use Rattle.contest_view.specs.Proposals.{open_of, proposal_item, proposal_row, proposals_data}
 use Rattle.contest_types.proofs.LastLemmas.{last_mapped}
@@ -45,7 +45,7 @@ open_is now x last released s lasts releases =
     go (released s.team s.number)
     ∙ ap (λ o. option_map (λ (p : Proposed). p.proposal) (elim o as (λ _. Option Proposed) [ None ↦ proposed (last_or None (proposals_for s.team s.number x.proposals)) | (Some j) ↦ None ])) on
 
-abbrev proposed_item : Setup → Proposed → Item
+abbrev pub proposed_item : Setup → Proposed → Item
 proposed_item s p = proposal_item s p.proposal
 
 abbrev of_seen : ContestState → SeenSubmission → Option Item
@@ -58,12 +58,15 @@ serves now x last released lasts releases s =
     let each : (o : Option Proposed) → option_map (proposal_item x.fixed.settings) (option_map (λ (p : Proposed). p.proposal) o) ≡ option_map (proposed_item x.fixed.settings) o = elim [ None ↦ refl | (Some p) ↦ refl ] in
     ap (option_map (proposal_item x.fixed.settings)) (open_is now x last released s lasts releases) ∙ each (waiting x (seen_submission Jury now x s))
 
-pub proposals_are : (a : Audience) (now : ℕ) (x : ContestState) → is_valid x ≡ true → is_jury a ≡ true → (last : ℕ → ℕ → Option Proposal) (released : ℕ → ℕ → Option Release)
+pub proposals_are : (now : ℕ) (x : ContestState) → is_valid x ≡ true → (last : ℕ → ℕ → Option Proposal) (released : ℕ → ℕ → Option Release)
     → ((team number : ℕ) → last team number ≡ last_row of_proposal x.proposals team number) → ((team number : ℕ) → released team number ≡ last_row of_release x.releases team number)
-    → (text : List ℕ) → IsListed (proposal_row x.fixed.settings last released) (row_cmp x.fixed.settings) (loaded_submissions x) text → text ≡ compact_text (proposals_data a now x)
-proposals_are Jury now x valid jury last released lasts releases text l =
-    let seen = seen_submissions Jury now x in
-    array_is Jury now x valid (proposal_row x.fixed.settings last released) (of_seen x) (serves now x last released lasts releases) text l
-    ∙ (ap (λ is. compact_text (array_of is)) (mapped_served (proposed_item x.fixed.settings) (waiting x) seen) ∙ ap (λ ds. compact_text (array (items_of ds))) (map-map (λ (i : Item). i.object) (proposed_item x.fixed.settings) (filter_map (waiting x) seen)))
-proposals_are Public now x valid jury last released lasts releases text l = absurd (cc jury)
-proposals_are (Team number) now x valid jury last released lasts releases text l = absurd (cc jury)
+    → (order : List Submission) → IsOrderOf (row_cmp x.fixed.settings) (loaded_submissions x) order → filter_map (proposal_row x.fixed.settings last released) order ≡ map (proposed_item x.fixed.settings) (open_proposals now x)
+proposals_are now x valid last released lasts releases order l =
+    items_are Jury now x valid (proposal_row x.fixed.settings last released) (of_seen x) (serves now x last released lasts releases) order l
+    ∙ mapped_served (proposed_item x.fixed.settings) (waiting x) (seen_submissions Jury now x)
+
+-- to the jury
+pub proposals_served : (a : Audience) (now : ℕ) (x : ContestState) → is_jury a ≡ true → array_of (map (proposed_item x.fixed.settings) (open_proposals now x)) ≡ proposals_data a now x
+proposals_served Jury now x jury = ap (λ ds. array (items_of ds)) (map-map (λ (i : Item). i.object) (proposed_item x.fixed.settings) (open_proposals now x))
+proposals_served Public now x jury = absurd (cc jury)
+proposals_served (Team number) now x jury = absurd (cc jury)

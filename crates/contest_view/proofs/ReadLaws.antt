@@ -4,6 +4,7 @@ use Rattle.std.specs.Prelude.{find, if◌then◌else◌}
 use Rattle.std.specs.Option.{option_map}
 use Rattle.std.proofs.lemmas.Bool.{false≢true}
 use Rattle.std.proofs.lemmas.Slice.Eq.{bytes_eq-Decides}
+use Rattle.contest_types.specs.Alike.{Alike, MayBeHeld}
 use Rattle.contest_types.specs.Order.{Has}
 use Rattle.contest_types.specs.State.{ContestState}
 use Rattle.contest_types.specs.Sight.{sees_submission, seen_clarifications, seen_submission, seen_submissions}
@@ -23,16 +24,22 @@ use Rattle.contest_view.specs.Clarifications.{clarification_items}
 use Rattle.contest_view.specs.Reads.{submission_item, submission_items}
 use Rattle.contest_view.proofs.SeenById.{is_asked, has_this_id, one_with_id, seen_found, seen_none, found_as}
 
+pub same_submissions : (a : Audience) (now : ℕ) (x y : ContestState) → MayBeHeld a now x → Alike a x y → submission_items a now x ≡ submission_items a now y
+same_submissions a now x y held alike =
+    ap (λ f. map (submission_item f) (seen_submissions a now x)) alike.fixed ∙ ap (map (submission_item y.fixed)) (seen_alike a now x y held alike)
+
 pub alike_read : AlikeReadTheSame
 alike_read a now x y held alike =
-    let same : submission_items a now x ≡ submission_items a now y =
-    ap (λ f. map (submission_item f) (seen_submissions a now x)) alike.fixed ∙ ap (map (submission_item y.fixed)) (seen_alike a now x y held alike) in
+    let same = same_submissions a now x y held alike in
     (ap array_of same, λ id. ap (λ items. item_found items id) same)
+
+pub same_clarifications : (a : Audience) (x y : ContestState) → Alike a x y → clarification_items a x ≡ clarification_items a y
+same_clarifications a x y alike =
+    ap (λ f. map (clarification_item f) (seen_clarifications a x)) alike.fixed ∙ ap (map (clarification_item y.fixed)) (heard_alike a x y alike)
 
 pub clarifications_alike : AlikeReadTheSameClarifications
 clarifications_alike a x y alike =
-    let same : clarification_items a x ≡ clarification_items a y =
-    ap (λ f. map (clarification_item f) (seen_clarifications a x)) alike.fixed ∙ ap (map (clarification_item y.fixed)) (heard_alike a x y alike) in
+    let same = same_clarifications a x y alike in
     (ap array_of same, λ id. ap (λ items. item_found items id) same)
 
 -- the submission that is found among all has the id

@@ -10,9 +10,9 @@ use Rattle.contest_types.specs.Valid.{is_valid}
 use Rattle.contest_types.specs.declared.audience.Audience.{Audience}
 use Rattle.contest_types.specs.declared.submission.Submission.{Submission}
 use Rattle.contest_types.proofs.SeenWhole.{listed_seen, one_list, seen_listed}
-use Rattle.contest_objects.specs.Items.{Item, IsListed, array_of, found_in}
+use Rattle.contest_objects.specs.Items.{Item, IsOrderOf, found_in}
 use Rattle.contest_view.specs.Rows.{row_cmp, row_total, seen_where}
-use Rattle.contest_view.proofs.Listed.{HaveOwnIds as OwnIds, IsSeenOf, Serves, array_is as rows_are, found_is as row_is}
+use Rattle.contest_view.proofs.Listed.{HaveOwnIds as OwnIds, IsSeenOf, Serves, items_are as rows_are, found_is as row_is}
 use Rattle.contest_objects.proofs.ListingLemmas.{ShownOf, shown_where, where_shown}
 use Rattle.contest_view.proofs.SeenApart.{rows_apart}
 
@@ -42,9 +42,9 @@ ServesSeen a now x = Serves (seen_where a now x) without_file
 abbrev pub HaveOwnIds : ContestState → (Submission → Option Item) → Type 0
 HaveOwnIds x = OwnIds x.submissions without_file
 
-pub array_is : (a : Audience) (now : ℕ) (x : ContestState) → is_valid x ≡ true → (item : Submission → Option Item) (of : SeenSubmission → Option Item) → ServesSeen a now x item of
-    → (text : List ℕ) → IsListed item (row_cmp x.fixed.settings) (loaded_submissions x) text → text ≡ compact_text (array_of (filter_map of (seen_submissions a now x)))
-array_is a now x valid = rows_are x.submissions (seen_where a now x) without_file (row_cmp x.fixed.settings) (submission_cmp x.fixed.settings) (seen_submissions a now x) (seen_of a now x valid)
+pub items_are : (a : Audience) (now : ℕ) (x : ContestState) → is_valid x ≡ true → (item : Submission → Option Item) (of : SeenSubmission → Option Item) → ServesSeen a now x item of
+    → (order : List Submission) → IsOrderOf (row_cmp x.fixed.settings) (loaded_submissions x) order → filter_map item order ≡ filter_map of (seen_submissions a now x)
+items_are a now x valid = rows_are x.submissions (seen_where a now x) without_file (row_cmp x.fixed.settings) (submission_cmp x.fixed.settings) (seen_submissions a now x) (seen_of a now x valid)
 
 pub found_is : (a : Audience) (now : ℕ) (x : ContestState) → is_valid x ≡ true → (item : Submission → Option Item) (of : SeenSubmission → Option Item) → ServesSeen a now x item of → HaveOwnIds x item
     → (id : List ℕ) → found_in (filter_map item (loaded_submissions x)) id ≡ found_in (filter_map of (seen_submissions a now x)) id

@@ -18,13 +18,13 @@ use Rattle.contest_types.specs.declared.audience.Audience.{Audience}
 use Rattle.contest_types.specs.declared.submission.Submission.{Submission}
 use Rattle.contest_types.proofs.InOrderLemmas.{find_has, map_has, none_passes}
 use Rattle.contest_types.proofs.Rising.{find_passes}
-use Rattle.contest_objects.specs.Items.{Item, IsListed, array_of, found_in, has_this_id}
+use Rattle.contest_objects.specs.Items.{Item, IsOrderOf, found_in, has_this_id}
 use Rattle.contest_objects.specs.Objects.{submission_data}
-use Rattle.contest_view.specs.Reads.{named_submission, submission_found, submission_item, submissions_data}
+use Rattle.contest_view.specs.Reads.{named_submission, submission_found, submission_item, submission_items}
 use Rattle.contest_view.specs.Rows.{row_cmp, row_item}
 use Rattle.contest_objects.proofs.ListingLemmas.{all_served, found_among}
 use Rattle.contest_view.proofs.SeenById.{one_with_id}
-use Rattle.contest_view.proofs.SeenOrder.{HaveOwnIds, ServesSeen, array_is, found_is}
+use Rattle.contest_view.proofs.SeenOrder.{HaveOwnIds, ServesSeen, found_is, items_are}
 
 same_object : (f : FixedPart) (a : Audience) (s : Submission)
     → submission_data f s.team s.number s.time s.problem s.language (program_for a (without_file s)) ≡ submission_data f s.team s.number s.time s.problem s.language (program_for a s)
@@ -56,9 +56,10 @@ own_id f a s i e =
 own_ids : (a : Audience) (x : ContestState) → is_valid x ≡ true → HaveOwnIds x (row_item x.fixed a)
 own_ids a x valid s t i j hs ht is it same = one_with_id x valid s t hs ht (sym (own_id x.fixed a (without_file s) i is) ∙ (same ∙ own_id x.fixed a (without_file t) j it))
 
-pub submissions_are : (a : Audience) (now : ℕ) (x : ContestState) → is_valid x ≡ true → (text : List ℕ) → IsListed (row_item x.fixed a) (row_cmp x.fixed.settings) (loaded_submissions x) text → text ≡ compact_text (submissions_data a now x)
-submissions_are a now x valid text l =
-    array_is a now x valid (row_item x.fixed a) (λ v. Some (submission_item x.fixed v)) (serves a now x) text l ∙ ap (λ is. compact_text (array_of is)) (all_served (submission_item x.fixed) (seen_submissions a now x))
+pub submissions_are : (a : Audience) (now : ℕ) (x : ContestState) → is_valid x ≡ true → (order : List Submission) → IsOrderOf (row_cmp x.fixed.settings) (loaded_submissions x) order
+    → filter_map (row_item x.fixed a) order ≡ submission_items a now x
+submissions_are a now x valid order l =
+    items_are a now x valid (row_item x.fixed a) (λ v. Some (submission_item x.fixed v)) (serves a now x) order l ∙ all_served (submission_item x.fixed) (seen_submissions a now x)
 
 -- among the rows that have an id there is the one that is named
 module _ (f : FixedPart) (a : Audience) (rows : List Submission) (one : (s t : Submission) → Has rows s → Has rows t → submission_id s.team s.number ≡ submission_id t.team t.number → s ≡ t) (id : List ℕ) where

@@ -17,6 +17,7 @@ use Rattle.contest_score.specs.Awards.{shown_awards}
 use Rattle.contest_score.specs.declared.award.Award.{Award}
 use Rattle.contest_view.specs.Awards.{awards_data, award_found}
 use Rattle.contest_view.specs.Clarifications.{clarifications_data, clarification_found}
+use Rattle.contest_view.specs.Feeds.{feed_events}
 use Rattle.contest_view.specs.FileReads.{file_found, file_place}
 use Rattle.contest_objects.specs.AwardObjects.{award_data}
 use Rattle.contest_objects.specs.Items.{array_of}
@@ -96,6 +97,10 @@ abbrev pub AlikeReadTheSameAwards : Type 0
 AlikeReadTheSameAwards =
     (a : Audience) (now : ℕ) (x y : ContestState) → MayBeHeld a now x → Alike a x y
     → (awards_data a now x ≡ awards_data a now y) × ((id : List ℕ) → award_found a now x id ≡ award_found a now y id)
+
+-- and the same event feed
+abbrev pub AlikeReadTheSameFeed : Type 0
+AlikeReadTheSameFeed = (a : Audience) (now : ℕ) (x y : ContestState) → MayBeHeld a now x → Alike a x y → feed_events a now x ≡ feed_events a now y
 
 -- where there is a freeze moment, nobody but the jury reads an award before the thaw, and by no id
 abbrev pub NoAwardIsReadBeforeTheThaw : Type 0

@@ -8,4 +8,6 @@ pub mod Judgements
 pub mod Proposals
 pub mod Rejudgings
 pub mod Awards
+pub mod Feeds
+pub mod Feeding
 pub mod Laws

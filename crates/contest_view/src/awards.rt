@@ -10,10 +10,9 @@ ghost use Rattle.contest_view.specs.SeenLists.{Shows};
 
 use crate::Seen;
 use crate::cells::{board_for, is_audience};
-use contest_objects::{AwardObject, Collection, Served, Whole, get_whole, list_whole};
+use contest_objects::{AwardObject, Collection, CollectionObject, Whole, get_whole, list_whole};
 use contest_score::{Award, Awards, Solve, awards, can_be_scored, contest_solves, shows_awards};
 use contest_types::{Audience, Refusal, Rows, Settings};
-use json::Writer;
 use std::alloc::{AllocError, Global};
 
 /// The awards that an audience is shown (Contest API 2023-06, awards): those of the jury's board,
@@ -82,30 +81,28 @@ fn solves_for(alloc: Global, seen: &Seen<'_>) -> Result<Vec<Solve>, AllocError>
 
 /// Awards as they are served: all that are given.
 #[derive(Clone, Copy)]
-struct ServedAwards<'a> {
-    settings: &'a Settings,
+pub(crate) struct ServedAwards<'a> {
+    pub settings: &'a Settings,
 }
 
 impl<'a> Collection for ServedAwards<'a> {
-    ghost use Rattle.std.specs.Prelude.{Some};
+    ghost use Rattle.std.specs.Prelude.{Some, codes};
     ghost use Rattle.contest_view.specs.Awards.{item_of};
 
     type Row = Award;
 
     ghost item = { λ c row. Some (item_of c.settings.now row) };
 
-    fn has_id(&self, row: &Award, id: &[u8]) -> bool {
-        row.id.as_str().as_bytes() == id
-    }
+    ghost name = { codes "awards" };
 
-    fn write(&self, out: &mut Writer, row: &Award) -> Result<(), AllocError> {
+    fn object<'r>(&'r self, row: &'r Award) -> Option<CollectionObject<'r>> {
         let object = AwardObject {
             settings: self.settings,
             id: row.id.as_str(),
             citation: row.citation.as_str(),
             teams: row.teams.as_slice(),
         };
-        object.write(out)
+        Some(CollectionObject::Award(object))
     }
 }
 

@@ -7,44 +7,39 @@ ghost use Rattle.contest_view.specs.SeenLists.{Shows};
 
 use crate::seen::Seen;
 use contest_objects::{
-    ClarificationObject, Collection, Ordered, Served, clarification_id, get, has_clarification_id,
-    list,
+    ClarificationObject, Collection, CollectionObject, Ordered, clarification_id, get, list,
 };
 use contest_types::{Clarification, sees_clarification};
-use json::Writer;
 use std::alloc::{AllocError, Global};
 use std::cmp::Ordering;
 
 /// Clarifications as an audience is served them.
 #[derive(Clone, Copy)]
-struct Clarifications<'a> {
-    seen: &'a Seen<'a>,
+pub(crate) struct Clarifications<'a> {
+    pub seen: &'a Seen<'a>,
 }
 
 impl<'a> Collection for Clarifications<'a> {
+    ghost use Rattle.std.specs.Prelude.{codes};
     ghost use Rattle.contest_view.specs.Clarifications.{heard_row};
 
     type Row = Clarification;
 
     ghost item = { λ c. heard_row c.seen.now.lists.now.fixed c.seen.now.audience };
 
-    fn has_id(&self, row: &Clarification, id: &[u8]) -> bool {
-        let settings = &self.seen.lists.fixed().settings;
-        sees_clarification(self.seen.audience, settings, row)
-            && has_clarification_id(row.addressee, row.number, id)
-    }
+    ghost name = { codes "clarifications" };
 
-    fn write(&self, out: &mut Writer, row: &Clarification) -> Result<(), AllocError> {
+    fn object<'r>(&'r self, row: &'r Clarification) -> Option<CollectionObject<'r>> {
         let fixed = self.seen.lists.fixed();
         if !sees_clarification(self.seen.audience, &fixed.settings, row) {
-            return Ok(());
+            return None;
         }
         let object = ClarificationObject {
             fixed,
             audience: self.seen.audience,
             clarification: row,
         };
-        object.write(out)
+        Some(CollectionObject::Clarification(object))
     }
 }
 

@@ -9,16 +9,15 @@ ghost use Rattle.contest_view.specs.SeenLists.{Shows};
 ghost use Rattle.contest_view.specs.Judgements.{judgement_found, judgements_data, seen_of};
 
 use crate::{Seen, compare_submissions};
-use contest_objects::{Collection, JudgementObject, Ordered, Served, get, has_judgement_id, list};
+use contest_objects::{Collection, CollectionObject, JudgementObject, Ordered, get, list};
 use contest_types::{Fixed, Mask, Moment, Release, Submission, is_frozen, mask_for, sees_team};
-use json::Writer;
 use std::alloc::{AllocError, Global};
 use std::cmp::Ordering;
 
 /// Judgements as an audience is served them: of each submission the one that it sees.
 #[derive(Clone, Copy)]
-struct Judgements<'a> {
-    seen: &'a Seen<'a>,
+pub(crate) struct Judgements<'a> {
+    pub seen: &'a Seen<'a>,
 }
 
 impl<'a> Judgements<'a> {
@@ -40,6 +39,7 @@ impl<'a> Judgements<'a> {
 }
 
 impl<'a> Collection for Judgements<'a> {
+    ghost use Rattle.std.specs.Prelude.{codes};
     ghost use Rattle.contest_types.specs.State.{of_release};
     ghost use Rattle.contest_lists.specs.RowsOn.{last_row};
     ghost use Rattle.contest_view.specs.Judgements.{judgement_row};
@@ -48,26 +48,16 @@ impl<'a> Collection for Judgements<'a> {
 
     ghost item = { λ c. judgement_row c.seen.now.audience c.seen.now.now c.seen.now.lists.now.fixed (last_row of_release c.seen.now.lists.now.releases) };
 
-    fn has_id(&self, row: &Submission, id: &[u8]) -> bool {
-        match self.release(row) {
-            Some(release) => has_judgement_id(row.team, row.number, release.round, id),
-            None => false,
-        }
-    }
+    ghost name = { codes "judgements" };
 
-    fn write(&self, out: &mut Writer, row: &Submission) -> Result<(), AllocError> {
-        match self.release(row) {
-            Some(release) => {
-                let object = JudgementObject {
-                    fixed: self.seen.lists.fixed(),
-                    team: row.team,
-                    number: row.number,
-                    release,
-                };
-                object.write(out)
-            }
-            None => Ok(()),
-        }
+    fn object<'r>(&'r self, row: &'r Submission) -> Option<CollectionObject<'r>> {
+        let object = JudgementObject {
+            fixed: self.seen.lists.fixed(),
+            team: row.team,
+            number: row.number,
+            release: self.release(row)?,
+        };
+        Some(CollectionObject::Judgement(object))
     }
 }
 

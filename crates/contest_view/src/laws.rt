@@ -7,7 +7,7 @@ ghost use Rattle.contest_view.specs.Laws.{AlikeReadTheSameProposals};
 ghost use Rattle.contest_view.specs.Laws.{AlikeReadTheSameClarifications};
 ghost use Rattle.contest_view.specs.Laws.{AlikeShowTheSameScoreboard, AlikeReadTheSameAwards};
 ghost use Rattle.contest_view.specs.Laws.{NoAwardIsReadBeforeTheThaw, ShownAwardIsFound};
-ghost use Rattle.contest_view.specs.Laws.{OnlyTheJuryReadsRejudgings};
+ghost use Rattle.contest_view.specs.Laws.{AlikeReadTheSameFeed, OnlyTheJuryReadsRejudgings};
 
 /// Until the thaw, contests that are alike for an audience give it the same submissions to read,
 /// all of them and by any id.
@@ -75,6 +75,11 @@ pub fn scoreboard_alike()
 /// them and by any id.
 pub fn awards_alike()
     ensures { AlikeReadTheSameAwards }
+{}
+
+/// Until the thaw, contests that are alike for an audience give it the same event feed.
+pub fn feed_alike()
+    ensures { AlikeReadTheSameFeed }
 {}
 
 /// Where there is a freeze moment, nobody but the jury reads an award before the thaw, nor by any

@@ -5,6 +5,8 @@
 mod awards;
 mod cells;
 mod clarifications;
+mod feed;
+mod feed_objects;
 mod judgements;
 pub mod laws;
 mod named;
@@ -17,6 +19,7 @@ mod submissions;
 pub use awards::{audience_awards, award_by_id, awards_text};
 pub use cells::{board_for, board_found, cells_for};
 pub use clarifications::{clarification_by_id, clarifications_text};
+pub use feed::{FeedFault, feed_text, write_feed};
 pub use judgements::{judgement_by_id, judgements_text};
 pub use named::{NumberedRejudging, named_rejudging, named_submission};
 pub use proposals::proposals_text;

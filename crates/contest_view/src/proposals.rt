@@ -9,9 +9,8 @@ ghost use Rattle.contest_view.specs.Proposals.{open_of, proposals_data};
 use crate::seen::{empty_array, is_jury};
 use crate::{Seen, compare_submissions};
 use contest_lists::Lists;
-use contest_objects::{Collection, Ordered, ProposalObject, Served, has_submission_id, list};
+use contest_objects::{Collection, CollectionObject, Ordered, ProposalObject, list};
 use contest_types::{Proposal, Submission};
-use json::Writer;
 use std::alloc::{AllocError, Global};
 use std::cmp::Ordering;
 
@@ -35,6 +34,7 @@ impl<'a> Proposals<'a> {
 }
 
 impl<'a> Collection for Proposals<'a> {
+    ghost use Rattle.std.specs.Prelude.{codes};
     ghost use Rattle.contest_types.specs.State.{of_proposal, of_release};
     ghost use Rattle.contest_lists.specs.RowsOn.{last_row};
     ghost use Rattle.contest_view.specs.Proposals.{proposal_row};
@@ -43,25 +43,15 @@ impl<'a> Collection for Proposals<'a> {
 
     ghost item = { λ c. proposal_row c.lists.now.fixed.settings (last_row of_proposal c.lists.now.proposals) (last_row of_release c.lists.now.releases) };
 
-    fn has_id(&self, row: &Submission, id: &[u8]) -> bool {
-        match self.open(row) {
-            Some(proposal) => has_submission_id(proposal.team, proposal.number, id),
-            None => false,
-        }
-    }
+    ghost name = { codes "proposals" };
 
-    fn write(&self, out: &mut Writer, row: &Submission) -> Result<(), AllocError> {
-        match self.open(row) {
-            Some(proposal) => {
-                let object = ProposalObject {
-                    settings: &self.lists.fixed().settings,
-                    proposal,
-                    released: false,
-                };
-                object.write(out)
-            }
-            None => Ok(()),
-        }
+    fn object<'r>(&'r self, row: &'r Submission) -> Option<CollectionObject<'r>> {
+        let object = ProposalObject {
+            settings: &self.lists.fixed().settings,
+            proposal: self.open(row)?,
+            released: false,
+        };
+        Some(CollectionObject::Proposal(object))
     }
 }
 

@@ -12,11 +12,8 @@ ghost use Rattle.contest_view.specs.Reads.{named_submission, submissions_data, s
 
 use crate::named::named_rows;
 use crate::seen::Seen;
-use contest_objects::{
-    Collection, Ordered, Served, SubmissionObject, get, has_submission_id, list,
-};
+use contest_objects::{Collection, CollectionObject, Ordered, SubmissionObject, get, list};
 use contest_types::{Audience, Fixed, Settings, Submission, knows_all_of, sees_team};
-use json::Writer;
 use std::alloc::{AllocError, Global};
 use std::cmp::Ordering;
 
@@ -43,34 +40,31 @@ fn compare_own(settings: &Settings, first: &Submission, second: &Submission) -> 
 
 /// Submissions as an audience is served them.
 #[derive(Clone, Copy)]
-struct Submissions<'a> {
-    seen: &'a Seen<'a>,
+pub(crate) struct Submissions<'a> {
+    pub seen: &'a Seen<'a>,
 }
 
 impl<'a> Collection for Submissions<'a> {
+    ghost use Rattle.std.specs.Prelude.{codes};
     ghost use Rattle.contest_view.specs.Rows.{row_item};
 
     type Row = Submission;
 
     ghost item = { λ c. row_item c.seen.now.lists.now.fixed c.seen.now.audience };
 
-    fn has_id(&self, row: &Submission, id: &[u8]) -> bool {
-        let settings = &self.seen.lists.fixed().settings;
-        sees_team(self.seen.audience, settings, row.team)
-            && has_submission_id(row.team, row.number, id)
-    }
+    ghost name = { codes "submissions" };
 
-    fn write(&self, out: &mut Writer, row: &Submission) -> Result<(), AllocError> {
+    fn object<'r>(&'r self, row: &'r Submission) -> Option<CollectionObject<'r>> {
         let fixed = self.seen.lists.fixed();
         if !sees_team(self.seen.audience, &fixed.settings, row.team) {
-            return Ok(());
+            return None;
         }
         let object = SubmissionObject {
             fixed,
             audience: self.seen.audience,
             submission: row,
         };
-        object.write(out)
+        Some(CollectionObject::Submission(object))
     }
 }
 
