@@ -9,7 +9,7 @@ use Rattle.contest_operations.specs.Laws.{StepsNeverFail}
 use Rattle.contest_types.specs.declared.audience.Audience.{Audience}
 use Rattle.contest_operations.specs.Paths.{jury_piece, object_piece}
 use Rattle.contest_operations.specs.declared.operation.Reading.{Reading}
-use Rattle.contest_operations.specs.declared.operation.Reading.TheVariants.{Whole, List as AllOf, Object, File, Scoreboard, GroupScoreboard, Account as OwnAccount, Jury as ForJury}
+use Rattle.contest_operations.specs.declared.operation.Reading.TheVariants.{Whole, List as AllOf, Object, File, Feed, Scoreboard, GroupScoreboard, Account as OwnAccount, Jury as ForJury}
 use Rattle.contest_view.specs.Scoreboards.{group_scoreboard_found}
 use Rattle.contest_operations.specs.Readings.{account_found, file_told, jury_found, object_found, read, told}
 use Rattle.contest_operations.specs.Wishes.{wish_outcome}
@@ -36,6 +36,7 @@ read_ordinary a now x (Whole endpoint) path = refl
 read_ordinary a now x (AllOf endpoint) path = refl
 read_ordinary a now x (Object endpoint) path = found_ordinary (object_found a now x endpoint (object_piece path))
 read_ordinary a now x File path = file_ordinary (file_found a now x (object_piece path))
+read_ordinary a now x Feed path = refl
 read_ordinary a now x Scoreboard path = refl
 read_ordinary a now x GroupScoreboard path = found_ordinary (group_scoreboard_found a now x (object_piece path))
 read_ordinary a now x OwnAccount id = found_ordinary (account_found x.fixed id)

@@ -19,7 +19,7 @@ use Rattle.contest_operations.specs.declared.command.Posted.{Posted}
 use Rattle.contest_operations.specs.declared.operation.Operation.{Operation}
 use Rattle.contest_operations.specs.declared.operation.Operation.TheVariants.{Read as ToRead, Do as ToDo}
 use Rattle.contest_operations.specs.declared.operation.Reading.{Reading}
-use Rattle.contest_operations.specs.declared.operation.Reading.TheVariants.{Whole, List as AllOf, Object, File, Scoreboard, GroupScoreboard, Account as OwnAccount, Jury as ForJury}
+use Rattle.contest_operations.specs.declared.operation.Reading.TheVariants.{Whole, List as AllOf, Object, File, Feed, Scoreboard, GroupScoreboard, Account as OwnAccount, Jury as ForJury}
 use Rattle.contest_operations.specs.declared.reply.Reply.{Reply}
 use Rattle.contest_requests.specs.declared.request.Credential.{Credential}
 use Rattle.contest_requests.specs.declared.request.Method.{Method}
@@ -107,6 +107,7 @@ unread_ordinary (Whole endpoint) = refl
 unread_ordinary (AllOf endpoint) = refl
 unread_ordinary (Object endpoint) = refl
 unread_ordinary File = refl
+unread_ordinary Feed = refl
 unread_ordinary Scoreboard = refl
 unread_ordinary GroupScoreboard = refl
 unread_ordinary OwnAccount = refl

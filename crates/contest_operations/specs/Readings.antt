@@ -79,12 +79,5 @@ read a now x (ForJury reading) path = told (jury_found a now x reading (jury_pie
 
 -- whose file is looked at, by its team and its number: one that the audience may read, or none
 abbrev pub read_file : Audience → Reading → (named : List ℕ) → ContestState → Option (ℕ × ℕ)
-read_file a (Whole endpoint) path x = None
-read_file a (AllOf endpoint) path x = None
-read_file a (Object endpoint) path x = None
 read_file a File path x = file_place a x.fixed x.submissions (object_piece path)
-read_file a Feed path x = None
-read_file a Scoreboard path x = None
-read_file a GroupScoreboard path x = None
-read_file a OwnAccount id x = None
-read_file a (ForJury reading) path x = None
+read_file a _ path x = None

@@ -16,7 +16,7 @@ use Rattle.contest_operations.specs.declared.command.Posted.{Posted}
 use Rattle.contest_operations.specs.declared.operation.Operation.{Operation}
 use Rattle.contest_operations.specs.declared.operation.Operation.TheVariants.{Read as ToRead, Do as ToDo}
 use Rattle.contest_operations.specs.declared.operation.Reading.{Reading}
-use Rattle.contest_operations.specs.declared.operation.Reading.TheVariants.{Whole, List as AllOf, Object, File, Scoreboard, GroupScoreboard, Account as OwnAccount, Jury as ForJury}
+use Rattle.contest_operations.specs.declared.operation.Reading.TheVariants.{Account as OwnAccount, Jury as ForJury}
 use Rattle.contest_requests.specs.declared.request.Request.{Request}
 use Rattle.contest_operations.specs.declared.wish.Wish.{Wish}
 use Rattle.contest_operations.specs.declared.wish.Wish.TheVariants.{Read, Do}
@@ -27,14 +27,9 @@ wish_to_do (Ok posted) = Ok (Do posted)
 
 -- some of it is for the jury alone, and only who holds an account is told of it
 abbrev pub may_read : Caller → Reading → Bool
-may_read who (Whole endpoint) = true
-may_read who (AllOf endpoint) = true
-may_read who (Object endpoint) = true
-may_read who File = true
-may_read who Scoreboard = true
-may_read who GroupScoreboard = true
 may_read who OwnAccount = is_some who
 may_read who (ForJury reading) = reads_all who
+may_read who _ = true
 
 -- why it isn't read: the public has no account to be found
 abbrev pub unread_refusal : Reading → Refusal

@@ -107,13 +107,7 @@ fn named_by(
             Some(account) => copied_bytes(alloc, account.id.as_bytes()),
             None => Ok(path),
         },
-        Reading::Whole(_)
-        | Reading::List(_)
-        | Reading::Object(_)
-        | Reading::File
-        | Reading::Scoreboard
-        | Reading::GroupScoreboard
-        | Reading::Jury(_) => Ok(path),
+        _ => Ok(path),
     }
 }
 
@@ -122,13 +116,7 @@ fn unread_refusal(reading: Reading) -> Refusal
 {
     match reading {
         Reading::Account => Refusal::NotFound,
-        Reading::Whole(_)
-        | Reading::List(_)
-        | Reading::Object(_)
-        | Reading::File
-        | Reading::Scoreboard
-        | Reading::GroupScoreboard
-        | Reading::Jury(_) => Refusal::RoleForbids,
+        _ => Refusal::RoleForbids,
     }
 }
 
@@ -139,11 +127,6 @@ fn may_read(caller: &Caller<'_>, reading: Reading) -> bool
     match reading {
         Reading::Jury(_) => reads_all(caller),
         Reading::Account => account_of(caller).is_some(),
-        Reading::Whole(_)
-        | Reading::List(_)
-        | Reading::Object(_)
-        | Reading::File
-        | Reading::Scoreboard
-        | Reading::GroupScoreboard => true,
+        _ => true,
     }
 }

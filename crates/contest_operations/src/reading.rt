@@ -20,9 +20,10 @@ use contest_objects::{AccountObject, WholeContest, setting_text, settings_text, 
 use contest_postings::account_named;
 use contest_types::{Audience, Fixed, Refusal, Rows};
 use contest_view::{
-    Seen, award_by_id, awards_text, clarification_by_id, clarifications_text, feed_text, file_place,
-    group_scoreboard_text, judgement_by_id, judgements_text, named_submission, proposals_text,
-    rejudging_by_id, rejudgings_text, scoreboard_text, submission_by_id, submissions_text,
+    Seen, award_by_id, awards_text, clarification_by_id, clarifications_text, feed_text,
+    file_place, group_scoreboard_text, judgement_by_id, judgements_text, named_submission,
+    proposals_text, rejudging_by_id, rejudgings_text, scoreboard_text, submission_by_id,
+    submissions_text,
 };
 use std::alloc::{AllocError, Global};
 
@@ -41,14 +42,7 @@ pub fn read_file(
             let named = named_submission(lists, object_piece(path));
             file_place(lists.fixed(), audience, named)
         }
-        Reading::Whole(_)
-        | Reading::List(_)
-        | Reading::Object(_)
-        | Reading::Feed
-        | Reading::Scoreboard
-        | Reading::GroupScoreboard
-        | Reading::Account
-        | Reading::Jury(_) => None,
+        _ => None,
     }
 }
 
