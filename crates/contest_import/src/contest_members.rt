@@ -25,14 +25,14 @@ const USUAL_PLACES: u32 = 4;
 const MINUTE: u64 = 60_000;
 
 /// How long the contest runs, a relative time.
-pub(crate) fn duration_in(value: &Value) -> Option<TimeSpan>
+pub fn duration_in(value: &Value) -> Option<TimeSpan>
     ensures { result ≡ option_and_then span_of (text_in (codes "duration") (view value.now)) }
 {
     time_span(text_in(value, "duration")?.as_bytes())
 }
 
 /// How long before the end the scoreboard freezes, a relative time; never, where it isn't there.
-pub(crate) fn freeze_in(value: &Value) -> Option<Option<TimeSpan>>
+pub fn freeze_in(value: &Value) -> Option<Option<TimeSpan>>
     ensures { result ≡ optional freeze_of (present_in (codes "scoreboard_freeze_duration") (view value.now)) }
 {
     match present_in(value, "scoreboard_freeze_duration") {
@@ -63,7 +63,7 @@ fn is_pass_fail(member: &Value) -> Option<bool>
 }
 
 /// Minutes for each penalised attempt.
-pub(crate) fn penalty_in(value: &Value) -> Option<u32>
+pub fn penalty_in(value: &Value) -> Option<u32>
     ensures { result ≡ or_usual 20 penalty_of (present_in (codes "penalty_time") (view value.now)) }
 {
     match present_in(value, "penalty_time") {

@@ -130,8 +130,9 @@ fn problem_in(alloc: Global, object: &Value) -> Result<Option<Entry>, Refusal>
     })))
 }
 
+/// A problem's ordinal, if a member is one.
 #[tactic(auto, using(crate::proofs::ObjectLemmas::number_within))]
-fn ordinal_in(object: &Value) -> Option<u16>
+pub fn ordinal_in(object: &Value) -> Option<u16>
     ensures { result ≡ number_in 65_535 (codes "ordinal") (view object.now) }
 {
     match number_in(object, "ordinal", 65_535) {

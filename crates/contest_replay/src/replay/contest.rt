@@ -29,8 +29,8 @@ impl Model for ReplayContest {
 }
 
 impl ReplayContest {
-    /// The contest of these settings and submissions.
-    pub(crate) fn new(settings: Settings, submissions: Vec<JudgedSubmission>) -> ReplayContest
+    /// The contest of these settings and submissions, which are those of a valid contest.
+    pub fn new(settings: Settings, submissions: Vec<JudgedSubmission>) -> ReplayContest
         requires { IsReplay settings submissions.items }
         ensures { result ≡ record { settings = settings; submissions = submissions.items } }
     {
