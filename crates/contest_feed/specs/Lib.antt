@@ -1,0 +1,9 @@
+pub mod Lines
+pub mod Events
+pub mod ShownEvents
+pub mod Objects
+pub mod Collections
+pub mod PutRows
+pub mod Slots
+pub mod Tables
+pub mod LinesLeft

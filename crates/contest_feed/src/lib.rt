@@ -1,0 +1,16 @@
+//! The contest of an event feed of the Contest API (2020-03, 2022-07 and 2023-06), which is read
+//! line by line.
+#![tactic(auto)]
+
+mod change;
+mod collection;
+mod contest_object;
+mod event;
+mod feed_object;
+mod limits;
+mod lines;
+mod objects;
+mod reading;
+mod row;
+mod submissions;
+mod tables;
