@@ -7,3 +7,4 @@ pub mod PutRows
 pub mod Slots
 pub mod Tables
 pub mod LinesLeft
+pub mod StreamLeft

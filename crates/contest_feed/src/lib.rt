@@ -12,5 +12,8 @@ mod lines;
 mod objects;
 mod reading;
 mod row;
+mod stream;
 mod submissions;
 mod tables;
+
+pub use stream::FeedFault;
