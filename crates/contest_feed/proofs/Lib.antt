@@ -1,3 +1,4 @@
 pub mod SlotLemmas
 pub mod LineLemmas
 pub mod TakeLemmas
+pub mod FaultLemmas

@@ -6,5 +6,11 @@ pub mod Collections
 pub mod PutRows
 pub mod Slots
 pub mod Tables
+pub mod References
+pub mod Verdicts
+pub mod FeedContests
+pub mod EndedFeeds
+pub mod IdSets
+pub mod TeamCounts
 pub mod LinesLeft
 pub mod StreamLeft

@@ -6,7 +6,12 @@ mod change;
 mod collection;
 mod contest_object;
 mod event;
+mod feed_contest;
 mod feed_object;
+mod feed_rows;
+mod first_fault;
+mod full_teams;
+mod id_set;
 mod limits;
 mod lines;
 mod objects;
@@ -16,4 +21,5 @@ mod stream;
 mod submissions;
 mod tables;
 
+pub use feed_contest::{FeedContest, LeftOut};
 pub use stream::FeedFault;

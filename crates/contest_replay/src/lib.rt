@@ -3,4 +3,4 @@
 
 mod replay;
 
-pub use replay::{ReplayContest, read_replay_csv};
+pub use replay::{ReplayContest, add_any_language, read_replay_csv};

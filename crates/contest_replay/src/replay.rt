@@ -9,5 +9,6 @@ mod settings_row;
 mod submission_row;
 mod team_progress;
 
+pub use builder::add_any_language;
 pub use contest::ReplayContest;
 pub use file::read_replay_csv;

@@ -59,8 +59,12 @@ fn any_language(alloc: Global) -> Result<Language, RowFault>
     Ok(Language::new(id, name))
 }
 
-// Settings in which nothing stands yet get it.
-fn add_any_language(alloc: Global, settings: &mut Settings) -> Result<(), RowFault>
+/// Adds the one language of a replay to settings in which none stands yet.
+///
+/// # Errors
+///
+/// Want of memory alone.
+pub fn add_any_language(alloc: Global, settings: &mut Settings) -> Result<(), RowFault>
     requires { settings.old.languages ≡ [] }
     ensures ok { OnOk result (settings.new ≡ record settings.old { languages = any_language ∷ [] }) }
     ensures err { IfErr result (λ e. e ≡ RowFault.Memory) }

@@ -1,0 +1,29 @@
+-- The rows of a feed that has ended. Words of private functions: nothing public is said with them.
+use Rattle.std.specs.Prelude.{ℕ, ◌≡◌, ◌&&◌, Bool, true, Option, Some, None, nat_lt}
+use Rattle.contest_types.specs.Places.{are_different}
+use Rattle.contest_feed.specs.References.{Fault, ids_of}
+use Rattle.contest_feed.specs.declared.feed_rows.FeedRows.{FeedRows}
+use Rattle.contest_feed.specs.declared.tables.Tables.{Tables}
+
+-- the collections of these rows
+abbrev pub tables_of : FeedRows → Tables
+tables_of r = record {
+  contests = r.contests.items;
+  types = r.types.items;
+  problems = r.problems.items;
+  groups = r.groups.items;
+  teams = r.teams.items;
+  submissions = r.submissions.items;
+  judgements = r.judgements.items;
+}
+
+-- no two rows of a collection of the settings have one id
+pub record AreDifferent (r : FeedRows) : Type 0 where
+  pub types : are_different (ids_of r.types.items) ≡ true
+  pub problems : are_different (ids_of r.problems.items) ≡ true
+  pub teams : are_different (ids_of r.teams.items) ≡ true
+
+-- a fault in a line would be the first
+abbrev pub is_earlier : Option Fault → (line : ℕ) → Bool
+is_earlier None line = true
+is_earlier (Some first) line = nat_lt line first.0
