@@ -2,3 +2,6 @@ pub mod SlotLemmas
 pub mod LineLemmas
 pub mod TakeLemmas
 pub mod FaultLemmas
+pub mod TimeOrder
+pub mod VerdictLemmas
+pub mod KeptLemmas

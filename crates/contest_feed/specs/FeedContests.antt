@@ -55,12 +55,15 @@ settings_of contest t = record {
   teams = map (team_of t.groups) t.teams;
 }
 
--- a submission that counts, with its verdict
-abbrev pub attempt_of : (duration : ℕ) → Tables → Row FeedSubmission → Option JudgedSubmission
-attempt_of duration t row =
+-- a submission that counts, with its verdict; teams and problems go by their places among these ids
+abbrev pub attempt_by : (duration : ℕ) → (teams problems : List Text) → (verdict : Text → Option ℕ) → Row FeedSubmission → Option JudgedSubmission
+attempt_by duration teams problems verdict row =
     option_and_then (λ time. option_and_then (λ team. option_map
-    (λ problem. record { team = team; problem = problem; time = time; verdict = verdict_of (ids_of t.types) t.judgements row.id })
-    (place_of row.object.problem (ids_of t.problems))) (place_of row.object.team (ids_of t.teams))) (within duration row.object.time)
+    (λ problem. record { team = team; problem = problem; time = time; verdict = verdict row.id })
+    (place_of row.object.problem problems)) (place_of row.object.team teams)) (within duration row.object.time)
+
+abbrev pub attempt_of : (duration : ℕ) → Tables → Row FeedSubmission → Option JudgedSubmission
+attempt_of duration t row = attempt_by duration (ids_of t.teams) (ids_of t.problems) (verdict_of (ids_of t.types) t.judgements) row
 
 -- an attempt before those that aren't earlier
 abbrev pub put_by_time : JudgedSubmission → List JudgedSubmission → List JudgedSubmission

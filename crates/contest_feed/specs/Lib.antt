@@ -12,5 +12,6 @@ pub mod FeedContests
 pub mod EndedFeeds
 pub mod IdSets
 pub mod TeamCounts
+pub mod LastVerdicts
 pub mod LinesLeft
 pub mod StreamLeft

@@ -22,7 +22,7 @@ later (Some last) next = Some (if ended_before next.ended last.ended then last e
 
 -- the judgement counts for the submission with this id: it has a type, and isn't withdrawn
 abbrev pub judges : (submission : Text) → FeedJudgement → Bool
-judges submission j = bytes_eq submission j.submission && (j.counts && is_some j.verdict)
+judges submission j = bytes_eq j.submission submission && (j.counts && is_some j.verdict)
 
 -- the one that ended last
 abbrev pub last_judgement : (submission : Text) → List FeedJudgement → Option FeedJudgement
@@ -33,5 +33,8 @@ abbrev pub place_by : (types : List Text) → FeedJudgement → Option ℕ
 place_by types j = option_and_then (λ id. place_of id types) j.verdict
 
 -- the place of the type of the judgement that ended last; none where the submission is pending
+abbrev pub verdict_in : (types : List Text) → List FeedJudgement → (submission : Text) → Option ℕ
+verdict_in types js submission = option_and_then (place_by types) (last_judgement submission js)
+
 abbrev pub verdict_of : (types : List Text) → List (Row FeedJudgement) → (submission : Text) → Option ℕ
-verdict_of types judgements submission = option_and_then (place_by types) (last_judgement submission (map (λ row. row.object) judgements))
+verdict_of types judgements submission = verdict_in types (map (λ row. row.object) judgements) submission

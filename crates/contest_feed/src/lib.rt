@@ -2,6 +2,7 @@
 //! line by line.
 #![tactic(auto)]
 
+mod attempts;
 mod change;
 mod collection;
 mod contest_object;
@@ -20,6 +21,7 @@ mod row;
 mod stream;
 mod submissions;
 mod tables;
+mod verdicts;
 
 pub use feed_contest::{FeedContest, LeftOut};
 pub use stream::FeedFault;
