@@ -5,3 +5,4 @@ pub mod FaultLemmas
 pub mod TimeOrder
 pub mod VerdictLemmas
 pub mod KeptLemmas
+pub mod SetupLemmas

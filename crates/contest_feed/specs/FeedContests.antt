@@ -41,8 +41,11 @@ abbrev pub hides : List (Row FeedGroup) → Text → Bool
 hides groups id = list_any (λ group. bytes_eq group.id id && group.object.hidden) groups
 
 -- a team is hidden if it says so, or one of its groups does
+abbrev pub is_hidden : List (Row FeedGroup) → FeedTeam → Bool
+is_hidden groups team = team.hidden || list_any (hides groups) team.groups
+
 abbrev pub team_of : List (Row FeedGroup) → Row FeedTeam → Team
-team_of groups row = record (plain_team row.id row.object.name) { hidden = row.object.hidden || list_any (hides groups) row.object.groups }
+team_of groups row = record (plain_team row.id row.object.name) { hidden = is_hidden groups row.object }
 
 -- the settings: no groups, and the one language of a replay
 abbrev pub settings_of : Row ContestMembers → Tables → Setup

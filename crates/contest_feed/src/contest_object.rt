@@ -1,5 +1,5 @@
 //! What a contest's object in a feed says.
-ghost use Rattle.std.specs.Prelude.{◌≡◌, option_map, true};
+ghost use Rattle.std.specs.Prelude.{◌≡◌, IfOk, option_map, true};
 ghost use Rattle.contest_types.specs.Setup.{has_valid_freeze, is_valid_head};
 ghost use Rattle.contest_feed.specs.Objects.{are_in_range, head_of};
 
@@ -7,7 +7,7 @@ use crate::feed_object::{FeedObject, first_name};
 use contest_import::{duration_in, freeze_in, penalty_in};
 use contest_types::{ContestHead, Id, Medals, Name, Refusal, TimeSpan, limits};
 use serde_json::Value;
-use std::alloc::Global;
+use std::alloc::{AllocError, Global};
 use std::marker::Model;
 
 /// How many ranks win each kind of medal: no feed says it, and no board shows it.
@@ -36,13 +36,17 @@ impl Model for ContestObject {
 
 impl ContestObject {
     /// The head of the contest that has this id.
-    pub(crate) fn into_head(self, id: Id) -> ContestHead
-        ensures value { result ≡ head_of id self }
-        ensures valid { is_valid_head result ≡ true }
+    ///
+    /// # Errors
+    ///
+    /// Want of memory alone.
+    pub(crate) fn head(&self, id: &Id) -> Result<ContestHead, AllocError>
+        ensures value { IfOk result (λ head. head ≡ head_of id.now self.now) }
+        ensures valid { IfOk result (λ head. is_valid_head head ≡ true) }
     {
-        ContestHead {
-            id,
-            name: self.name,
+        Ok(ContestHead {
+            id: id.clone()?,
+            name: self.name.clone()?,
             duration: self.duration,
             freeze: self.freeze,
             penalty_time: self.penalty_time,
@@ -52,7 +56,14 @@ impl ContestObject {
                 silver: MEDALS,
                 bronze: MEDALS,
             },
-        }
+        })
+    }
+
+    /// How long the contest runs.
+    pub(crate) fn duration(&self) -> TimeSpan
+        ensures { result ≡ self.now.duration }
+    {
+        self.duration
     }
 }
 

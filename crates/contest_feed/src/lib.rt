@@ -18,6 +18,7 @@ mod lines;
 mod objects;
 mod reading;
 mod row;
+mod setup;
 mod stream;
 mod submissions;
 mod tables;
