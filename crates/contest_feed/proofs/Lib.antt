@@ -6,3 +6,5 @@ pub mod TimeOrder
 pub mod VerdictLemmas
 pub mod KeptLemmas
 pub mod SetupLemmas
+pub mod FaultlessLemmas
+pub mod AttemptLemmas

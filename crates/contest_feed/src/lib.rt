@@ -6,6 +6,7 @@ mod attempts;
 mod change;
 mod collection;
 mod contest_object;
+mod ending;
 mod event;
 mod feed_contest;
 mod feed_object;

@@ -57,12 +57,12 @@ fn add_all(alloc: Global, settings: &mut Settings, rows: &FeedRows) -> Result<()
     requires fits { Fits rows.now }
     requires empty { settings.old ≡ record { head = settings.old.head; types = []; languages = []; problems = []; groups = []; teams = [] } }
     ensures ok { OnOk result (settings.new ≡ record {
-        head = settings.old.head;
-        types = map type_of rows.now.types.items;
-        languages = any_language ∷ [];
-        problems = map problem_of rows.now.problems.items;
-        groups = [];
-        teams = map (team_of rows.now.groups.items) rows.now.teams.items;
+      head = settings.old.head;
+      types = map type_of rows.now.types.items;
+      languages = any_language ∷ [];
+      problems = map problem_of rows.now.problems.items;
+      groups = [];
+      teams = map (team_of rows.now.groups.items) rows.now.teams.items;
     }) }
     ensures err { IfErr result (λ e. e ≡ RowFault.Memory) }
 {
@@ -72,11 +72,7 @@ fn add_all(alloc: Global, settings: &mut Settings, rows: &FeedRows) -> Result<()
     add_teams(alloc, settings, &rows.groups, &rows.teams)
 }
 
-fn add_types(
-    alloc: Global,
-    settings: &mut Settings,
-    rows: &[Row<FeedType>],
-) -> Result<(), RowFault>
+fn add_types(alloc: Global, settings: &mut Settings, rows: &[Row<FeedType>]) -> Result<(), RowFault>
     requires none { settings.old.types ≡ [] }
     requires few { length rows.now ≤ JUDGEMENT_TYPES }
     requires different { are_different (ids_of rows.now) ≡ true }
@@ -89,11 +85,7 @@ fn add_types(
     Ok(())
 }
 
-fn add_type(
-    alloc: Global,
-    settings: &mut Settings,
-    row: &Row<FeedType>,
-) -> Result<(), RowFault>
+fn add_type(alloc: Global, settings: &mut Settings, row: &Row<FeedType>) -> Result<(), RowFault>
     requires { type_addition settings.old (type_of row.now) ≡ Ok true }
     ensures ok { OnOk result (settings.new ≡ with_type true settings.old (type_of row.now)) }
     ensures err { IfErr result (λ e. e ≡ RowFault.Memory) }
