@@ -4,28 +4,31 @@ use Rattle.std.specs.Prelude.{◌&&◌, ◌==◌, ℤ, pos, negsuc, filter, is_s
 use Rattle.std.specs.List.{cons_option, filter_map, list_all, position_from}
 use Rattle.std.specs.Option.{option_and_then, option_map}
 use Rattle.std.specs.Str.{bytes_eq}
-use Rattle.std.proofs.lemmas.Bool.{cases_Bool, false≢true, eqb-true, eq-eqb, le-leb, ltb-true, lt-ltb, ltb-false}
+use Rattle.std.proofs.lemmas.Bool.{cases_Bool, eqb-true, eq-eqb, le-leb, ltb-true, ltb-false}
 use Rattle.std.proofs.lemmas.List.{length-map}
 use Rattle.std.proofs.lemmas.List.Elements.{All-tail}
-use Rattle.contest_types.specs.Clock.{reached}
 use Rattle.contest_types.specs.Places.{place_of}
 use Rattle.contest_types.specs.Series.{never_fall}
 use Rattle.contest_types.specs.Setup.{Setup, IsValid}
 use Rattle.contest_types.specs.declared.limits.TheConstants.{TEAMS, TEAM_SUBMISSIONS}
+use Rattle.contest_types.specs.declared.objects.JudgementType.{JudgementType}
+use Rattle.contest_types.specs.declared.objects.Problem.{Problem}
+use Rattle.contest_types.specs.declared.objects.Team.{Team}
 use Rattle.contest_types.proofs.PlaceLemmas.{and_left, and_right, both_true, bytes_same, place_bound, same_bytes}
 use Rattle.contest_score.specs.MaskedCells.{IsAdmitted}
 use Rattle.contest_score.specs.declared.submission.JudgedSubmission.{JudgedSubmission}
-use Rattle.contest_replay.specs.ReplayLists.{team_submissions, within}
+use Rattle.contest_replay.specs.ReplayLists.{within}
 use Rattle.contest_replay.specs.ReplayState.{IsReplay, ReadsValid, reading_marks}
 use Rattle.contest_feed.specs.FeedContests.{attempt_by, attempts_of, by_time, put_by_time, settings_of, team_of, problem_of, type_of}
 use Rattle.contest_feed.specs.Objects.{ContestMembers}
-use Rattle.contest_feed.specs.References.{counted, counts, first_fault, ids_of}
+use Rattle.contest_feed.specs.References.{counts, first_fault, ids_of}
 use Rattle.contest_feed.specs.Verdicts.{last_judgement, place_by, verdict_in, verdict_of}
 use Rattle.contest_feed.specs.declared.row.Row.{Row}
 use Rattle.contest_feed.specs.declared.submissions.FeedJudgement.{FeedJudgement}
 use Rattle.contest_feed.specs.declared.submissions.FeedSubmission.{FeedSubmission}
 use Rattle.contest_feed.specs.declared.tables.Tables.{Tables}
 use Rattle.contest_feed.proofs.FaultlessLemmas.{NoFault, few_rows, nothing_at_fault, team_few}
+use Rattle.contest_feed.proofs.SetupLemmas.{told_by}
 use Rattle.contest_feed.proofs.TimeOrder.{rising}
 
 -- what holds of each is kept by what is kept, and in the order of time
@@ -267,3 +270,16 @@ is_replay contest t none valid =
     let most = few_rows TEAMS t.teams n.teams in
     let all = total_few (length s.teams) (attempts_of duration t) (λ i d l. (reads.admitted i d l).team) (few_of_team duration t n (verdict_of (ids_of t.types) t.judgements)) in
     record { settings = valid; reads = reads; few = omega (arith, all, most, teams) }
+
+-- attempts by the places in the settings are those by the places in the feed
+pub attempts_are : (s : Setup) (contest : Row ContestMembers) (t : Tables) (us : List JudgedSubmission) → s ≡ settings_of contest t
+    → us ≡ by_time (filter_map (attempt_by s.head.duration (map (λ t. t.id) s.teams) (map (λ p. p.id) s.problems) (verdict_in (map (λ t. t.id) s.types) (map (λ row. row.object) t.judgements))) t.submissions)
+    → us ≡ attempts_of contest.object.duration t
+attempts_are s contest t us is h =
+    let teams = told_by (λ (x : Team). x.id) (team_of t.groups) t.teams in
+    let problems = told_by (λ (x : Problem). x.id) problem_of t.problems in
+    let types = told_by (λ (x : JudgementType). x.id) type_of t.types in
+    let js = map (λ (row : Row FeedJudgement). row.object) t.judgements in
+    h
+    ∙ (ap (λ (z : Setup). by_time (filter_map (attempt_by z.head.duration (map (λ t. t.id) z.teams) (map (λ p. p.id) z.problems) (verdict_in (map (λ t. t.id) z.types) js)) t.submissions)) is
+    ∙ (λ i. by_time (filter_map (attempt_by contest.object.duration (teams i) (problems i) (verdict_in (types i) js)) t.submissions)))

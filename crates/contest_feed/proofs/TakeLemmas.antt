@@ -1,9 +1,9 @@
 -- What reading takes from a stream, read by read.
-use Rattle.std.proofs.Common.{◌≡◌, ◌≤◌, ◌<◌, ◌∙◌, ◌++◌, ◌⊎◌, ℕ, List, [], Option, Some, None, IfSome, Result, Ok, Err, refl, sym, ap, subst, inl, inr, arith, append_assoc, append-nil}
+use Rattle.std.proofs.Common.{◌≡◌, ◌≤◌, ◌∙◌, ◌++◌, ℕ, List, [], Option, Some, None, IfSome, Result, refl, sym, ap, subst, inl, inr, arith, append_assoc}
 use Rattle.std.specs.Io.KnownBytes.{Consumes, IsAtEnd}
-use Rattle.std.proofs.KnownBytes.{Consumes-nil, Consumes-trans}
+use Rattle.std.proofs.KnownBytes.{Consumes-trans}
 use Rattle.contest_types.specs.declared.refusal.Refusal.{Refusal}
-use Rattle.contest_streams.specs.Streams.{Stream, Fails}
+use Rattle.contest_streams.specs.Streams.{Stream}
 use Rattle.contest_files.specs.Refused.{Refuses}
 use Rattle.contest_feed.specs.LinesLeft.{tables_left}
 use Rattle.contest_feed.specs.StreamLeft.{Stops, StopsTables, Takes}

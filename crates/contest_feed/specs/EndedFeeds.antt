@@ -1,11 +1,9 @@
 -- The rows of a feed that has ended. Words of private functions: nothing public is said with them.
-use Rattle.std.specs.Prelude.{ℕ, ◌≡◌, ◌≤◌, Bool, true, List, [], ◌∷◌, Option, Some, None, length, map, nat_lt}
+use Rattle.std.specs.Prelude.{ℕ, ◌≡◌, ◌≤◌, Bool, true, Option, Some, None, length, map, nat_lt}
 use Rattle.contest_types.specs.Places.{are_different}
 use Rattle.contest_types.specs.declared.limits.TheConstants.{JUDGEMENT_TYPES, PROBLEMS, TEAMS}
-use Rattle.contest_feed.specs.Objects.{ContestMembers}
-use Rattle.contest_feed.specs.References.{Fault, first_fault, ids_of}
+use Rattle.contest_feed.specs.References.{Fault, ids_of}
 use Rattle.contest_feed.specs.declared.feed_rows.FeedRows.{FeedRows}
-use Rattle.contest_feed.specs.declared.row.Row.{Row}
 use Rattle.contest_feed.specs.declared.tables.Tables.{Tables}
 
 -- the collections of these rows
@@ -33,14 +31,6 @@ pub record Fits (r : FeedRows) : Type 0 where
   pub few_types : length r.types.items ≤ JUDGEMENT_TYPES
   pub few_problems : length r.problems.items ≤ PROBLEMS
   pub few_teams : length r.teams.items ≤ TEAMS
-
--- a contest stands, and nothing is at fault
-abbrev pub IsFaultlessUnder : List (Row ContestMembers) → Tables → Type 0
-IsFaultlessUnder [] t = ⊥
-IsFaultlessUnder (contest ∷ others) t = first_fault contest.object.duration t ≡ None
-
-abbrev pub IsFaultless : FeedRows → Type 0
-IsFaultless r = IsFaultlessUnder r.contests.items (tables_of r)
 
 -- a fault in a line would be the first
 abbrev pub is_earlier : Option Fault → (line : ℕ) → Bool

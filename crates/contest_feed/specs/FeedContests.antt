@@ -14,7 +14,7 @@ use Rattle.contest_types.specs.declared.refusal.Refusal.{Refusal}
 use Rattle.contest_types.specs.declared.refusal.Refusal.TheVariants.{Malformed, ImportRow}
 use Rattle.contest_score.specs.declared.submission.JudgedSubmission.{JudgedSubmission}
 use Rattle.contest_files.specs.FieldTexts.{Text}
-use Rattle.contest_replay.specs.ReplayLists.{ReplayLists, any_language, within}
+use Rattle.contest_replay.specs.ReplayLists.{any_language, within}
 use Rattle.contest_feed.specs.Objects.{ContestMembers, head_of}
 use Rattle.contest_feed.specs.References.{Fault, counts, first_fault, ids_of}
 use Rattle.contest_feed.specs.Tables.{tables_in}
@@ -26,7 +26,6 @@ use Rattle.contest_feed.specs.declared.objects.FeedProblem.{FeedProblem}
 use Rattle.contest_feed.specs.declared.objects.FeedTeam.{FeedTeam}
 use Rattle.contest_feed.specs.declared.objects.FeedType.{FeedType}
 use Rattle.contest_feed.specs.declared.row.Row.{Row}
-use Rattle.contest_feed.specs.declared.submissions.FeedJudgement.{FeedJudgement}
 use Rattle.contest_feed.specs.declared.submissions.FeedSubmission.{FeedSubmission}
 use Rattle.contest_feed.specs.declared.tables.Tables.{Tables}
 

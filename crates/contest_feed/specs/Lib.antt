@@ -9,6 +9,7 @@ pub mod Tables
 pub mod References
 pub mod Verdicts
 pub mod FeedContests
+pub mod FeedStops
 pub mod EndedFeeds
 pub mod IdSets
 pub mod TeamCounts

@@ -1,7 +1,7 @@
 -- What the objects of a feed say beside their ids (Contest API 2020-03, 2022-07 and 2023-06: contest,
 -- judgement types, problems, groups, teams, submissions and judgements; which members are read is own). A
 -- member that is null is as one that isn't there.
-use Rattle.std.specs.Prelude.{ℕ, ℤ, ◌&&◌, Bool, true, List, [], Option, Some, None, if◌then◌else◌, codes, false, nat_le, nat_lt}
+use Rattle.std.specs.Prelude.{ℕ, ℤ, ◌&&◌, Bool, true, [], Option, Some, None, if◌then◌else◌, codes, false, nat_le, nat_lt}
 use Rattle.std.specs.Option.{option_and_then, option_map}
 use Rattle.serde_json.specs.Data.{Data}
 use Rattle.serde_json.specs.Find.{as_bool, as_str}

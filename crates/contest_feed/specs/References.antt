@@ -1,6 +1,6 @@
 -- What of a feed is at fault once it has ended: an object that refers to nothing, a label that stands twice,
 -- a table that is full (own).
-use Rattle.std.specs.Prelude.{ℕ, ℤ, ◌&&◌, ◌||◌, ◌++◌, Bool, List, [], ◌∷◌, Option, Some, None, drop, filter, fold, is_some, length, map, nat_le, nat_lt, if◌then◌else◌}
+use Rattle.std.specs.Prelude.{ℕ, ◌&&◌, ◌||◌, ◌++◌, Bool, List, [], ◌∷◌, Option, Some, None, drop, filter, fold, is_some, length, map, nat_le, nat_lt, if◌then◌else◌}
 use Rattle.std.specs.List.{list_any}
 use Rattle.std.specs.Str.{bytes_eq}
 use Rattle.contest_types.specs.Places.{is_among}

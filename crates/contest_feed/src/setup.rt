@@ -31,15 +31,16 @@ pub(crate) fn settings_of(
     alloc: Global,
     contest: &Row<ContestObject>,
     rows: &FeedRows,
-) -> Result<Settings, RowFault>
+) -> Result<Settings, AllocError>
     requires { Fits rows.now }
-    ensures ok { IfOk result (λ s. s ≡ settings_of contest.now (tables_of rows.now)) }
-    ensures err { IfErr result (λ e. e ≡ RowFault.Memory) }
+    ensures { IfOk result (λ s. s ≡ settings_of contest.now (tables_of rows.now)) }
 {
     let head = contest.object.head(&contest.id)?;
     let mut settings = empty_settings(alloc, head);
-    add_all(alloc, &mut settings, rows)?;
-    Ok(settings)
+    match add_all(alloc, &mut settings, rows) {
+        Ok(()) => Ok(settings),
+        Err(_) => Err(AllocError),
+    }
 }
 
 fn empty_settings(alloc: Global, head: ContestHead) -> Settings

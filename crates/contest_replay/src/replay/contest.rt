@@ -32,7 +32,8 @@ impl ReplayContest {
     /// The contest of these settings and submissions, which are those of a valid contest.
     pub fn new(settings: Settings, submissions: Vec<JudgedSubmission>) -> ReplayContest
         requires { IsReplay settings submissions.items }
-        ensures { result ≡ record { settings = settings; submissions = submissions.items } }
+        ensures same { result ≡ record { settings = settings; submissions = submissions.items } }
+        ensures valid { (thawed : Bool) → is_valid (replay_contest settings (marks_for settings thawed) submissions.items) ≡ true }
     {
         ReplayContest {
             settings,

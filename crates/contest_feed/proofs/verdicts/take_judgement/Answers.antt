@@ -2,7 +2,7 @@ use Rattle.std.proofs.Common.{◌≡◌, ◌∙◌, Some, ap, map, refl, sym, su
 use Rattle.std.specs.Prelude.{if◌then◌else◌}
 use Rattle.std.specs.Str.{bytes_eq}
 use Rattle.std.proofs.lemmas.Map.Text.{hash_map_updates_str}
-use Rattle.contest_feed.specs.LastVerdicts.{is_last, kept, kept_for}
+use Rattle.contest_feed.specs.LastVerdicts.{is_last, kept_for}
 use Rattle.contest_feed.proofs.VerdictLemmas.{counted_last, is_counted, kept_is}
 use Rattle.contest_feed.proofs.verdicts.take_judgement.Goals as goal
 

@@ -1,5 +1,5 @@
 use Rattle.contest_replay.proofs.ReplayStateLemmas.{few_submissions}
-use Rattle.contest_replay.proofs.ReplayUntil.{reads_valid, replay_valid}
+use Rattle.contest_replay.proofs.ReplayUntil.{reads_valid}
 use Rattle.contest_replay.proofs.replay.builder.ReplayBuilder.into_contest.Goals as goal
 
 pub new-requires : goal.new-requires
@@ -12,9 +12,3 @@ new-requires c =
       reads = reads_valid s us c.self.inside.teams.items c.self.invariant;
       few = few_submissions s us c.self.inside.teams.items c.self.invariant valid.few_teams;
     }
-
-pub returns-clause-valid : goal.returns-clause-valid
-returns-clause-valid c =
-    let s = c.self.inside.settings in
-    let us = c.self.inside.submissions.items in
-    rw c.new.ensures (λ thawed. replay_valid s us thawed c.teams-teams.ensures.valid (reads_valid s us c.self.inside.teams.items c.self.invariant))
