@@ -8,3 +8,4 @@ pub mod KeptLemmas
 pub mod SetupLemmas
 pub mod FaultlessLemmas
 pub mod AttemptLemmas
+mod ExamplesFeeds
