@@ -3,10 +3,10 @@ ghost use Rattle.std.specs.Prelude.{◌≡◌, ◌⊎◌, ◌<◌, ◌^◌, Ok, 
 ghost use Rattle.std.specs.Prelude.{string_bytes};
 ghost use Rattle.contest_score.specs.MaskedCells.{IsAdmitted};
 ghost use Rattle.contest_cli_replay.specs.ReplayText.{board_of, audience_for, moment_for};
-ghost use Rattle.contest_cli_replay.specs.ReplayText.{board_text_of};
+ghost use Rattle.contest_cli_replay.specs.ReplayText.{board_text_of, shown};
 
 use crate::replay_words::ReplayWords;
-use contest_replay::read_replay_csv;
+use contest_replay::{ReplayContest, read_replay_csv};
 use contest_score::{JudgedSubmission, board, plain_cells};
 use contest_text::board_text;
 use contest_types::{Audience, Marks, Moment, Refusal, RelTime, Settings, TimeSpan};
@@ -22,7 +22,24 @@ pub(crate) fn replay_text(
     ensures ok { IfOk result (λ text. board_of asked.now.jury asked.now.thawed asked.now.at bytes.now ≡ Ok (string_bytes text)) }
     ensures err { IfErr result (λ r. (r ≡ Refusal.Memory) ⊎ (board_of asked.now.jury asked.now.thawed asked.now.at bytes.now ≡ Err r)) }
 {
-    let mut contest = read_replay_csv(alloc, bytes)?;
+    let contest = read_replay_csv(alloc, bytes)?;
+    contest_text(alloc, asked, contest)
+}
+
+/// The text of the board that the words ask for, at a contest time or at the end, of a contest.
+///
+/// # Errors
+///
+/// Want of memory alone.
+pub fn contest_text(
+    alloc: Global,
+    asked: &ReplayWords,
+    contest: ReplayContest,
+) -> Result<String, Refusal>
+    ensures ok { IfOk result (λ text. shown asked.now.jury asked.now.thawed asked.now.at (Ok contest) ≡ Ok (string_bytes text)) }
+    ensures err { IfErr result (λ e. e ≡ Refusal.Memory) }
+{
+    let mut contest = contest;
     let marks = contest.marks(asked.thawed);
     let now = moment_for(contest.settings(), asked.at);
     contest.retain_until(now);
