@@ -1,0 +1,4 @@
+pub mod Asked
+pub mod LeftOutLine
+pub mod Audit
+pub mod Shown

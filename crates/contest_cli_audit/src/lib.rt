@@ -1,0 +1,10 @@
+//! The command `audit`, over any reader and writers: its words, and the board of the contest that
+//! an event feed spells.
+#![tactic(auto)]
+
+mod audit_command;
+mod audit_words;
+mod left_out_line;
+
+pub use audit_command::audit;
+pub use audit_words::AuditWords;
