@@ -5,7 +5,7 @@ use Rattle.httpdate.specs.Date.{date_text, unix_secs}
 use Rattle.httpdate.specs.declared.date.HttpDate.{HttpDate}
 use Rattle.contest_operations.specs.Offers.{methods_text}
 use Rattle.contest_operations.specs.declared.reply.ContentType.{ContentType}
-use Rattle.contest_operations.specs.declared.reply.ContentType.TheVariants.{Json, Zip}
+use Rattle.contest_operations.specs.declared.reply.ContentType.TheVariants.{Json, JsonLines, Zip}
 use Rattle.contest_operations.specs.declared.reply.ExtraField.{ExtraField}
 use Rattle.contest_operations.specs.declared.reply.ExtraField.TheVariants.{Allow, Nothing, WwwAuthenticate}
 use Rattle.contest_operations.specs.declared.reply.Reply.{Reply}
@@ -26,6 +26,7 @@ extra_line WwwAuthenticate = codes "\r\nWWW-Authenticate: Bearer realm=\"desk\""
 
 abbrev pub type_text : ContentType → List ℕ
 type_text Json = codes "application/json"
+type_text JsonLines = codes "application/x-ndjson"
 type_text Zip = codes "application/zip"
 
 -- the lines of a reply's head

@@ -89,10 +89,11 @@ fn methods_text(methods: AllowedMethods) -> &'static str
 
 fn type_text(kind: ContentType) -> &'static str
     ensures text { result.now ≡ type_text kind }
-    ensures short { length result.now ≤ 16 }
+    ensures short { length result.now ≤ 20 }
 {
     match kind {
         ContentType::Json => "application/json",
+        ContentType::JsonLines => "application/x-ndjson",
         ContentType::Zip => "application/zip",
     }
 }

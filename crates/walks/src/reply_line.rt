@@ -6,9 +6,10 @@ use contest_desk::{Answer, ContentType, ExtraField, Reply};
 use contest_fixtures::text_of;
 use std::alloc::{AllocError, Global};
 
-/// Whether a line of a walk is an answer.
+/// Whether a line of a walk is an answer, or goes on with one: the events of a feed are lines.
 pub fn is_answer(line: &str) -> bool {
     line.starts_with(|first: char| first.is_ascii_digit())
+        || line.starts_with('{')
         || line.starts_with("added ")
         || line.starts_with("refused: ")
 }
@@ -27,12 +28,14 @@ fn reply_line(alloc: Global, reply: &Reply) -> Result<String, AllocError> {
     let content = content_text(reply.content);
     let (field, value) = field_texts(reply.extra);
     let body = text_of(reply.body.as_bytes());
-    format!(in alloc; "{status}{content}{field}{value} {body}\n")
+    let end = if body.ends_with('\n') { "" } else { "\n" };
+    format!(in alloc; "{status}{content}{field}{value} {body}{end}")
 }
 
 fn content_text(content: ContentType) -> &'static str {
     match content {
         ContentType::Json => "",
+        ContentType::JsonLines => " application/x-ndjson",
         ContentType::Zip => " application/zip",
     }
 }
