@@ -4,6 +4,7 @@
 
 mod added_line;
 mod export_command;
+mod feed_command;
 mod import_command;
 mod init_command;
 mod listening_line;
@@ -15,6 +16,7 @@ mod serving;
 mod upgrade_command;
 
 pub use export_command::run_export;
+pub use feed_command::run_feed;
 pub use import_command::run_import;
 pub use init_command::run_init;
 pub use opening::open_desk;

@@ -46,8 +46,12 @@ fn who_of(asked: AskedText<'_>) -> Who<'_>
     }
 }
 
-// The audience that looks. The error is that no team has the id, or want of memory.
-fn audience_of(alloc: Global, settings: &Settings, who: Who<'_>) -> Result<Audience, CommandError>
+/// The audience that looks. The error is that no team has the id, or want of memory.
+pub(crate) fn audience_of(
+    alloc: Global,
+    settings: &Settings,
+    who: Who<'_>,
+) -> Result<Audience, CommandError>
     ensures ok { IfOk result (λ audience. audience_of settings.now who.entry ≡ Some audience) }
     ensures there { IfOk result (λ audience. is_audience settings.now audience ≡ true) }
     ensures err { IfErr result (λ stop. IsMemory stop ⊎ (IsWords stop × (audience_of settings.now who.entry ≡ None))) }

@@ -5,6 +5,7 @@ use Rattle.contest_cli_words.specs.AwardsWords.{awards_app}
 use Rattle.contest_cli_words.specs.BoardWords.{board_app}
 use Rattle.contest_cli_words.specs.CommandTable.{only_file, wants_words}
 use Rattle.contest_cli_words.specs.ExportWords.{export_app}
+use Rattle.contest_cli_words.specs.FeedWords.{feed_app}
 use Rattle.contest_cli_words.specs.ImportWords.{import_app, import_wanted}
 use Rattle.contest_cli_words.specs.InitWords.{init_app, init_wanted}
 use Rattle.contest_cli_words.specs.ServeWords.{serve_app}
@@ -37,3 +38,7 @@ export_wants = refl
 pub upgrade_wants : wants_words only_file upgrade_app ≡ true
 unfolding clap_on_literals upgrade_app
 upgrade_wants = refl
+
+pub feed_wants : wants_words only_file feed_app ≡ true
+unfolding clap_on_literals feed_app
+feed_wants = refl

@@ -5,6 +5,7 @@ pub mod AskedMoment
 pub mod BoardWords
 pub mod AwardsWords
 pub mod ExportWords
+pub mod FeedWords
 pub mod UpgradeWords
 pub mod Arguments
 pub mod CommandTable

@@ -1,6 +1,8 @@
-//! What the command `board` is asked for.
+//! Who looks at a contest, and which board is asked for.
+ghost use Rattle.std.specs.Option.{option_map};
+ghost use Rattle.contest_cli_words.specs.BoardWords.{NamesWho};
 
-/// Who looks at a board.
+/// Who looks at a contest.
 #[derive(Clone, Copy)]
 pub enum Who<'a> {
     /// Anyone.
@@ -29,4 +31,16 @@ pub struct AskedBoard<'a> {
     pub group: Option<&'a str>,
     /// How it is written.
     pub format: BoardFormat,
+}
+
+/// Who is named; anyone where nobody is. The words win over a team's id.
+pub(crate) fn who_in<'a>(text: Option<&'a str>) -> Who<'a>
+    ensures { NamesWho (option_map (λ s. s.now) text.entry) result }
+{
+    match text {
+        None => Who::Public,
+        Some("public") => Who::Public,
+        Some("jury") => Who::Jury,
+        Some(id) => Who::Team(id),
+    }
 }

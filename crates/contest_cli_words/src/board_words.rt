@@ -1,12 +1,12 @@
 //! The words of `board`.
 ghost use Rattle.std.specs.Prelude.{◌≡◌, IfNone, IfSome, true};
 ghost use Rattle.std.specs.Option.{option_map};
-ghost use Rattle.contest_cli_words.specs.BoardWords.{NamesFormat, NamesWho, board_app, no_format};
+ghost use Rattle.contest_cli_words.specs.BoardWords.{NamesFormat, board_app, no_format};
 ghost use Rattle.contest_cli_words.specs.CommandErrors.{IsWordsOrMemory, SaysOrMemory};
 ghost use Rattle.contest_cli_words.specs.CommandTable.{app_in, only_file, wants_words};
 ghost use Rattle.contest_cli_words.specs.declared.asked_board.BoardFormat.{BoardFormat as TheFormat};
 
-use crate::asked_board::{AskedBoard, BoardFormat, Who};
+use crate::asked_board::{AskedBoard, BoardFormat, who_in};
 use crate::asked_moment::moment_in;
 use crate::command_table::{CommandTable, WordKind, WordRow};
 use crate::{CommandError, CommandWords, value_in, word_in};
@@ -89,18 +89,6 @@ impl<'a> CommandWords<'a> for BoardWords<'a> {
             asked: AskedBoard { who, group, format },
             at,
         })
-    }
-}
-
-// Who is named; anyone where nobody is. The words win over a team's id.
-fn who_in<'a>(text: Option<&'a str>) -> Who<'a>
-    ensures { NamesWho (option_map (λ s. s.now) text.entry) result }
-{
-    match text {
-        None => Who::Public,
-        Some("public") => Who::Public,
-        Some("jury") => Who::Jury,
-        Some(id) => Who::Team(id),
     }
 }
 

@@ -1,4 +1,4 @@
-use Rattle.std.proofs.Common.{inl, refl, subst}
+use Rattle.std.proofs.Common.{arith, inl, refl, subst}
 use Rattle.std.proofs.KnownBytes.{Keeps-refl}
 use Rattle.sqlite.specs.Held.{state}
 use Rattle.sqlite.specs.State.{HasCleanDisk}
@@ -10,6 +10,7 @@ use Rattle.contest_store_sqlite.specs.Value.{stored}
 use Rattle.contest_cli_words.specs.declared.command_error.CommandError.TheVariants.{Refused}
 use Rattle.contest_cli_commands.proofs.ExportLemmas.{cut_off, shown_by_store}
 use Rattle.contest_cli_commands.proofs.PrintLemmas.{leaves_no_more, stops_opening}
+use Rattle.contest_cli_commands.specs.Exporting.{GivesSubmissions}
 use Rattle.contest_cli_commands.specs.Printing.{StopsOpening}
 use Rattle.contest_cli_commands.proofs.export_command.run_export.Goals as goal
 
@@ -27,7 +28,8 @@ pub returns-in-Err : goal.returns-in-Err
 returns-in-Err g c =
     let old = state g.S.Store c.args.conn in
     record {
-      told = cut_off _ (FindsContest old) (StopsOpening old (state g.S.Store c.in-Err.conn)) _ _ _ _ (Refused c.refusal.result) c.refuse.result
+      statuses = omega (arith, c.refuse.ensures.status);
+      told = cut_off GivesSubmissions _ (FindsContest old) (StopsOpening old (state g.S.Store c.in-Err.conn)) _ _ _ _ (Refused c.refusal.result) c.refuse.result
           (inl (stops_opening old (state g.S.Store c.in-Err.conn) c.in-Err.error c.refusal.result c.refusal.ensures.value (λ is clean up. c.in-Err.ensures.first clean is up))) refl
           (inl (Keeps-refl (stream g.O.Write.contents c.args.out.now).bytes)) c.refuse.ensures.status c.refuse.ensures.told;
       leaves = leaves_no_more old (state g.S.Store c.in-Err.conn) c.in-Err.ensures.refused;
