@@ -1,5 +1,5 @@
 -- How a command ends that isn't begun.
-use Rattle.std.proofs.Common.{◌≡◌, ◌+◌, inl, inr, refl, ℕ, Bool, List, Option}
+use Rattle.std.proofs.Common.{◌≡◌, ◌+◌, arith, inl, inr, refl, ℕ, Bool, List, Option}
 use Rattle.std.specs.Prelude.{Result}
 use Rattle.std.proofs.KnownBytes.{Keeps-refl}
 use Rattle.clap.specs.Walk.{Text}
@@ -17,7 +17,7 @@ use Rattle.contest_cli_machine.specs.declared.opening.Opening.{Opening}
 use Rattle.contest_cli_words.specs.declared.command_error.CommandError.{CommandError}
 use Rattle.contest_cli_words.specs.declared.command_error.CommandError.TheVariants.{Refused}
 use Rattle.contest_cli.specs.declared.invocation.CommandName.{CommandName}
-use Rattle.contest_cli.specs.declared.invocation.CommandName.TheVariants.{Replay, Init, Import, Board, Awards, Export, Serve, Upgrade}
+use Rattle.contest_cli.specs.declared.invocation.CommandName.TheVariants.{Replay, Audit, Init, Import, Board, Awards, Export, Feed, Serve, Upgrade}
 use Rattle.contest_cli_commands.proofs.InputLemmas.{too_large}
 use Rattle.contest_cli_replay.proofs.ReplayLemmas.{stopped}
 
@@ -37,6 +37,13 @@ module _ {S F N : Type 0} (g : Ghosts S) (remaining : F → Option (List ℕ)) (
       → Runs g remaining Shows There Found Reads Left All command words in_old in_new out out err_old err_new status
   out_of_memory Replay words in_old in_new out err_old err_new status is told =
       stopped words in_old in_new out err_old err_new (Refused Memory) status (inl refl) is told
+  out_of_memory Audit words in_old in_new out err_old err_new status is told =
+      record {
+        statuses = omega (arith, is);
+        done = λ e. absurd (omega (arith, is, e));
+        refused = λ e. (Refused Memory, refl, told, inl (inl refl, Keeps-refl out.bytes));
+        faulty = λ e. absurd (omega (arith, is, e));
+      }
   out_of_memory Init words in_old in_new out err_old err_new status is told =
       inl ((Refused Memory, inr (inl refl), is, told), Keeps-refl out.bytes)
   out_of_memory Import words in_old in_new out err_old err_new status is told =
@@ -46,6 +53,8 @@ module _ {S F N : Type 0} (g : Ghosts S) (remaining : F → Option (List ℕ)) (
   out_of_memory Awards words in_old in_new out err_old err_new status is told =
       inl ((Refused Memory, inr (inl refl), is, told), Keeps-refl out.bytes)
   out_of_memory Export words in_old in_new out err_old err_new status is told =
+      inl ((Refused Memory, inr (inl refl), is, told), Keeps-refl out.bytes)
+  out_of_memory Feed words in_old in_new out err_old err_new status is told =
       inl ((Refused Memory, inr (inl refl), is, told), Keeps-refl out.bytes)
   out_of_memory Serve words in_old in_new out err_old err_new status is told =
       inl ((Refused Memory, inr (inl refl), is, told), Keeps-refl out.bytes)

@@ -33,5 +33,5 @@ help_of_replay = refl
 other_case : invocation_of (codes "Replay" ∷ []) ≡ Unknown
 other_case = refl
 
-told : unknown_command (first_word (codes "server" ∷ codes "x" ∷ [])) ≡ codes "error: unknown command 'server'; the commands are replay, init, import, board, awards, export, serve, upgrade and help\n"
+told : unknown_command (first_word (codes "server" ∷ codes "x" ∷ [])) ≡ codes "error: unknown command 'server'; the commands are replay, audit, init, import, board, awards, export, feed, serve, upgrade and help\n"
 told = refl

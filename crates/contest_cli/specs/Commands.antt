@@ -8,7 +8,7 @@ use Rattle.contest_streams.specs.Streams.{Stream}
 use Rattle.contest_cli_words.specs.Endings.{TellsWords}
 use Rattle.contest_cli_words.specs.Help.{is_help}
 use Rattle.contest_cli.specs.declared.invocation.CommandName.{CommandName}
-use Rattle.contest_cli.specs.declared.invocation.CommandName.TheVariants.{Replay, Init, Import, Board, Awards, Export, Serve, Upgrade}
+use Rattle.contest_cli.specs.declared.invocation.CommandName.TheVariants.{Replay, Audit, Init, Import, Board, Awards, Export, Feed, Serve, Upgrade}
 use Rattle.contest_cli.specs.declared.invocation.Invocation.{Invocation}
 use Rattle.contest_cli.specs.declared.invocation.Invocation.TheVariants.{Nothing, Help, To, HelpOf, Unknown}
 
@@ -16,13 +16,15 @@ use Rattle.contest_cli.specs.declared.invocation.Invocation.TheVariants.{Nothing
 abbrev pub command_named : Text → Option CommandName
 command_named word =
     if bytes_eq word (codes "replay") then Some Replay
+    else (if bytes_eq word (codes "audit") then Some Audit
     else (if bytes_eq word (codes "init") then Some Init
     else (if bytes_eq word (codes "import") then Some Import
     else (if bytes_eq word (codes "board") then Some Board
     else (if bytes_eq word (codes "awards") then Some Awards
     else (if bytes_eq word (codes "export") then Some Export
+    else (if bytes_eq word (codes "feed") then Some Feed
     else (if bytes_eq word (codes "serve") then Some Serve
-    else (if bytes_eq word (codes "upgrade") then Some Upgrade else None)))))))
+    else (if bytes_eq word (codes "upgrade") then Some Upgrade else None)))))))))
 
 -- what a command is asked for by its options
 abbrev pub asked_of : CommandName → List Text → Invocation
@@ -47,7 +49,7 @@ AsksHelp words = (invocation_of words ≡ Help) ⊎ ((command : CommandName) × 
 
 -- what is said of a command that there isn't
 abbrev pub unknown_command : Text → List ℕ
-unknown_command name = codes "error: unknown command '" ++ name ++ codes "'; the commands are replay, init, import, board, awards, export, serve, upgrade and help\n"
+unknown_command name = codes "error: unknown command '" ++ name ++ codes "'; the commands are replay, audit, init, import, board, awards, export, feed, serve, upgrade and help\n"
 
 -- the first of the words, empty where there is none
 abbrev pub first_word : List Text → Text

@@ -7,6 +7,7 @@ use Rattle.contest_streams.specs.Streams.{Counting, Fails, ReadsAll, Stream, str
 use Rattle.contest_types.specs.declared.limits.TheConstants.{IMPORTED_FILE}
 use Rattle.contest_types.specs.declared.refusal.Refusal.TheVariants.{BodyTooLarge, Memory}
 use Rattle.contest_cli_commands.specs.Exporting.{Exports}
+use Rattle.contest_cli_commands.specs.Feeding.{Feeds}
 use Rattle.contest_cli_commands.specs.Import.{Imports}
 use Rattle.contest_cli_commands.specs.Init.{Inits}
 use Rattle.contest_cli_commands.specs.Inputs.{IsTooLarge}
@@ -22,12 +23,13 @@ use Rattle.contest_cli_words.specs.declared.board_words.BoardWords.{BoardWords}
 use Rattle.contest_cli_words.specs.declared.command_error.CommandError.{CommandError}
 use Rattle.contest_cli_words.specs.declared.command_error.CommandError.TheVariants.{File, Refused}
 use Rattle.contest_cli_words.specs.declared.export_words.ExportWords.{ExportWords}
+use Rattle.contest_cli_words.specs.declared.feed_words.FeedWords.{FeedWords}
 use Rattle.contest_cli_words.specs.declared.import_words.ImportWords.{ImportWords}
 use Rattle.contest_cli_words.specs.declared.init_words.InitWords.{InitWords}
 use Rattle.contest_cli_words.specs.declared.serve_words.ServeWords.{ServeWords}
 use Rattle.contest_cli_words.specs.declared.upgrade_words.UpgradeWords.{UpgradeWords}
 
--- whether a command leaves its moment to the clock: never, always, or, as `board` and `awards`, if its words name none
+-- whether a command leaves its moment to the clock: never, always, or, as `board`, `awards` and `feed`, if its words name none
 abbrev pub LooksNever : {A : Type 0} → A → Type 0
 LooksNever asked = ⊥
 
@@ -39,6 +41,9 @@ BoardLooks asked = asked.at ≡ None
 
 abbrev pub AwardsLooks : AwardsWords → Type 0
 AwardsLooks asked = asked.at ≡ None
+
+abbrev pub FeedLooks : FeedWords → Type 0
+FeedLooks asked = asked.at ≡ None
 
 -- a command that runs at no moment
 abbrev pub FitsAny : {A : Type 0} → A → Unit {0} → Type 0
@@ -56,6 +61,9 @@ module _ (Shows : Result ℕ CommandError → Type 0) where
 
   abbrev pub FitsAwards : AwardsWords → ℕ → Type 0
   FitsAwards asked now = IsAskedMoment asked.at now
+
+  abbrev pub FitsFeed : FeedWords → ℕ → Type 0
+  FitsFeed asked now = IsAskedMoment asked.at now
 
   -- a command whose words name no moment
   abbrev pub FitsClock : {A : Type 0} → A → ℕ → Type 0
@@ -123,6 +131,10 @@ module _ {S : Type 0} (g : Ghosts S) where
   -- `export`
   abbrev pub ExportsOn : ExportWords → Unit {0} → Unit {0} → (out_old out_new err_old err_new : Stream) → (old new : Held S) → (status : ℕ) → Type 0
   ExportsOn asked now input out_old out_new err_old err_new old new status = Exports out_old out_new err_old err_new (state g old) (state g new) status
+
+  -- `feed`, at a moment
+  abbrev pub FeedsOn : FeedWords → ℕ → Unit {0} → (out_old out_new err_old err_new : Stream) → (old new : Held S) → (status : ℕ) → Type 0
+  FeedsOn asked now input out_old out_new err_old err_new old new status = Feeds now asked.who out_old out_new err_old err_new (state g old) (state g new) status
 
   -- `upgrade`
   abbrev pub UpgradesOn : UpgradeWords → Unit {0} → Unit {0} → (out_old out_new err_old err_new : Stream) → (old new : Held S) → (status : ℕ) → Type 0

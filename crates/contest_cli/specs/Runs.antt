@@ -4,6 +4,7 @@ use Rattle.clap.specs.Walk.{Text}
 use Rattle.sqlite_trees.specs.declared.store.Store.{Ghosts}
 use Rattle.sqlite.specs.Held.{Held}
 use Rattle.contest_streams.specs.Streams.{Counting, Stream}
+use Rattle.contest_cli_audit.specs.Audit.{Audits}
 use Rattle.contest_cli_replay.specs.Replay.{Replays}
 use Rattle.contest_cli_machine.specs.declared.opening.Opening.{Opening}
 use Rattle.contest_cli_machine.specs.declared.opening.Opening.TheVariants.{Existing, New}
@@ -13,6 +14,8 @@ use Rattle.contest_cli_words.specs.BoardWords.{NamesBoard, board_app}
 use Rattle.contest_cli_words.specs.declared.board_words.BoardWords.{BoardWords}
 use Rattle.contest_cli_words.specs.ExportWords.{NamesExport, export_app}
 use Rattle.contest_cli_words.specs.declared.export_words.ExportWords.{ExportWords}
+use Rattle.contest_cli_words.specs.FeedWords.{NamesFeed, feed_app}
+use Rattle.contest_cli_words.specs.declared.feed_words.FeedWords.{FeedWords}
 use Rattle.contest_cli_words.specs.ImportWords.{NamesImport, import_app}
 use Rattle.contest_cli_words.specs.declared.import_words.ImportWords.{ImportWords}
 use Rattle.contest_cli_words.specs.InitWords.{NamesInit, init_app}
@@ -22,10 +25,10 @@ use Rattle.contest_cli_words.specs.declared.serve_words.ServeWords.{ServeWords}
 use Rattle.contest_cli_words.specs.UpgradeWords.{NamesUpgrade, upgrade_app}
 use Rattle.contest_cli_words.specs.declared.upgrade_words.UpgradeWords.{UpgradeWords}
 use Rattle.contest_cli.specs.FileCommand.{RunsByWords}
-use Rattle.contest_cli.specs.FileCommands.{AwardsLooks, AwardsOn, BoardLooks, BoardsOn, ExportsOn, FitsAny, FitsAwards, FitsBoard, FitsClock, HasAny, HasContest, HasPath, ImportsOn, InitsOn, LacksContest, LacksNothing, LacksPath, LooksAlways, LooksNever, ServesOnce, UpgradesOn}
+use Rattle.contest_cli.specs.FileCommands.{AwardsLooks, AwardsOn, BoardLooks, BoardsOn, ExportsOn, FeedLooks, FeedsOn, FitsAny, FitsAwards, FitsBoard, FitsClock, FitsFeed, HasAny, HasContest, HasPath, ImportsOn, InitsOn, LacksContest, LacksNothing, LacksPath, LooksAlways, LooksNever, ServesOnce, UpgradesOn}
 use Rattle.contest_cli_words.specs.declared.command_error.CommandError.{CommandError}
 use Rattle.contest_cli.specs.declared.invocation.CommandName.{CommandName}
-use Rattle.contest_cli.specs.declared.invocation.CommandName.TheVariants.{Replay, Init, Import, Board, Awards, Export, Serve, Upgrade}
+use Rattle.contest_cli.specs.declared.invocation.CommandName.TheVariants.{Replay, Audit, Init, Import, Board, Awards, Export, Feed, Serve, Upgrade}
 
 -- on a machine whose stores are of some type S, whose files that are read are of some type F and have this left, and whose
 -- network is of some type N: this comes of looking at the clock, of looking whether something is at a path, of opening the SQLite
@@ -37,6 +40,8 @@ module _ {S F N : Type 0} (g : Ghosts S) (remaining : F → Option (List ℕ)) (
   abbrev pub Runs : CommandName → List Text → (in_old in_new out_old out_new err_old err_new : Stream) → (status : ℕ) → Type 0
   Runs Replay words in_old in_new out_old out_new err_old err_new status =
       Replays words in_old in_new out_old out_new err_old err_new status
+  Runs Audit words in_old in_new out_old out_new err_old err_new status =
+      Audits words in_old in_new out_old out_new err_old err_new status
   Runs Init words in_old in_new out_old out_new err_old err_new status =
       RunsByWords init_app NamesInit (λ (asked : InitWords). asked.file.now) LooksNever (LacksContest remaining Reads) Shows There (Found New) FitsAny (HasContest remaining Reads) g Left (InitsOn g) words out_old out_new err_old err_new status
   Runs Import words in_old in_new out_old out_new err_old err_new status =
@@ -47,6 +52,8 @@ module _ {S F N : Type 0} (g : Ghosts S) (remaining : F → Option (List ℕ)) (
       RunsByWords awards_app NamesAwards (λ (asked : AwardsWords). asked.file.now) AwardsLooks LacksNothing Shows There (Found Existing) (FitsAwards Shows) HasAny g Left (AwardsOn g) words out_old out_new err_old err_new status
   Runs Export words in_old in_new out_old out_new err_old err_new status =
       RunsByWords export_app NamesExport (λ (asked : ExportWords). asked.file.now) LooksNever LacksNothing Shows There (Found Existing) FitsAny HasAny g Left (ExportsOn g) words out_old out_new err_old err_new status
+  Runs Feed words in_old in_new out_old out_new err_old err_new status =
+      RunsByWords feed_app NamesFeed (λ (asked : FeedWords). asked.file.now) FeedLooks LacksNothing Shows There (Found Existing) (FitsFeed Shows) HasAny g Left (FeedsOn g) words out_old out_new err_old err_new status
   Runs Serve words in_old in_new out_old out_new err_old err_new status =
       RunsByWords serve_app NamesServe (λ (asked : ServeWords). asked.file.now) LooksAlways LacksNothing Shows There (Found Existing) (FitsClock Shows) HasAny g Left (ServesOnce g All) words out_old out_new err_old err_new status
   Runs Upgrade words in_old in_new out_old out_new err_old err_new status =

@@ -12,14 +12,15 @@ ghost use Rattle.contest_cli.specs.declared.invocation.CommandName.{CommandName}
 use crate::file_command::run_by_words;
 use crate::help::{HELP, show_help_of};
 use crate::invocation::{CommandName, Invocation, invocation_of};
+use contest_cli_audit::audit;
 use contest_cli_machine::{
     ClientReader, ClientWriter, Host, HostListener, HostNetwork, Listen, Machine, MachineClock,
     Network, Outside,
 };
 use contest_cli_replay::replay;
 use contest_cli_words::{
-    AwardsWords, BoardWords, CommandError, ExportWords, ImportWords, InitWords, ServeWords,
-    UpgradeWords, borrowed, refuse_arguments, show, tell,
+    AwardsWords, BoardWords, CommandError, ExportWords, FeedWords, ImportWords, InitWords,
+    ServeWords, UpgradeWords, borrowed, refuse_arguments, show, tell,
 };
 use contest_streams::Counted;
 use contest_types::Refusal;
@@ -153,6 +154,7 @@ fn run_command<M: Machine, R: Read, O: Write, E: Write>(
 {
     match command {
         CommandName::Replay => replay(alloc, words, reader, out, err),
+        CommandName::Audit => audit(alloc, words, reader, out, err),
         CommandName::Init => run_by_words::<M, InitWords, O, E>(alloc, machine, words, out, err),
         CommandName::Import => run_by_words::<M, ImportWords, O, E>(
             alloc, machine, words, out, err,
@@ -164,6 +166,7 @@ fn run_command<M: Machine, R: Read, O: Write, E: Write>(
         CommandName::Export => run_by_words::<M, ExportWords, O, E>(
             alloc, machine, words, out, err,
         ),
+        CommandName::Feed => run_by_words::<M, FeedWords, O, E>(alloc, machine, words, out, err),
         CommandName::Serve => run_by_words::<M, ServeWords, O, E>(alloc, machine, words, out, err),
         CommandName::Upgrade => run_by_words::<M, UpgradeWords, O, E>(
             alloc, machine, words, out, err,
@@ -185,7 +188,7 @@ fn unknown_command(alloc: Global, name: &str) -> Result<String, AllocError>
     ensures { IfOk result (λ text. string_bytes text ≡ unknown_command name.now) }
 {
     format!(in alloc;
-        "error: unknown command '{name}'; the commands are replay, init, import, board, awards, export, serve, upgrade and help\n"
+        "error: unknown command '{name}'; the commands are replay, audit, init, import, board, awards, export, feed, serve, upgrade and help\n"
     )
 }
 

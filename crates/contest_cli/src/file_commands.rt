@@ -1,20 +1,16 @@
-//! The commands that keep a contest in a file.
+//! The commands that make a file, add to it or serve it.
 ghost use Rattle.std.specs.Prelude.{◌≡◌, Err, IfErr, IfOk, None};
 ghost use Rattle.sqlite.specs.Held.{state};
 ghost use Rattle.contest_streams.specs.Streams.{ReadsAll, stream};
 ghost use Rattle.contest_store_tables.specs.Numbered.{IsNumbered};
-ghost use Rattle.contest_cli.specs.FileCommands.{AwardsOn, BoardsOn, ExportsOn, ImportsOn, InitsOn};
-ghost use Rattle.contest_cli.specs.FileCommands.{IsAskedMoment, IsUnread, ServesOnce, UpgradesOn};
-ghost use Rattle.contest_cli.specs.FileCommands.{viewer};
+ghost use Rattle.contest_cli.specs.FileCommands.{ImportsOn, InitsOn, IsUnread};
+ghost use Rattle.contest_cli.specs.FileCommands.{ServesOnce, UpgradesOn};
 ghost use Rattle.contest_cli_commands.specs.Serve.{ServesOn};
 
 use crate::file_command::FileCommand;
-use contest_cli_commands::{run_export, run_import, run_init, run_print, run_serve, run_upgrade};
+use contest_cli_commands::{run_import, run_init, run_serve, run_upgrade};
 use contest_cli_machine::{MachineClock, Opening, Outside};
-use contest_cli_words::{
-    AskedText, AwardsWords, BoardWords, CommandError, ExportWords, ImportWords, InitWords,
-    ServeWords, UpgradeWords, Who,
-};
+use contest_cli_words::{CommandError, ImportWords, InitWords, ServeWords, UpgradeWords};
 use contest_streams::{Counted, read_limited};
 use contest_types::limits::IMPORTED_FILE;
 use contest_types::{Moment, Rows};
@@ -146,193 +142,6 @@ impl<W: Outside> FileCommand<W> for ImportWords<'_> {
             (stream E.contents err.old) (stream E.contents err.new) conn result.1 result.0 }
     {
         run_import(alloc, conn, now, self.kind, &mut input, out, err)
-    }
-}
-
-impl<W: Outside> FileCommand<W> for BoardWords<'_> {
-    ghost use Rattle.contest_cli.specs.FileCommands.{BoardLooks, BoardsOn, FitsBoard, HasAny};
-    ghost use Rattle.contest_cli.specs.FileCommands.{LacksNothing};
-    ghost use Rattle.contest_cli_machine.specs.declared.opening.Opening.TheVariants.{Existing};
-
-    type Now = Moment;
-
-    type Input = ();
-
-    ghost looks = { BoardLooks };
-
-    ghost fits = { λ shows. FitsBoard shows };
-
-    ghost lacks = { LacksNothing };
-
-    ghost has = { HasAny };
-
-    ghost path = { λ asked. asked.file.now };
-
-    ghost way = { Existing };
-
-    ghost ends = { λ g. BoardsOn g };
-
-    fn file(&self) -> &str {
-        self.file
-    }
-
-    fn opening(&self) -> Opening {
-        Opening::Existing
-    }
-
-    fn moment<C: MachineClock>(&self, clock: &C) -> Result<Moment, CommandError> {
-        asked_moment(self.at, clock)
-    }
-
-    fn input(&self, _: Global, _: W) -> Result<(), CommandError> {
-        Ok(())
-    }
-
-    fn run<S: Alter, O: Write, E: Write>(
-        &self,
-        alloc: Global,
-        conn: Connection<S>,
-        now: Moment,
-        input: (),
-        out: &mut Counted<O>,
-        err: &mut Counted<E>,
-    ) -> (u8, Connection<S>)
-        requires { IsNumbered (state S.Store conn) }
-        ensures { BoardsOn S.Store self.now now input (stream O.contents out.old) (stream O.contents out.new)
-            (stream E.contents err.old) (stream E.contents err.new) conn result.1 result.0 }
-    {
-        run_print(alloc, conn, now, AskedText::Board(self.asked), out, err)
-    }
-}
-
-impl<W: Outside> FileCommand<W> for AwardsWords<'_> {
-    ghost use Rattle.contest_cli.specs.FileCommands.{AwardsLooks, AwardsOn, FitsAwards, HasAny};
-    ghost use Rattle.contest_cli.specs.FileCommands.{LacksNothing};
-    ghost use Rattle.contest_cli_machine.specs.declared.opening.Opening.TheVariants.{Existing};
-
-    type Now = Moment;
-
-    type Input = ();
-
-    ghost looks = { AwardsLooks };
-
-    ghost fits = { λ shows. FitsAwards shows };
-
-    ghost lacks = { LacksNothing };
-
-    ghost has = { HasAny };
-
-    ghost path = { λ asked. asked.file.now };
-
-    ghost way = { Existing };
-
-    ghost ends = { λ g. AwardsOn g };
-
-    fn file(&self) -> &str {
-        self.file
-    }
-
-    fn opening(&self) -> Opening {
-        Opening::Existing
-    }
-
-    fn moment<C: MachineClock>(&self, clock: &C) -> Result<Moment, CommandError> {
-        asked_moment(self.at, clock)
-    }
-
-    fn input(&self, _: Global, _: W) -> Result<(), CommandError> {
-        Ok(())
-    }
-
-    fn run<S: Alter, O: Write, E: Write>(
-        &self,
-        alloc: Global,
-        conn: Connection<S>,
-        now: Moment,
-        input: (),
-        out: &mut Counted<O>,
-        err: &mut Counted<E>,
-    ) -> (u8, Connection<S>)
-        requires { IsNumbered (state S.Store conn) }
-        ensures { AwardsOn S.Store self.now now input (stream O.contents out.old) (stream O.contents out.new)
-            (stream E.contents err.old) (stream E.contents err.new) conn result.1 result.0 }
-    {
-        let asked = AskedText::Awards(viewer(self.jury));
-        run_print(alloc, conn, now, asked, out, err)
-    }
-}
-
-// The moment that is asked for; the clock's where none is.
-fn asked_moment<C: MachineClock>(at: Option<Moment>, clock: &C) -> Result<Moment, CommandError>
-    ensures ok { IfOk result (IsAskedMoment (C.shows clock.now) at) }
-    ensures err { IfErr result (λ stop. (at ≡ None) × (stop ≡ CommandError.Clock) × C.shows clock.now (Err stop)) }
-{
-    match at {
-        Some(moment) => Ok(moment),
-        None => clock.now(),
-    }
-}
-
-// Who looks.
-fn viewer(jury: bool) -> Who<'static>
-    ensures { result ≡ viewer jury }
-{
-    if jury { Who::Jury } else { Who::Public }
-}
-
-impl<W: Outside> FileCommand<W> for ExportWords<'_> {
-    ghost use Rattle.contest_cli.specs.FileCommands.{ExportsOn, FitsAny, HasAny, LacksNothing};
-    ghost use Rattle.contest_cli.specs.FileCommands.{LooksNever};
-    ghost use Rattle.contest_cli_machine.specs.declared.opening.Opening.TheVariants.{Existing};
-
-    type Now = ();
-
-    type Input = ();
-
-    ghost looks = { LooksNever };
-
-    ghost fits = { λ _. FitsAny };
-
-    ghost lacks = { LacksNothing };
-
-    ghost has = { HasAny };
-
-    ghost path = { λ asked. asked.file.now };
-
-    ghost way = { Existing };
-
-    ghost ends = { λ g. ExportsOn g };
-
-    fn file(&self) -> &str {
-        self.file
-    }
-
-    fn opening(&self) -> Opening {
-        Opening::Existing
-    }
-
-    fn moment<C: MachineClock>(&self, _: &C) -> Result<(), CommandError> {
-        Ok(())
-    }
-
-    fn input(&self, _: Global, _: W) -> Result<(), CommandError> {
-        Ok(())
-    }
-
-    fn run<S: Alter, O: Write, E: Write>(
-        &self,
-        alloc: Global,
-        conn: Connection<S>,
-        now: (),
-        input: (),
-        out: &mut Counted<O>,
-        err: &mut Counted<E>,
-    ) -> (u8, Connection<S>)
-        requires { IsNumbered (state S.Store conn) }
-        ensures { ExportsOn S.Store self.now now input (stream O.contents out.old) (stream O.contents out.new)
-            (stream E.contents err.old) (stream E.contents err.new) conn result.1 result.0 }
-    {
-        run_export(alloc, conn, out, err)
     }
 }
 

@@ -4,10 +4,11 @@ ghost use Rattle.contest_cli_words.specs.Endings.{ShowsSome};
 
 use crate::invocation::CommandName;
 use clap::Command;
+use contest_cli_audit::AuditWords;
 use contest_cli_replay::ReplayWords;
 use contest_cli_words::{
-    AwardsWords, BoardWords, CommandError, CommandWords, ExportWords, ImportWords, InitWords,
-    ServeWords, UpgradeWords, command_of, show_help,
+    AwardsWords, BoardWords, CommandError, CommandWords, ExportWords, FeedWords, ImportWords,
+    InitWords, ServeWords, UpgradeWords, command_of, show_help,
 };
 use contest_streams::Counted;
 use contest_types::Refusal;
@@ -22,22 +23,26 @@ Usage: desk <COMMAND>
 
 Commands:
   replay   Reads a contest as CSV on standard input and prints its board
+  audit    Reads an event feed on standard input and prints its board
   init     Sets up a contest in a file, from its contest object as JSON
   import   Adds all rows of a file to a contest, or none, and prints how many
   board    Prints the board of a contest as somebody sees it
   awards   Prints the awards of a contest, once somebody is shown them
   export   Prints all submissions of a contest as CSV
+  feed     Writes the event feed of a contest as somebody is served it
   serve    Serves a contest over HTTP, to this machine alone
   upgrade  Makes a file of the first schema one of the schema of today
   help     Prints this text
 
 Examples:
   desk replay --at 1:30:00 < contest.csv
+  desk audit --jury < event-feed.ndjson
   desk init cup.db contest.json
   desk import cup.db problems problems.json
   desk board cup.db --audience jury
   desk awards cup.db --jury
   desk export cup.db > submissions.csv
+  desk feed cup.db --audience jury > event-feed.ndjson
   desk serve cup.db --requests 1000 --port 8080
   desk upgrade cup.db
 
@@ -67,11 +72,13 @@ pub(crate) fn show_help_of<O: Write, E: Write>(
 fn app_of<'a>(alloc: Global, command: CommandName) -> Result<Command<'a>, AllocError> {
     match command {
         CommandName::Replay => command_of(alloc, &ReplayWords::command()),
+        CommandName::Audit => command_of(alloc, &AuditWords::command()),
         CommandName::Init => command_of(alloc, &InitWords::command()),
         CommandName::Import => command_of(alloc, &ImportWords::command()),
         CommandName::Board => command_of(alloc, &BoardWords::command()),
         CommandName::Awards => command_of(alloc, &AwardsWords::command()),
         CommandName::Export => command_of(alloc, &ExportWords::command()),
+        CommandName::Feed => command_of(alloc, &FeedWords::command()),
         CommandName::Serve => command_of(alloc, &ServeWords::command()),
         CommandName::Upgrade => command_of(alloc, &UpgradeWords::command()),
     }

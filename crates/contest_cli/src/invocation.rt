@@ -9,6 +9,8 @@ use contest_cli_words::{asks_help, is_help};
 pub enum CommandName {
     /// `replay`.
     Replay,
+    /// `audit`.
+    Audit,
     /// `init`.
     Init,
     /// `import`.
@@ -19,6 +21,8 @@ pub enum CommandName {
     Awards,
     /// `export`.
     Export,
+    /// `feed`.
+    Feed,
     /// `serve`.
     Serve,
     /// `upgrade`.
@@ -63,11 +67,13 @@ fn command_named(word: &str) -> Option<CommandName>
 {
     match word {
         "replay" => Some(CommandName::Replay),
+        "audit" => Some(CommandName::Audit),
         "init" => Some(CommandName::Init),
         "import" => Some(CommandName::Import),
         "board" => Some(CommandName::Board),
         "awards" => Some(CommandName::Awards),
         "export" => Some(CommandName::Export),
+        "feed" => Some(CommandName::Feed),
         "serve" => Some(CommandName::Serve),
         "upgrade" => Some(CommandName::Upgrade),
         _ => None,

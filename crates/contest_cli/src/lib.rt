@@ -6,5 +6,6 @@ mod file_command;
 mod file_commands;
 mod help;
 mod invocation;
+mod shown_commands;
 
 pub use commands::{run, start};
