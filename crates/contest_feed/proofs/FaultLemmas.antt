@@ -1,28 +1,13 @@
 -- Faults that are noted row by row.
-use Rattle.std.proofs.Common.{◌≡◌, ◌≤◌, ◌<◌, ◌+◌, ◌++◌, ◌∷◌, [], ◌∙◌, ℕ, List, Bool, true, false, cond, Option, Some, None, length, take, drop, get_or, refl, sym, ap, add-zero, arith, length-append}
+use Rattle.std.proofs.Common.{◌≡◌, ◌≤◌, ◌+◌, ◌++◌, ◌∷◌, [], ◌∙◌, ℕ, List, Bool, true, false, cond, Option, Some, None, length, refl, sym, ap, add-zero, arith, length-append}
 use Rattle.std.specs.Prelude.{◌&&◌, fold, filter, if◌then◌else◌, unwrap_or}
 use Rattle.std.specs.Str.{bytes_eq}
-use Rattle.std.proofs.lemmas.List.{drop_more, take_more}
 use Rattle.std.proofs.lemmas.List.Elements.{filter-append}
 use Rattle.std.proofs.lemmas.List.Sums.{fold-append, length-filter, count_by-le-length}
 use Rattle.contest_types.proofs.PlaceLemmas.{same_bytes}
 use Rattle.contest_feed.specs.References.{Fault, counted, counts, earlier}
 use Rattle.contest_feed.specs.declared.row.Row.{Row}
 use Rattle.contest_feed.specs.declared.submissions.FeedSubmission.{FeedSubmission}
-
--- the faults of rows, where those of one depend on the rows before and after it
-pub next_row : {R : Type 0} (all : List R → List R → List Fault) (one : List R → R → List R → List Fault)
-    → ((before : List R) (row : R) (after : List R) → all before (row ∷ after) ≡ one before row after ++ all (before ++ row ∷ []) after)
-    → (rows : List R) (i : ℕ) (row : R) (first new : Option Fault) → i < length rows → row ≡ get_or rows i row
-    → new ≡ fold earlier first (one (take i rows) row (drop (i + 1) rows))
-    → fold earlier first (all (take i rows) (drop i rows)) ≡ fold earlier new (all (take (i + 1) rows) (drop (i + 1) rows))
-next_row all one step rows i row first new l is noted =
-    let here : drop i rows ≡ row ∷ drop (i + 1) rows = rw (← is) at (drop_more rows i row l) in
-    let more : take (i + 1) rows ≡ take i rows ++ row ∷ [] = rw (← is) at (take_more rows i row l) in
-    ap (λ rest. fold earlier first (all (take i rows) rest)) here
-    ∙ ap (fold earlier first) (step (take i rows) row (drop (i + 1) rows))
-    ∙ fold-append earlier first (one (take i rows) row (drop (i + 1) rows)) (all (take i rows ++ row ∷ []) (drop (i + 1) rows))
-    ∙ (λ k. fold earlier (sym noted k) (all (sym more k) (drop (i + 1) rows)))
 
 -- one more submission
 pub counted_more : (duration : ℕ) (team : List ℕ) (before : List (Row FeedSubmission)) (row : Row FeedSubmission)

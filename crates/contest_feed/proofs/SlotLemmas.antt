@@ -263,8 +263,3 @@ one_different {A} (Some row ∷ slots) one =
 -- the rows that stand have different ids
 pub slots_different : {A H : Type 0} (slots : List (Option (Row A))) (places : HashMap (Vec ℕ) ℕ H) → IsSlotted slots places → are_different (map (λ row. row.id) (standing slots)) ≡ true
 slots_different slots places s = one_different slots (λ i j row other e f t. only_at slots places row.id i s (s.known i row e) j other f t)
-
-pub standing_append : {A : Type 0} (xs ys : List (Option A)) → standing (xs ++ ys) ≡ standing xs ++ standing ys
-standing_append [] ys = refl
-standing_append (None ∷ xs) ys = standing_append xs ys
-standing_append (Some x ∷ xs) ys = ap (λ more. x ∷ more) (standing_append xs ys)

@@ -19,18 +19,6 @@ last_more submission js j =
     ap (fold later None) (filter-append (judges submission) js (j ∷ []))
     ∙ (fold-append later None (filter (judges submission) js) (filter (judges submission) (j ∷ [])) ∙ go (judges submission j) refl)
 
--- a judgement that doesn't count changes nothing
-pub not_counted : (types : List (List ℕ)) (js : List FeedJudgement) (j : FeedJudgement) (had : List ℕ → Option LastVerdict) → (j.counts && is_some j.verdict) ≡ false
-    → ((submission : List ℕ) → had submission ≡ option_map (kept types) (last_judgement submission js))
-    → (submission : List ℕ) → had submission ≡ option_map (kept types) (last_judgement submission (js ++ j ∷ []))
-not_counted types js j had off are submission =
-    let none : judges submission j ≡ false = go (bytes_eq j.submission submission) in
-    are submission ∙ ap (option_map (kept types)) (sym (last_more submission js j ∙ ap (λ b. if b then later (last_judgement submission js) j else last_judgement submission js) none))
-  where
-    go : (b : Bool) → (b && (j.counts && is_some j.verdict)) ≡ false
-    go true = off
-    go false = refl
-
 -- one that counts is the last of its submission, or isn't
 pub counted_last : (types : List (List ℕ)) (js : List FeedJudgement) (j : FeedJudgement) (had has : List ℕ → Option LastVerdict) (last : Bool) → (j.counts && is_some j.verdict) ≡ true → is_last (had j.submission) j.ended ≡ last
     → ((submission : List ℕ) → has submission ≡ (if last then (if bytes_eq j.submission submission then Some (kept types j) else had submission) else had submission))
