@@ -117,7 +117,7 @@ def try_help(desk):
     whole = desk.run(folder, "help")
     begins, names = "Jury and scoreboard desk of a programming contest\n\nUsage: desk <COMMAND>\n", re.findall(r"(?m)^  (\w+)  +[A-Z]", whole[1])
     desk.note(whole[0] == 0 and whole[2] == "" and whole[1].startswith(begins), f"help: {whole}")
-    desk.same("the commands of the help", " ".join(names), "replay init import board awards export serve upgrade help")
+    desk.same("the commands of the help", " ".join(names), "replay init import board awards export feed serve upgrade help")
     for words, wanted in ((("--help",), whole), (("-h",), whole), ((), (2, "", whole[1]))):
         desk.answers(f"{words}", wanted, folder, *words)
     for name in names[:-1]:
@@ -195,7 +195,7 @@ def try_absent(desk):
     (folder / "link.db").symlink_to("none.db")
     folder.chmod(0o777)
     stand = sorted(folder.iterdir())
-    calls = [("board",), ("awards", "--jury"), ("export",), ("upgrade",), ("serve", "--requests", "1"), ("serve", "--requests", "0"),
+    calls = [("board",), ("awards", "--jury"), ("export",), ("feed",), ("upgrade",), ("serve", "--requests", "1"), ("serve", "--requests", "0"),
              ("import", "teams-csv", "teams.csv"), ("import", "teams-csv", "none.csv"), ("import", "verdicts-csv", "teams.csv")]  # fmt: skip
     tried = [((command, file, *words), FAULT, ()) for command, *words in calls for file in ("none.db", "link.db", "none/cup.db", "")]
     tried += [(("init", "none.db", path), FILE, ()) for path in ("none.json", ".", "teams.csv/x", "")]

@@ -4,8 +4,8 @@
     desk_spoiled.py [--program PATH] [--every N] [--random N] [--submissions N] [--seed N]
 
 First each Nth byte (each) of a small file is changed, by another bit each time. Then N times (2,000), by the seed, one to
-three bytes of a larger file, with N submissions more (400). `desk export` and `desk board --audience jury` refuse the file with
-E24, and its bytes stay as they were; or they answer as over a new file of the rows that sqlite3 reads. Nothing else comes, in
+three bytes of a larger file, with N submissions more (400). `desk export`, and `desk board` and `desk feed` for the jury, refuse
+the file with E24, and its bytes stay as they were; or they answer as over a new file of the rows that sqlite3 reads. Nothing else comes, in
 two minutes.
 
 Takes sqlite3. Ends with the line `N passed, M failed`; the exit status is 0 if M is 0.
@@ -24,7 +24,8 @@ from lib.desk_opinion import moment
 from lib.program import FAULT, Program, ran
 from lib.sqlite import TABLES, asked, opened
 
-COMMANDS = (("export", "cup.db"), ("board", "cup.db", "--audience", "jury", "--at", moment(START + 3 * 3_600_000)))
+FOR_JURY = ("cup.db", "--audience", "jury", "--at", moment(START + 3 * 3_600_000))
+COMMANDS = (("export", "cup.db"), ("board", *FOR_JURY), ("feed", *FOR_JURY))
 
 
 class Spoiler(Program):
@@ -56,7 +57,7 @@ class Spoiler(Program):
         if given[0] == FAULT:
             self.refused += 1
             is_kept = (folder / "cup.db").read_bytes() == data
-            self.note(given == [FAULT, FAULT] and is_kept, f"{changes}: {given}, {'as before' if is_kept else 'changed'}")
+            self.note(given == [FAULT] * len(COMMANDS) and is_kept, f"{changes}: {given}, {'as before' if is_kept else 'changed'}")
         else:
             (folder / "cup.db").write_bytes(data)
             _, shown, error = ran(["sqlite3", folder / "cup.db", ".dump"])

@@ -70,7 +70,8 @@ def told(reply, method):
     text = lines[0].split(" ")[1]
     text += f" Allow: {fields['Allow']}" if "Allow" in fields else ""
     text += " WWW-Authenticate: Bearer" if "WWW-Authenticate" in fields else ""
-    text += " application/zip" if fields.get("Content-Type") == "application/zip" else ""
+    content = fields.get("Content-Type")
+    text += "" if content == "application/json" else f" {content}"
     if method == "HEAD":
         return text, fields.get("Content-Length"), body
     return f"{text} {body.decode()}", str(len(body)), body
@@ -329,7 +330,7 @@ def questions(rows, told, own, chance):
     paths = ["scoreboard", *(f"groups/{group['id']}/scoreboard" for group in GROUPS), "judgements", "submissions", f"judgements/{chance.one(ids)}.1", f"submissions/{chance.one(ids)}/files"]
     paths += ["clarifications", *(f"clarifications/{chance.one(told)}" for _ in range(3))]
     paths += ["awards", f"awards/{chance.one(['winner', 'gold-medal', 'first-to-solve-a'])}", "state"]
-    paths += [f"judgements/{chance.one(ids)}.{chance.one('23')}"]
+    paths += [f"judgements/{chance.one(ids)}.{chance.one('23')}", "event-feed"]
     number = chance.often(chance.one("1234"), NUMBERS)
     reads = [(None, "GET", f"{AT_REHEARSAL}/{path}", "") for path in paths]
     reads += [(None, "GET", path, "") for path in (AT_REJUDGINGS, f"{AT_REJUDGINGS}/{number}")]
@@ -341,7 +342,8 @@ def questions(rows, told, own, chance):
     posts.append((None, AT_REJUDGINGS, compact({"reason": "data", "submission_ids": [which]})))
     judged = compact({"submission_id": which, "judgement_type_id": verdict})
     posts += [(None, f"{AT_REJUDGINGS}/{number}/{step}", judged) for step in ("verdicts", "apply", "cancel")]
-    return reads + [(key, "POST", path, body) for key, path, body in posts + own] + reads[2:3] + reads[5:6]
+    last = [(None, "GET", f"{AT_REHEARSAL}/event-feed", "")]
+    return reads + [(key, "POST", path, body) for key, path, body in posts + own] + reads[2:3] + reads[5:6] + last
 
 
 def repeats(told, own):

@@ -68,6 +68,9 @@ class Asker(Adder, Changer, Clarifier, Director, Rejudger, Timekeeper):
             path = self.often(f"{AT_REHEARSAL}/submissions/{which}/files", ["/contests", AT_REHEARSAL, f"{AT_REHEARSAL}/state"], 0.5)
             path = self.often(path, ["/contests/cup", "/contests/", f"{AT_REHEARSAL}/states", f"{AT_REHEARSAL}/submissions//files"], 0.95)
             return self.often("GET", ["HEAD", "POST", "PATCH", "PUT"], 0.9), path, ""
+        if self.random.random() < 0.15:
+            feed = f"{AT_REHEARSAL}/event-feed"
+            return self.often("GET", ["HEAD", "POST"], 0.9), self.often(feed, ["/contests/cup/event-feed", f"{feed}/", f"{feed}/1"], 0.9), ""
         name = self.often("submissions", SETTINGS, 0.7)
         ids = IDS.get(name, ["s1-1", "s1-2", "s2-1", "s3-1", "s1-01"])
         path = f"{AT_REHEARSAL}/{name}" + self.often("", [f"/{self.one(ids)}", "/x", "/"], 0.6)
@@ -123,8 +126,9 @@ def walk(number, seed, steps):
         for _ in range(chance.random.randint(1, 3)):
             now = max(START - 4_000_000, now + chance.random.randint(-100_000, 30_000_000 // steps))
             asked, answer, contest = item(chance, contest, now, request)
-            lines, answers = lines + asked, answers + answer + "\n"
-            kinds[re.sub(r"E22 ImportRow \d+|added [1-9]\d*|\{.*|\[.*", lambda found: found[0].rstrip("0123456789")[:12], answer)[:40]] += 1
+            # A feed's last line ends already.
+            lines, answers = lines + asked, answers + answer.removesuffix("\n") + "\n"
+            kinds[re.sub(r"(?s)E22 ImportRow \d+|added [1-9]\d*|\{.*|\[.*", lambda found: found[0].rstrip("0123456789")[:12], answer)[:40]] += 1
         text += f"\n-- {step + 1}\n{lines}{answers}"
     return text, kinds
 

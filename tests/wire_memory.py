@@ -65,6 +65,7 @@ REQUESTS = {
     "a scoreboard": (("public", None, "GET", f"{AT_REHEARSAL}/scoreboard", ""), []),
     "a file": (("token-a1", None, "GET", f"{SUBMISSIONS}/s1-1/files", ""), []),
     "a list": (("token-a1", None, "GET", SUBMISSIONS, ""), []),
+    "a feed": (("token-a1", None, "GET", f"{AT_REHEARSAL}/event-feed", ""), []),
     "the contest": (("token-a1", None, "GET", AT_REHEARSAL, ""), []),
     "a refusal": (by("a1", SUBMISSIONS, "{}"), []),
     "no path": (("public", None, "GET", "/", ""), []),

@@ -43,7 +43,7 @@ IDS = ["AC", "cpp", "north", "a", "t1", "t9", "x", "", "a/b"]
 MOMENTS = [0, START - 1, START, FREEZE - 1, FREEZE, END - 1, END, LAST_MOMENT]
 # Extensions that must come, by what had come before them: nothing, the freeze, the freeze and the end.
 PROLONGED = ["extensions before the freeze", "extensions in the freeze", "extensions after the end"]
-READS = ["submissions", "judgements", "clarifications", "scoreboard", "awards", "state", *SETTINGS]
+READS = ["submissions", "judgements", "clarifications", "scoreboard", "awards", "state", "event-feed", *SETTINGS]
 
 
 class Asker(Requester, Spoiler, Director):

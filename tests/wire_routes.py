@@ -46,7 +46,7 @@ ROUTES = {
     "/jury/extension": EXTENSION,
     **{f"{AT_REHEARSAL}/{name}": "" for name in COLLECTIONS}, **{f"{AT_REHEARSAL}/{name}/{one}": "" for name, one in COLLECTIONS.items()},
     SUBMISSIONS: POST, AT_ALL: QUESTION, f"{SUBMISSIONS}/s1-1/files": "", f"{AT_REHEARSAL}/scoreboard": "", f"{AT_REHEARSAL}/state": "",
-    f"{AT_REHEARSAL}/groups/north/scoreboard": "", f"{AT_REHEARSAL}/account": "", "/contests": "", AT_REHEARSAL: compact({"scoreboard_thaw_time": moment(END + 1_200_000)}), "/jury/proposals": JUDGED, "/jury/verifications": JUDGED,
+    f"{AT_REHEARSAL}/groups/north/scoreboard": "", f"{AT_REHEARSAL}/event-feed": "", f"{AT_REHEARSAL}/account": "", "/contests": "", AT_REHEARSAL: compact({"scoreboard_thaw_time": moment(END + 1_200_000)}), "/jury/proposals": JUDGED, "/jury/verifications": JUDGED,
     AT_REJUDGINGS: OPENED, f"{AT_REJUDGINGS}/1": "", f"{AT_REJUDGINGS}/1/verdicts": JUDGED, f"{AT_REJUDGINGS}/1/apply": "",
     f"{AT_REJUDGINGS}/1/cancel": "", "/jury/finalize": "",
     "/jury/accounts": ACCOUNT, "/jury/teams": TEAM, "/jury/tokens": TOKEN, "/jury/names": NAME,

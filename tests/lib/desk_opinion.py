@@ -4,7 +4,7 @@ docs/FORMATS.md says what is asked and answered. It is written to be read beside
 program: whole lists, filtered and counted for each answer, and nothing kept up to date along the way. What imports add to a
 contest is told by import_opinion.py, what an administrator changes of teams and accounts by change_opinion.py, what is answered
 about clarifications by clarification_opinion.py and about rejudgings by rejudging_opinion.py, how the clock is set by
-clock_opinion.py, and who wins what by awards_opinion.py.
+clock_opinion.py, who wins what by awards_opinion.py, and which events make a feed by feed_opinion.py.
 """
 
 import base64
@@ -12,7 +12,7 @@ import binascii
 import copy
 from dataclasses import dataclass
 
-from . import awards_opinion, clock_opinion, rejudging_opinion
+from . import awards_opinion, clock_opinion, feed_opinion, rejudging_opinion
 from .change_opinion import account_object, row_added, row_changed
 from .clarification_opinion import clarification_object, clarify, heard_clarifications
 from .contest_opinion import is_jury, moment, owns, place_of, sees_all
@@ -212,6 +212,12 @@ def collection(contest, now, name, caller):
     return sorted(rows, key=lambda row: (row["ordinal"], row["id"].encode())) if name == "problems" else rows
 
 
+def event_feed(contest, now, caller):
+    """The feed of all that the caller is served."""
+    single = {"contest": contest_object(contest), "state": state_object(contest, now)}
+    return feed_opinion.feed(lambda kind: [single[kind]] if kind in single else collection(contest, now, kind, caller))
+
+
 def posted(body, team):
     """What a team posts: problem, language, entry point and file."""
     try:
@@ -314,7 +320,7 @@ def offered(contest, path):
         return rejudgings
     if path in ("/jury/proposals", "/jury/verifications"):
         return ["GET", "HEAD", "POST"] if pieces[2] == "proposals" else ["POST"], pieces[2], None
-    if pieces[:3] == ["", "contests", contest["id"]] and pieces[3:] in (["account"], ["state"], ["scoreboard"]):
+    if pieces[:3] == ["", "contests", contest["id"]] and pieces[3:] in (["account"], ["state"], ["scoreboard"], ["event-feed"]):
         return ["GET", "HEAD"], pieces[3], None
     if path in [f"/jury/{name}" for name in ADMINISTRATORS]:
         return ["POST"], pieces[2], None
@@ -455,6 +461,7 @@ READS = {
     "state": lambda asked: state_object(asked.contest, asked.now),
     "scoreboard": lambda asked: scoreboard(asked.contest, asked.now, asked.caller),
     "group scoreboard": group_scoreboard,
+    "event-feed": lambda asked: event_feed(asked.contest, asked.now, asked.caller),
     "files": lambda asked: file_of(asked.contest, asked.which, asked.caller),
     "proposals": proposals_read,
     **REJUDGINGS,
@@ -469,12 +476,18 @@ def value_of(contest, now, who, key, method, path, body):
     return (CHANGES if method in ("POST", "PATCH") else READS).get(name, listed)(asked)
 
 
+def told(value):
+    """What is told of a value that is answered: bytes are a file, a feed is one, and all else is JSON, whose type isn't told."""
+    if isinstance(value, bytes):
+        return f"application/zip {value.decode(errors='surrogateescape')}"
+    return f"{feed_opinion.CONTENT} {value}" if isinstance(value, feed_opinion.Feed) else compact(value)
+
+
 def handled(contest, now, who, key, method, path, body):
     """What is answered to a request, and the contest after it."""
     after = copy.deepcopy(contest) if method in ("POST", "PATCH") else contest
     try:
-        value = value_of(after, now, who, key, method, path, body)
-        return "200 " + (f"application/zip {value.decode(errors='surrogateescape')}" if isinstance(value, bytes) else compact(value)), after
+        return f"200 {told(value_of(after, now, who, key, method, path, body))}", after
     except Refused as refused:
         name, field = refused.args[0], refused.args[1] if len(refused.args) > 1 else ""
         field = " WWW-Authenticate: Bearer" if name == "UnknownToken" else field

@@ -70,6 +70,7 @@ class Requester(Adder, Changer, Clarifier, Rejudger, Timekeeper):
         which = self.submission(contest)
         group = self.often(self.one([row["id"] for row in contest["groups"]] or ["north"]), ["east", ""], 0.9)
         paths = ["scoreboard", f"groups/{group}/scoreboard", "judgements", f"judgements/{which}.{self.often('1', ['2', '2', '3', '01'], 0.7)}",
-                 "submissions", f"submissions/{which}", f"submissions/{which}/files", "state", "awards", "awards/winner", "account"]  # fmt: skip
+                 "submissions", f"submissions/{which}", f"submissions/{which}/files", "state", "awards", "awards/winner", "account", "event-feed",
+                 self.often("event-feed", ["event-feed/", "event-feed/1"], 0.8)]  # fmt: skip
         path = self.often(f"{AT_REHEARSAL}/{self.one(paths)}", ["/jury/proposals", "/jury/verifications"], 0.85)
         return who, None, self.often("GET", ["HEAD"], 0.95), path, ""

@@ -7,7 +7,7 @@ asked is answered by desk_opinion.py.
 import datetime
 import re
 
-from . import desk_opinion
+from . import desk_opinion, feed_opinion
 from .import_opinion import compact
 
 HEAD_LIMIT, BODY_LIMIT = 16_384, 2_097_152
@@ -129,8 +129,10 @@ def spelled(now, answer, head_only):
         extra, rest = allowed.encode(), "{" + rest
     elif rest.startswith("WWW-Authenticate: Bearer "):
         extra, rest = b'WWW-Authenticate: Bearer realm="desk"', rest.removeprefix("WWW-Authenticate: Bearer ")
-    elif rest.startswith("application/zip "):
-        kind, rest = b"application/zip", rest.removeprefix("application/zip ")
+    for content in ("application/zip", feed_opinion.CONTENT):
+        if rest.startswith(f"{content} "):
+            kind, rest = content.encode(), rest.removeprefix(f"{content} ")
+            break
     return reply(now, int(status), rest.encode("utf-8", "surrogateescape"), extra, kind, head_only)
 
 
