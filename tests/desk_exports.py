@@ -18,15 +18,13 @@ import io
 import json
 import os
 import random
-import resource
 import shutil
-import signal
 import sys
 
 from lib import clock, demo, desk_opinion, program
 from lib.demo import START
 from lib.desk_opinion import moment, submission_id
-from lib.program import FAULT, FILE, Program, compiled, ran_refused, refused
+from lib.program import FAULT, FILE, Program, compiled, limited_to, ran_refused, refused, refused_in_turn
 from lib.replay_opinion import reltime_text
 from lib.sqlite import dump, insert, opened
 
@@ -117,16 +115,6 @@ def try_made(desk):
         list(pool.map(one, range(desk.options.made)))
 
 
-def limited_to(count):
-    """What a program does at its start so that no file takes more than so many bytes of it."""
-
-    def limit():
-        signal.signal(signal.SIGXFSZ, signal.SIG_IGN)
-        resource.setrlimit(resource.RLIMIT_FSIZE, (count, count))
-
-    return limit
-
-
 def try_cuts(desk):
     """Exports of three submissions or more, whose output fails after so many bytes: in each row, and at each end. The program writes
     a few bytes to the contest's file too, so there are as many as the header has at least."""
@@ -185,14 +173,7 @@ def try_memory(desk):
             desk.note(((status, out, err) == (0, text, b"") or is_told) and is_kept, f"{words[0]}, call {call} refused: {status}, {out!r:.300}, {err!r}")
             return refused, is_told
 
-        call, step, told = 1, desk.options.every, 0
-        with concurrent.futures.ThreadPoolExecutor(os.cpu_count() or 1) as pool:
-            is_over = False
-            while not is_over:
-                tried = list(pool.map(one, range(call, call + 100 * step, step)))
-                is_over, told = not all(refused for refused, _ in tried), told + sum(is_told for _, is_told in tried)
-                call += 100 * step
-        desk.note(told > 0, f"{words[0]}: no call that was refused came to E25")
+        desk.note(refused_in_turn(one, desk.options.every) > 0, f"{words[0]}: no call that was refused came to E25")
 
 
 if __name__ == "__main__":

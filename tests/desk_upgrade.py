@@ -101,7 +101,7 @@ def try_worked(desk):
     for with_cells in (True, False):
         what, folder = "with cells" if with_cells else "without cells", was(desk, base, with_cells)
         bytes_before = (folder / "cup.db").read_bytes()
-        for words in (("board",), ("awards",), ("export",), ("serve", "--requests", "1"), ("init", "init"), ("import", "teams", "teams")):
+        for words in (("board",), ("awards",), ("export",), ("feed",), ("serve", "--requests", "1"), ("init", "init"), ("import", "teams", "teams")):
             given = desk.run(folder, words[0], "cup.db", *words[1:], before=AT_TEN)
             desk.same(f"{words} of the first schema {what}", given, OLD)
         desk.note((folder / "cup.db").read_bytes() == bytes_before, f"the refused file {what} has other bytes")

@@ -1,8 +1,11 @@
 """What a script is asked for, the program that it runs, and what that answers."""
 
 import argparse
+import concurrent.futures
 import os
 import pathlib
+import resource
+import signal
 import subprocess
 import tempfile
 
@@ -76,6 +79,28 @@ def ran_refused(words, library, call, later, **how):
     os.close(writer)
     with os.fdopen(reader, "rb") as told:
         return answer, len(told.read())
+
+
+def limited_to(count):
+    """What a program does at its start so that no file takes more than so many bytes of it."""
+
+    def limit():
+        signal.signal(signal.SIGXFSZ, signal.SIG_IGN)
+        resource.setrlimit(resource.RLIMIT_FSIZE, (count, count))
+
+    return limit
+
+
+def refused_in_turn(one, step):
+    """Has a function refuse the first call for memory, and each so manieth after it, until none is left: how many of these were told.
+    It answers how many calls it refused, and whether that was told."""
+    call, told, is_over = 1, 0, False
+    with concurrent.futures.ThreadPoolExecutor(os.cpu_count() or 1) as pool:
+        while not is_over:
+            tried = list(pool.map(one, range(call, call + 100 * step, step)))
+            is_over, told = not all(count for count, _ in tried), told + sum(is_told for _, is_told in tried)
+            call += 100 * step
+    return told
 
 
 class Program(Tally):
