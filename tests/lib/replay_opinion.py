@@ -156,6 +156,7 @@ class Contest:
         self.name = None  # of the contest; None until its record was read
         self.duration = None  # milliseconds
         self.freeze = None  # the freeze moment in milliseconds, or None
+        self.penalty = PENALTY  # minutes; a replay file names no other
         self.types = {}  # id: (name, solved, penalty)
         self.problems = {}  # id: (label, name, ordinal)
         self.teams = {}  # id: (name, hidden)
@@ -326,7 +327,7 @@ class Row:
         self.cells = [Cell(contest, shown, team, problem) for problem in problems]
         solved = [cell for cell in self.cells if cell.solved is not None]
         self.solved = len(solved)
-        self.total = sum(cell.solved + PENALTY * cell.penalties for cell in solved)
+        self.total = sum(cell.solved + contest.penalty * cell.penalties for cell in solved)
         self.last = max((cell.solved for cell in solved), default=0)  # of no use if nothing is solved
 
     def beats(self, other):
