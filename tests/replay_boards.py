@@ -11,7 +11,7 @@ turn. Status, standard output and standard error must be equal byte for byte; if
 standard error is the program's own, and must only say something.
 
 Prints how often each answer came, and at which records. Prints the first cases that differ, keeps their files in FOLDER (one
-of its own for each case: `file.csv`, `words`, and what each side gave), and ends with the line `N passed, M failed`. The exit
+of its own for each case: `file`, `words`, and what each side gave), and ends with the line `N passed, M failed`. The exit
 status is 0 if M is 0.
 """
 

@@ -16,6 +16,7 @@ import sys
 
 from lib import program, replay_opinion
 from lib.beside import Beside
+from lib.changed_bytes import changed_once
 from lib.program import ROOT
 
 PIECES = [
@@ -27,31 +28,13 @@ PIECES = [
 WORDS = [[], ["--jury"], ["--thawed"], ["--at", "0:20:00"], ["--at", "0:10:59.999", "--jury"], ["--at=-0:00:00"]]
 
 
-def changed_once(rng, data):
-    """The file after one change."""
-    place, kind = rng.randrange(len(data) + 1), rng.randrange(6)
-    if kind < 3:
-        return data[:place] + rng.choice(PIECES) + data[place:]
-    if kind == 3:
-        return data[:place] + data[place + rng.choice([1, 1, 2, 5]) :]
-    if kind == 4:
-        return data[:place] + bytes([rng.randrange(256)]) + data[place + 1 :]
-    lines = data.split(b"\n")
-    one, other = rng.randrange(len(lines)), rng.randrange(len(lines))
-    if rng.random() < 0.5:
-        lines.insert(other, lines[one])
-    else:
-        lines[one], lines[other] = lines[other], lines[one]
-    return b"\n".join(lines)
-
-
 def try_changed(tally):
     seed, files = tally.options.seed, [file.read_bytes() for file in sorted((ROOT / "examples").glob("*.csv"))]
     rng = random.Random(seed)
     for index in range(tally.options.cases):
         words, data = ["replay"] + rng.choice(WORDS), rng.choice(files)
         for _ in range(rng.choice([1, 1, 2, 3])):
-            data = changed_once(rng, data)
+            data = changed_once(rng, data, PIECES)
         tally.compare(f"changed {seed} {index}", words, data, replay_opinion.replay(words, data), tally.given(words, data))
 
 

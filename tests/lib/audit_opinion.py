@@ -351,9 +351,11 @@ def compared(contest, shown, there):
 
 def audit(words, data, there=None):
     """What the command gives: its status, standard output and standard error. The bytes of the board there are given beside the
-    feed."""
+    feed; None for a file that can't be read."""
     try:
         jury, thawed, at, against = read_words(words)
+        if against is not None and there is None:
+            raise Refused("File")
         board = None if against is None else read_board(there)
         contest, left = read_feed(data)
     except WrongWords:

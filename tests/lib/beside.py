@@ -1,4 +1,4 @@
-"""The command `replay` beside its second opinion, case by case."""
+"""The commands `replay` and `audit` beside their second opinions, case by case."""
 
 import shlex
 import time
@@ -16,17 +16,18 @@ def agree(wanted, given):
     return given == wanted
 
 
-def keep(folder, title, words, data, wanted, given):
-    """Writes a case that differs into a folder of its own, and prints what differs."""
+def keep(folder, title, words, files, wanted, given):
+    """Writes a case that differs into a folder of its own, with the files that it is of, and prints what differs."""
     place = folder / title.replace(" ", "-")
     place.mkdir(parents=True, exist_ok=True)
-    (place / "file.csv").write_bytes(data)
+    for name, data in files.items():
+        (place / name).write_bytes(data)
     (place / "words").write_text(shlex.join(words) + "\n")
     for side, (status, out, err) in (("wanted", wanted), ("given", given)):
         (place / f"{side}.status").write_text(f"{status}\n")
         (place / f"{side}.out").write_bytes(out)
         (place / f"{side}.err").write_bytes(err)
-    print(f"differs: {title}: desk {shlex.join(words)} < {place / 'file.csv'}")
+    print(f"differs: {title}: desk {shlex.join(words)} < {place / 'file'}")
     for what, left, right in zip(("status", "standard output", "standard error"), wanted, given):
         if left != right:
             print(f"  {what}: wanted {left!r:.300}\n  {what}: given  {right!r:.300}")
@@ -36,7 +37,7 @@ def told(answer):
     """What an answer tells, without the number of the record, and that number if there is one."""
     status, _, err = answer
     if status != 1:
-        return ("wrong words" if status == 2 else "done"), None
+        return {2: "wrong words", 3: "differences"}.get(status, "done"), None
     words = err.decode().split()
     numbers = [int(word) for word in words if word.isdigit()]
     return " ".join(word for word in words if not word.isdigit()), numbers[0] if numbers else None
@@ -60,13 +61,13 @@ class Beside(Tally):
     def given(self, words, data):
         return ran([self.options.program, *words], input=data)
 
-    def compare(self, title, words, data, wanted, given):
+    def compare(self, title, words, data, wanted, given, **others):
         what, record = told(wanted)
         self.records.setdefault(what, []).append(record)
         is_right = agree(wanted, given)
         self.passed, self.failed = self.passed + is_right, self.failed + (not is_right)
         if not is_right and self.failed <= SHOWN:
-            keep(self.options.keep, title, words, data, wanted, given)
+            keep(self.options.keep, title, words, {"file": data, **others}, wanted, given)
 
     def end(self):
         """Tells how often each answer came, and at which records."""
