@@ -6,9 +6,10 @@
 N contests (40) come of N requests each (300) that every role makes of `desk serve`, by a seed: submissions, verdicts, rejudgings,
 clarifications, late teams, other names, a start, an extension and a thaw that are set, and at last final results where these are
 taken. At moments beside the start, the freeze, the end, the thaw and the final results, `desk feed` prints for anyone, for the jury
-and for each team what lib/desk_opinion.py says, and so answers `desk serve` each account that has its first token. Then feeds whose
-output takes so many bytes and no more, other outputs that fail, and what is refused. At the end each Nth call for memory (7th) of a
-feed is refused, each alone: the answer is E25, after the front of the feed that was written by then, or the feed.
+and for each team what lib/desk_opinion.py says, and so answers `desk serve` each account that has its first token. `desk audit --jury`
+of the jury's feed prints the name and the rows of `desk board` for the jury, and beside the jury's scoreboard it finds them the same.
+Then come feeds whose output takes so many bytes and no more, other outputs that fail, and what is refused. At the end each Nth call for
+memory (7th) of a feed is refused, each alone: the answer is E25, after the front of the feed that was written by then, or the feed.
 
 Takes faketime and a C compiler. Ends with the line `N passed, M failed`; the exit status is 0 if M is 0.
 """
@@ -22,8 +23,8 @@ from lib import clock, demo, desk_opinion, program
 from lib.clock import text_of
 from lib.demo import AT_REHEARSAL, START
 from lib.desk_opinion import moment
-from lib.import_opinion import digest_of
-from lib.program import DONE, FAULT, FILE, Program, compiled, limited_to, ran_refused, refused, refused_in_turn
+from lib.import_opinion import compact, digest_of
+from lib.program import DONE, FAULT, FILE, Program, compiled, limited_to, ran, ran_refused, refused, refused_in_turn
 from lib.rehearsal import END, FREEZE, contest_of, files_of, sent
 from lib.requester import Requester, closing, prolonging
 from lib.server import Server
@@ -99,6 +100,24 @@ def same_printed(desk, number, folder, contest, now):
         desk.answers(f"contest {number}, {' '.join(words)}", (0, wanted, ""), folder, *words)
 
 
+def same_audited(desk, number, folder, contest, now):
+    """What `desk audit` reads in the jury's feed: the jury's board, whatever its second line says of the moment."""
+    words, what = ("cup.db", "--audience", "jury", "--at", moment(now)), f"contest {number} at {moment(now)}"
+    feed, board = desk.run(folder, "feed", *words)[1].encode(), desk.run(folder, "board", *words)
+    status, out, err = ran([desk.path, "audit", "--jury"], input=feed)
+    desk.same(f"{what}: the audit", (status, without_title(out.decode()), err), (0, without_title(board[1]), b""))
+    there = desk_opinion.scoreboard(contest, now, JURY)
+    (folder / "board.json").write_text(compact(there), encoding="utf-8")
+    given = ran([desk.path, "audit", "--jury", "--against", "board.json"], input=feed, cwd=folder)
+    desk.same(f"{what}: the audit beside the scoreboard", given, (0, f"the same: {len(there['rows'])} teams\n".encode(), b""))
+
+
+def without_title(board):
+    """The lines of a board without its second, which says whose it is and when."""
+    name, _, *rows = board.split("\n")
+    return [name, *rows]
+
+
 def same_answered(desk, number, server, contest, now):
     """What `desk serve` answers at a moment."""
     server.at(text_of(now))
@@ -116,6 +135,7 @@ def try_made(desk):
         folder, contest = day(desk, number)
         for now in moments_of(contest):
             same_printed(desk, number, folder, contest, now)
+            same_audited(desk, number, folder, contest, now)
         server = Server(desk, folder)
         for now in moments_of(contest):
             same_answered(desk, number, server, contest, now)

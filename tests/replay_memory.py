@@ -1,5 +1,5 @@
 #!/usr/bin/env -S python3 -B
-"""Refuses each call for memory of `desk replay` in turn, and holds what it then answers.
+"""Refuses each call for memory of `desk replay` and `desk audit` in turn, and holds what they then answer.
 
     replay_memory.py [--program PATH]
     replay_memory.py --try N [N ..]
@@ -12,8 +12,8 @@ run with its first call refused, its second, and so on until a run comes to its 
 with every later call refused as well. Of each case some calls have to be refused, and some of these answered so.
 
 The second form has `rt try --fail-alloc N` refuse allocation N instead, in an unproved build that checks each access and each
-sum as it runs. It takes the cases with no option, and builds the program of `replay` alone anew for each N, which takes about
-a minute.
+sum as it runs. It takes the cases of `replay` with no option, and builds the program of `replay` alone anew for each N, which takes
+about a minute.
 
 Ends with the line `N passed, M failed`; the exit status is 0 if M is 0.
 """
@@ -22,14 +22,21 @@ import re
 import subprocess
 import sys
 
-from lib import program, replay_opinion
+from lib import audit_opinion, program, replay_opinion
 from lib.beside import agree
+from lib.feed_spoiler import WHOLE, event
 from lib.program import ROOT, compiled, ran, ran_refused
 from lib.tally import Tally
 
 REFUSED = (1, b"", b"refused: E25 Memory\n")
 EXAMPLE = (ROOT / "examples/first.csv").read_bytes()
 UNKNOWN_TEAM = EXAMPLE.replace(b"submission,t2", b"submission,t7")
+FEED = b"".join(event(kind, row) + b"\n" for kind, row in WHOLE.items())
+ARRAYS = b"".join(event(kind, [row, {**row, "id": "b"}]) + b"\n" for kind, row in WHOLE.items() if kind not in ("contest", "problems"))
+TEAM_LESS = FEED + b"\n" + event("teams", None) + b"\n"
+# Another system's board stands in a file of this name.
+BOARD = event("x", {"rows": [{"rank": 1, "team_id": "t1", "score": {"num_solved": 1, "total_time": "0:30:00"}, "problems": [{"problem_id": "b"}]}]})
+BOARD = BOARD.removeprefix(b'{"type": "x", "data": ').removesuffix(b"}")
 CASES = [
     ("the first example", ["replay"], EXAMPLE),
     ("an unknown team", ["replay"], UNKNOWN_TEAM),
@@ -39,7 +46,17 @@ CASES = [
     ("all options", ["replay", "--jury", "--thawed", "--at", "5:00:00"], EXAMPLE),
     ("the larger example", ["replay"], (ROOT / "examples/autumn.csv").read_bytes()),
     ("wrong words", ["replay", "--at", "7"], EXAMPLE),
+    ("a feed", ["audit", "--jury"], FEED),
+    ("whole collections", ["audit"], FEED + ARRAYS),
+    ("what is taken away", ["audit"], TEAM_LESS),
+    ("a line that is none", ["audit"], FEED + b"{"),
+    ("a board beside another", ["audit", "--against", "board"], FEED),
 ]
+
+
+def opinion(words, data):
+    """What the second opinion gives."""
+    return audit_opinion.audit(words, data, BOARD) if words[0] == "audit" else replay_opinion.replay(words, data)
 
 
 class Replay(Tally):
@@ -47,13 +64,14 @@ class Replay(Tally):
 
     def __init__(self, options, folder):
         super().__init__()
-        self.program, self.folder, self.numbers = options.program, folder, vars(options)["try"]
+        self.program, self.folder, self.numbers = options.program.resolve(), folder, vars(options)["try"]
+        (folder / "board").write_bytes(BOARD)
 
     def with_memory(self, title, words, data):
         """What the program answers with all its memory, which must be what the second opinion gives."""
-        answer = ran([self.program, *words], input=data)
-        if not agree(replay_opinion.replay(words, data), answer):
-            sys.exit(f"{title}: isn't what lib/replay_opinion.py gives: {answer!r:.300}")
+        answer = ran([self.program, *words], input=data, cwd=self.folder)
+        if not agree(opinion(words, data), answer):
+            sys.exit(f"{title}: isn't what the second opinion gives: {answer!r:.300}")
         return answer
 
 
@@ -62,7 +80,7 @@ def refuse_each(replay, library, title, words, data, later):
     wanted, call, refused, same, told = replay.with_memory(title, words, data), 0, 1, 0, 0
     while refused:
         call += 1
-        given, refused = ran_refused([replay.program, *words], library, call, later, input=data)
+        given, refused = ran_refused([replay.program, *words], library, call, later, input=data, cwd=replay.folder)
         replay.note(given in (wanted, REFUSED), f"{title}: call {call} refused: {given!r:.300}")
         same += refused > 0 and given == wanted
         told += given == REFUSED

@@ -81,7 +81,7 @@ def json_of(data):
         "".join(map(json.loads, strings)).encode("utf-8")
     except (json.JSONDecodeError, UnicodeError, RecursionError):
         raise Fault("Malformed")
-    marks = re.sub(r"[^\[\]{}]", "", STRING.sub("", text))
+    marks = re.sub(r"[^\[\]{}]+", "", STRING.sub("", text))
     depths = itertools.accumulate(1 if mark in "[{" else -1 for mark in marks)
     if max(depths, default=0) > NESTING:
         raise Fault("Malformed")
