@@ -40,7 +40,7 @@ HERE, POSTED = "/demo/contests/demo", {"problem_id": "a", "language_id": "cpp", 
 CALLERS = [None, "token-a1", "token-a2", "token-a9", "token-j1", "token-adm", "token-nobody"]
 PATHS = [f"/contests/demo{rest}" for rest in (
     "", "/state", "/scoreboard", "/submissions", "/submissions/s1-1", "/submissions/s1-1/files", "/submissions/s9-9",
-    "/judgements", "/judgements/s1-1.1", "/clarifications", "/clarifications/c1-1", "/awards", "/teams/t9", "/nothing",
+    "/judgements", "/judgements/s1-1.1", "/clarifications", "/clarifications/c1-1", "/awards", "/event-feed", "/teams/t9", "/nothing",
 )] + ["/contests", "/jury/proposals", "/jury/rejudgings", "/jury/verifications"]  # fmt: skip
 FIELDS = ("Content-Type", "Allow", "WWW-Authenticate")
 SLOW, QUICK = 48, 40
