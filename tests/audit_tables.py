@@ -156,7 +156,8 @@ def try_limits(test):
     """As many objects of each kind as there may be, one more, and then one less, by events and at once."""
     for kind, limit in (("judgement-types", 40), ("problems", 40), ("groups", 50), ("teams", 500)):
         rows, gone = rows_of(kind, limit + 1), event(kind, None, id="n1")
-        for what, lines, number in (("one by one", [event(kind, row) for row in rows], 7 + limit), ("at once", [event(kind, [WHOLE[kind], *rows])], 8)):
+        single, whole = [event(kind, row) for row in rows], [event(kind, [WHOLE[kind], *rows])]
+        for what, lines, number in (("one by one", single, 7 + limit), ("at once", whole, 8)):
             test.audit(f"{limit + 1} {kind} {what}", rejected(number, "TableFull"), feed(*BASE, *lines))
             given = audit_opinion.audit(["audit"], feed(*BASE, *lines, gone))
             test.note(given[0] == 0, f"{limit} {kind} {what}: the second opinion gives {given}")
@@ -238,7 +239,8 @@ def try_large(test):
     """Feeds of as many bytes as there may be, and of one more."""
     if not test.options.large:
         return
-    for what, more, wanted in (("1 GiB", b"", SHOWN), ("a space more", b" ", TOO_LARGE), ("a line's end more", b"\n", TOO_LARGE), ("a fault more", b"x", TOO_LARGE)):
+    for what, more in (("1 GiB", b""), ("a space more", b" "), ("a line's end more", b"\n"), ("a fault more", b"x")):
+        wanted = TOO_LARGE if more else SHOWN
         given, memory = through_pipe(test, filled(more))
         test.note(given == wanted and memory <= MEMORY, f"{what}: {given}, with {memory:,} kB; wanted {wanted}")
     given, memory = through_pipe(test, (b"x" * 1_048_576 for _ in range(1024)))

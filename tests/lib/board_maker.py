@@ -7,8 +7,9 @@ from .replay_files import reltime
 from .replay_opinion import board_rows, columns_of
 
 # What stands in the place of a board, of a row, of its score or of a cell, and is none.
-BAD_BOARDS = [b"", b"x", b"{", b"[]", b"null", b"{}", b'{"rows":null}', b'{"rows":7}', b'{"rows":{}}', b'{"rows":[7]}', b'{"rows":[null]}', b'{"rows":[[]]}',
-              b'{"rows":[]}{}', b'\xef\xbb\xbf{"rows":[]}', b'{"rows":[],"x":"\xff"}', b'{"rows":[],"x":"\\ud800"}', b'{"rows":[],"x":1e999}']  # fmt: skip
+BAD_BOARDS = [b"", b"x", b"{", b"[]", b"null", b"{}", b'{"rows":null}', b'{"rows":7}', b'{"rows":{}}', b'{"rows":[7]}', b'{"rows":[null]}',
+              b'{"rows":[[]]}', b'{"rows":[]}{}', b'\xef\xbb\xbf{"rows":[]}', b'{"rows":[],"x":"\xff"}', b'{"rows":[],"x":"\\ud800"}',
+              b'{"rows":[],"x":1e999}']  # fmt: skip
 NUMBERS, TIMES = [None, -1, 1.5, 1.0, "1", True, [], 2**32, 10**20], [-1, 1.5, True, [], {}, 2**32, "", "20", "0:20", "-0:00:01", "0:60:00", "x"]
 BAD_ROWS = {"rank": NUMBERS, "team_id": [None, 7, "", "-a", "a" * 37, []], "score": [None, 7, [], "x"], "problems": [7, {}, "x", [7], [[]], [None]]}
 BAD_SCORES = {"num_solved": NUMBERS, "total_time": [None, *TIMES]}
@@ -63,7 +64,8 @@ class BoardMaker(Chance):
             one = self.one(cells)
             one["solved"] = not one.get("solved", False)
         else:
-            cells[:] = cells[1:] if self.maybe(0.5) else [*cells, *([{"problem_id": "other"}] if all(one["problem_id"] != "other" for one in cells) else [])]
+            others = [one for one in cells if one["problem_id"] != "other"]
+            cells[:] = cells[1:] if self.maybe(0.5) else [*others, {"problem_id": "other"}]
         return rows
 
     def spoil(self, rows):

@@ -73,7 +73,8 @@ class FeedMaker(Chance):
 
     def settings(self):
         for key, (name, solved, penalty) in self.contest.types.items():
-            row = {"name": name, **({"solved": solved} if solved or self.maybe(0.7) else {}), **({"penalty": penalty} if penalty or self.maybe(0.5) else {})}
+            flags = {"solved": solved, "penalty": penalty}
+            row = {"name": name, **{flag: value for flag, value in flags.items() if value or self.maybe(0.6)}}
             self.object("judgement-types", key, row, {"name": "Other", "solved": not solved})
         for key, (label, name, ordinal) in self.contest.problems.items():
             self.object("problems", key, {"label": label, "name": name, "ordinal": ordinal}, {"label": f"old {key}", "name": name, "ordinal": 7})
@@ -122,8 +123,8 @@ class FeedMaker(Chance):
         right = self.judgement(submission, verdict, later)
         first, second = f"j{submission}.1", f"j{submission}.2"
         if verdict is None:
-            ways = [[], [(first, [right])], [(first, [self.judgement(submission, wrong, time, **invalid)])], [(first, [self.judgement(submission, wrong, time), None])]]
-            tracks = self.one(ways)
+            gone, off = [self.judgement(submission, wrong, time), None], [self.judgement(submission, wrong, time, **invalid)]
+            tracks = self.one([[], [(first, [right])], [(first, off)], [(first, gone)]])
         elif number < 4 or wrong is None:
             tracks = [(first, [right] if number < 3 else [self.judgement(submission, None, None), right])]
         else:

@@ -48,7 +48,8 @@ MEMBERS = {
     ("judgement-types", "name"): ("name", False), ("judgement-types", "solved"): ("flag", True), ("judgement-types", "penalty"): ("flag", True),
     ("problems", "label"): ("name", False), ("problems", "name"): ("name", False), ("problems", "ordinal"): ("ordinal", False),
     ("groups", "hidden"): ("flag", True),
-    ("teams", "display_name"): ("name", False), ("teams", "name"): ("name", False), ("teams", "group_ids"): ("ids", True), ("teams", "hidden"): ("flag", True),
+    ("teams", "display_name"): ("name", False), ("teams", "name"): ("name", False),
+    ("teams", "group_ids"): ("ids", True), ("teams", "hidden"): ("flag", True),
     ("submissions", "team_id"): ("id", False), ("submissions", "problem_id"): ("id", False), ("submissions", "contest_time"): ("time", False),
     ("judgements", "submission_id"): ("id", False), ("judgements", "judgement_type_id"): ("id", True),
     ("judgements", "end_contest_time"): ("time", True), ("judgements", "valid"): ("flag", True), ("judgements", "current"): ("flag", True),
@@ -75,10 +76,12 @@ BAD_LINES = [
     b'{"type":"x"}', b'{"data":{}}', b'{"type":null,"data":{}}', b'{"type":7,"data":{}}', b'{"type":["x"],"data":{}}',
     b'{"type":"x","data":7}', b'{"type":"x","data":"x"}', b'{"type":"x","data":true}',
     b'{"type":"x","id":7,"data":{}}', b'{"type":"x","id":{},"data":{}}', b'{"type":"x","id":[],"data":{}}', b'{"type":"x","id":false,"data":{}}',
-    b'{"type":"x","op":"remove","data":{}}', b'{"type":"x","op":"Create","data":{}}', b'{"type":"x","op":7,"data":{}}', b'{"type":"x","op":"","data":{}}',
+    b'{"type":"x","op":"remove","data":{}}', b'{"type":"x","op":"Create","data":{}}',
+    b'{"type":"x","op":7,"data":{}}', b'{"type":"x","op":"","data":{}}',
     b'{"type":"x","op":null,"data":{}}', b'{"type":"x","op":[],"data":{}}',
     b'{"type":"x","data":{},"data":7}', b'{"type":"x","type":7,"data":{}}', b'{"type":"x","id":"a","id":7,"data":{}}',
-    b'{"type":"x","data":{"a":"\\ud800"}}', b'{"type":"\\udc00","data":{}}', b'{"type":"x","data":{"a":"\xc3("}}', b'{"type":"x","data":{"a":"\xff"}}',
+    b'{"type":"x","data":{"a":"\\ud800"}}', b'{"type":"\\udc00","data":{}}',
+    b'{"type":"x","data":{"a":"\xc3("}}', b'{"type":"x","data":{"a":"\xff"}}',
     b'{"type":"x","data":{"a":1e999}}', b'{"type":"x","data":{"a":01}}', b'{"type":"x","data":{"a":NaN}}', b'{"type":"x","data":{"a":"\x01"}}',
     b'{"type":"x","data":' + b"[" * 127 + b"]" * 127 + b"}", b'{"type":"x","data":{}',
 ]  # fmt: skip
@@ -87,18 +90,23 @@ GOOD_LINES = [
     b"", b" ", b"\t", b"\r", b" \t\r ", b'{"type":"x","data":{}}', b' {"type":"x","data":[7,null,"x"]}\r', b'{"type":"","data":null}',
     b'{"type":"Teams","id":"-","data":{"id":7}}', b'{"type":"x","id":"","data":{"id":"-"}}', b'{"type":"x","id":null,"op":"delete","data":[]}',
     b'{"type":"x","op":7,"op":"create","data":7,"data":{}}', b'{"token":7,"type":"x","data":{},"id":"x","time":[]}',
-    b'{"type":"x","data":' + b"[" * 126 + b"]" * 126 + b"}", b'{"type":"x","data":{"a":"\\ud83c\\udf88\\u0000"}}', b'{"type":"\\u0078","data":{"a":1e308}}',
-    b'{"type":"teams","id":null,"op":"delete","data":{"id":"nobody"}}', b'{"type":"teams","id":"nobody","data":null}', b'{"type":"teams","id":"17","op":"delete","data":{"id":"nobody"}}',
+    b'{"type":"x","data":' + b"[" * 126 + b"]" * 126 + b"}", b'{"type":"x","data":{"a":"\\ud83c\\udf88\\u0000"}}',
+    b'{"type":"\\u0078","data":{"a":1e308}}',
+    b'{"type":"teams","id":null,"op":"delete","data":{"id":"nobody"}}', b'{"type":"teams","id":"nobody","data":null}',
+    b'{"type":"teams","id":"17","op":"delete","data":{"id":"nobody"}}',
 ]  # fmt: skip
 # Lines of a type that is read, which it may not have.
 BAD_EVENTS = [
     b'{"type":"teams","op":"delete","data":[]}', b'{"type":"teams","id":null,"op":"delete","data":[]}', b'{"type":"teams","id":"","data":null}',
-    b'{"type":"teams","id":"-a","data":null}', b'{"type":"teams","op":"delete","data":{"id":7}}', b'{"type":"teams","id":"t1","op":"delete","data":{"id":"-a"}}',
+    b'{"type":"teams","id":"-a","data":null}', b'{"type":"teams","op":"delete","data":{"id":7}}',
+    b'{"type":"teams","id":"t1","op":"delete","data":{"id":"-a"}}',
     b'{"type":"teams","id":"t1","op":"delete","data":{"id":[]}}', b'{"type":"teams","id":"t1","data":[]}', b'{"type":"teams","id":"","data":[]}',
     b'{"type":"teams","data":[7]}', b'{"type":"teams","data":[null]}', b'{"type":"teams","data":[[]]}', b'{"type":"teams","data":[{"name":"x"}]}',
-    b'{"type":"teams","data":[{"id":null,"name":"x"}]}', b'{"type":"teams","data":[{"id":"-","name":"x"}]}', b'{"type":"teams","data":[{"id":"t1","name":"x"},{"id":"t2"}]}',
+    b'{"type":"teams","data":[{"id":null,"name":"x"}]}', b'{"type":"teams","data":[{"id":"-","name":"x"}]}',
+    b'{"type":"teams","data":[{"id":"t1","name":"x"},{"id":"t2"}]}',
     b'{"type":"teams","data":{"name":"x"}}', b'{"type":"teams","id":null,"data":{"name":"x"}}', b'{"type":"teams","id":"-a","data":{"name":"x"}}',
-    b'{"type":"teams","id":"t1","data":{"id":7,"name":"x"}}', b'{"type":"teams","id":"t1","data":{"id":"-a","name":"x"}}', b'{"type":"teams","id":"t1","data":{}}',
+    b'{"type":"teams","id":"t1","data":{"id":7,"name":"x"}}', b'{"type":"teams","id":"t1","data":{"id":"-a","name":"x"}}',
+    b'{"type":"teams","id":"t1","data":{}}',
     b'{"type":"contests","data":{"id":"x"}}', b'{"type":"contests","data":{"name":"x","duration":"5:00:00"}}',
 ]  # fmt: skip
 
@@ -132,10 +140,12 @@ def spoil_array(maker):
 def name_what_is_missing(maker):
     """A submission or a judgement of what isn't there, also one that doesn't count; or what they name is taken away."""
     teams, problems = list(maker.contest.teams) or ["gone"], list(maker.contest.problems) or ["gone"]
-    submission = {"id": "new", "team_id": maker.one(teams), "problem_id": maker.one(problems), "contest_time": maker.one(["0:00:00", "-0:00:01", "1000:00:00"])}
+    time = maker.one(["0:00:00", "-0:00:01", "1000:00:00"])
+    submission = {"id": "new", "team_id": maker.one(teams), "problem_id": maker.one(problems), "contest_time": time}
+    judgement = {"id": "new", "submission_id": maker.one(["s0", "nobody"]), "judgement_type_id": "nobody", "valid": maker.one([True, False])}
     ways = [
         event("submissions", {**submission, maker.one(["team_id", "problem_id"]): "nobody"}),
-        event("judgements", {"id": "new", "submission_id": maker.one(["s0", "nobody"]), "judgement_type_id": "nobody", "valid": maker.one([True, False])}),
+        event("judgements", judgement),
         *(event(maker.one([kind]), None, id=maker.one(rows)) for kind, rows in (("teams", teams), ("problems", problems))),
         event(maker.one(["teams", "problems", "judgement-types"]), None),
         *(event("judgement-types", None, id=one) for one in list(maker.contest.types)[:1]),
@@ -157,8 +167,10 @@ def overfill(maker):
     over = maker.one([0, 1, 1, 2])
     rows = []
     if kind == "submissions":
-        maker.lines += [event("teams", {"id": "full", "name": "Full"}), event("problems", {"id": "many", "label": "Many", "name": "Many", "ordinal": 1})]
-        rows = [{"id": f"n{n}", "team_id": "full", "problem_id": "many", "contest_time": maker.one(["0:00:00"] * 9 + ["-0:00:01"])} for n in range(limit + 60 * over)]
+        maker.lines.append(event("teams", {"id": "full", "name": "Full"}))
+        maker.lines.append(event("problems", {"id": "many", "label": "Many", "name": "Many", "ordinal": 1}))
+        row, times = {"team_id": "full", "problem_id": "many"}, ["0:00:00"] * 9 + ["-0:00:01"]
+        rows = [{"id": f"n{n}", **row, "contest_time": maker.one(times)} for n in range(limit + 60 * over)]
     else:
         standing = len(maker.stands.get(kind, {}))
         rows = [{**WHOLE[kind], "id": f"n{n}", **({"label": f"n{n}"} if kind == "problems" else {})} for n in range(limit - standing + over)]
