@@ -117,7 +117,7 @@ def try_help(desk):
     whole = desk.run(folder, "help")
     begins, names = "Jury and scoreboard desk of a programming contest\n\nUsage: desk <COMMAND>\n", re.findall(r"(?m)^  (\w+)  +[A-Z]", whole[1])
     desk.note(whole[0] == 0 and whole[2] == "" and whole[1].startswith(begins), f"help: {whole}")
-    desk.same("the commands of the help", " ".join(names), "replay init import board awards export feed serve upgrade help")
+    desk.same("the commands of the help", " ".join(names), "replay audit init import board awards export feed serve upgrade help")
     for words, wanted in ((("--help",), whole), (("-h",), whole), ((), (2, "", whole[1]))):
         desk.answers(f"{words}", wanted, folder, *words)
     for name in names[:-1]:
