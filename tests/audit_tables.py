@@ -236,7 +236,8 @@ def filled(more):
 
 
 def try_large(test):
-    """Feeds of as many bytes as there may be, and of one more."""
+    """Feeds of as many bytes as there may be, and of one more. They come first: Linux counts into a program's memory what this process
+    had when it started it."""
     if not test.options.large:
         return
     for what, more in (("1 GiB", b""), ("a space more", b" "), ("a line's end more", b"\n"), ("a fault more", b"x")):
@@ -286,5 +287,5 @@ def try_streams(test):
 
 
 if __name__ == "__main__":
-    PARTS = try_worked, try_words, try_lines, try_members, try_limits, try_submissions, try_sizes, try_large, try_boards, try_streams
+    PARTS = try_large, try_worked, try_words, try_lines, try_members, try_limits, try_submissions, try_sizes, try_boards, try_streams
     sys.exit(program.main(__doc__, Audit, PARTS, program="desk", large=False))
