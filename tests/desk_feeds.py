@@ -8,23 +8,26 @@ clarifications, late teams, other names, a start, an extension and a thaw that a
 taken. At moments beside the start, the freeze, the end, the thaw and the final results, `desk feed` prints for anyone, for the jury
 and for each team what lib/desk_opinion.py says, and so answers `desk serve` each account that has its first token. `desk audit --jury`
 of the jury's feed prints the name and the rows of `desk board` for the jury, and beside the jury's scoreboard it finds them the same.
-Then come feeds whose output takes so many bytes and no more, other outputs that fail, and what is refused. At the end each Nth call for
-memory (7th) of a feed is refused, each alone: the answer is E25, after the front of the feed that was written by then, or the feed.
+examples/package makes a package of such a contest with an analyst's token, which no command shows in its words, and none where a request
+fails. Then come feeds whose output takes so many bytes and no more, other outputs that fail, and what is refused. At the end each Nth
+call for memory (7th) of a feed is refused, each alone: the answer is E25, after the front of the feed that was written by then, or the
+feed.
 
-Takes faketime and a C compiler. Ends with the line `N passed, M failed`; the exit status is 0 if M is 0.
+Takes faketime, curl, jq and a C compiler. Ends with the line `N passed, M failed`; the exit status is 0 if M is 0.
 """
 
 import concurrent.futures
+import json
 import os
 import shutil
 import sys
 
-from lib import clock, demo, desk_opinion, program
+from lib import clock, demo, desk_opinion, feed_opinion, program
 from lib.clock import text_of
 from lib.demo import AT_REHEARSAL, START
 from lib.desk_opinion import moment
 from lib.import_opinion import compact, digest_of
-from lib.program import DONE, FAULT, FILE, Program, compiled, limited_to, ran, ran_refused, refused, refused_in_turn
+from lib.program import DONE, FAULT, FILE, ROOT, Program, compiled, limited_to, ran, ran_refused, refused, refused_in_turn
 from lib.rehearsal import END, FREEZE, contest_of, files_of, sent
 from lib.requester import Requester, closing, prolonging
 from lib.server import Server
@@ -149,6 +152,42 @@ def try_made(desk):
         desk.note(any(contest[what] for contest in made) or len(made) < 40, f"no contest has {what}")
 
 
+def packed(desk, folder, server, token, contest="rehearsal"):
+    """What examples/package answers in a folder, and the words of curl, before which another program stands that writes them down."""
+    tools = desk.new_folder()
+    (tools / "curl").write_text(f'#!/bin/sh\necho "$@" >> {tools}/words\nexec {shutil.which("curl")} "$@"\n', encoding="utf-8")
+    (tools / "curl").chmod(0o755)
+    words = [ROOT / "examples/package/contest-package", f"127.0.0.1:{server.port}", contest, "package"]
+    given = ran(words, cwd=folder, input=token, env={**os.environ, "PATH": f"{tools}:{os.environ['PATH']}"})
+    said = tools / "words"
+    return given, said.read_text(encoding="utf-8") if said.is_file() else ""
+
+
+def try_package(desk):
+    """A package of a contest, whose files are what is served; and none by a token of a team, of nobody, or of another contest."""
+    folder, contest = day(desk, 1)
+    server, analyst = Server(desk, folder), next(one for one in contest["accounts"] if one["id"] == "o1")
+    server.at(text_of(END))
+    wrong = [(token, "rehearsal") for token in (b"", b"token o1\n", b"token-a1\n", b"token-none\n")]
+    for token, name in (*wrong, (b"token-o1\n", "other")):
+        stand = sorted(folder.iterdir())
+        (status, out, err), words = packed(desk, folder, server, token, name)
+        is_right = (status, out) == (1, b"") and err != b"" and sorted(folder.iterdir()) == stand
+        desk.note(is_right, f"a package by {token!r} of {name}: {status}, {out!r}, {err!r}, {words!r}")
+    given, words = packed(desk, folder, server, b"token-o1\n")
+    desk.same("a package", given, (0, b"", b""))
+    desk.note("event-feed" in words and "token-o1" not in words, f"the words of curl: {words}")
+    files = {path.name: path.read_text(encoding="utf-8") for path in (folder / "package").iterdir()}
+    served = {kind: desk_opinion.collection(contest, END, kind, analyst) for kind in feed_opinion.TYPES if kind not in feed_opinion.SINGLE}
+    served |= {"contest": desk_opinion.contest_object(contest), "state": desk_opinion.state_object(contest, END)}
+    served |= {"scoreboard": desk_opinion.scoreboard(contest, END, analyst)}
+    desk.same("the feed in it", files.pop("event-feed.ndjson"), str(desk_opinion.event_feed(contest, END, analyst)))
+    desk.same("the files in it", {name: json.loads(text) for name, text in files.items()}, {f"{kind}.json": rows for kind, rows in served.items()})
+    (status, _, _), _ = packed(desk, folder, server, b"token-o1\n")
+    desk.same("a package where one is", status, 1)
+    server.stop()
+
+
 def try_cuts(desk):
     """Feeds whose output fails after so many bytes: in each event, and at each end. The program writes a few bytes to the contest's
     file too, so there are as many as the first event has at least."""
@@ -210,5 +249,5 @@ def try_memory(desk):
 
 
 if __name__ == "__main__":
-    PARTS = try_made, try_cuts, try_refused, try_memory
+    PARTS = try_made, try_package, try_cuts, try_refused, try_memory
     sys.exit(program.main(__doc__, Program, PARTS, program="desk", made=40, requests=300, every=7, seed=60))
