@@ -24,9 +24,7 @@ mod visible_ids;
 pub use account_object::AccountObject;
 pub use award_object::AwardObject;
 pub use clarification_object::ClarificationObject;
-pub use collection::{
-    Collection, Ordered, Whole, get, get_whole, list, list_whole, refs, sorted,
-};
+pub use collection::{Collection, Ordered, Whole, get, get_whole, list, list_whole, refs, sorted};
 pub use collection_events::{push_objects, push_problems, push_whole};
 pub use collection_object::CollectionObject;
 pub use contest_objects::{ContestEndpoint, ContestObject, StateObject, WholeContest};
