@@ -16,3 +16,4 @@ pub mod TeamCounts
 pub mod LastVerdicts
 pub mod LinesLeft
 pub mod StreamLeft
+pub mod FeedTypes

@@ -1,0 +1,4 @@
+pub mod PlainValues
+pub mod Audited
+pub mod Forms
+pub mod JurysFeeds
