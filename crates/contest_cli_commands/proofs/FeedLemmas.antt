@@ -25,12 +25,12 @@ use Rattle.contest_cli_commands.proofs.ExportLemmas.{as_stop, cut_off, told_of}
 
 -- why it ended early is told, and nothing is out or a front of the feed
 pub fed_in_part : (clean : Type 0) (Is : ContestState → Type 0) (Stops : CommandError → Type 0) (now : ℕ) (who : Who) (out_old out_new err_old err_new : Stream) (stop : CommandError) (status : ℕ)
-    → StopsFeed clean Stops out_old out_new stop → exit_status_of stop ≡ 1
+    → StopsFeed Stops out_old out_new stop → exit_status_of stop ≡ 1
     → Keeps out_old.bytes out_new.bytes ⊎ (clean → PutsFront (GivesFeed now who) Is out_old out_new) → status ≡ exit_status_of stop → Tells err_old err_new (line_of stop)
     → TellsFeed clean Is Stops now who out_old out_new err_old err_new status
 fed_in_part clean Is Stops now who out_old out_new err_old err_new stop status why one front is told = record {
   statuses = omega (arith, one, is);
-  known = cut_off (GivesFeed now who) clean Is (StopsFeed clean Stops out_old out_new) out_old out_new err_old err_new stop status (inl why) one front is told;
+  known = cut_off (GivesFeed now who) clean Is (StopsFeed Stops out_old out_new) out_old out_new err_old err_new stop status (inl why) one front is told;
   unknown = λ two. absurd (omega (arith, one, is, two));
 }
 
@@ -46,8 +46,8 @@ pub fed_of : (clean other : Type 0) (Is Was : ContestState → Type 0) (Stops Mo
     → TellsFeed other Was More now who out_old out_new err_old err_new status
 fed_of clean other Is Was Stops More now who out_old out_new err_old err_new status as_clean same more t = record {
   statuses = t.statuses;
-  known = told_of (GivesFeed now who) clean other Is Was (StopsFeed clean Stops out_old out_new) (StopsFeed other More out_old out_new) out_old out_new err_old err_new status as_clean same
-      (λ stop why. elim why [ inl stops ↦ inl (more stop stops) | inr failed ↦ inr (failed.0, λ c. failed.1 (as_clean c)) ]) t.known;
+  known = told_of (GivesFeed now who) clean other Is Was (StopsFeed Stops out_old out_new) (StopsFeed More out_old out_new) out_old out_new err_old err_new status as_clean same
+      (λ stop why. elim why [ inl stops ↦ inl (more stop stops) | inr failed ↦ inr failed ]) t.known;
   unknown = λ two. let u = t.unknown two in ((λ c. let n = u.0 (as_clean c) in (n.0, same c n.0 n.1, n.2)), u.1, u.2, u.3);
 }
 
@@ -84,7 +84,7 @@ stopped_looking clean now who out err_old err_new Net status x (inr (words, none
 -- memory was refused or `out` failed while a front of the feed was out
 pub cut_in_feed : (clean : Type 0) (now : ℕ) (who : Who) (out_old out_new err_old err_new : Stream) (stop : CommandError) (status : ℕ) (x : ContestState) (a : Audience)
     → (clean → audience_of x.fixed.settings who ≡ Some a) → (clean → AppendsFront out_old.bytes out_new.bytes (feed_text (feed_events a now x)))
-    → StopsFeed clean IsMemory out_old out_new stop → exit_status_of stop ≡ 1
+    → StopsFeed IsMemory out_old out_new stop → exit_status_of stop ≡ 1
     → status ≡ exit_status_of stop → Tells err_old err_new (line_of stop) → TellsFeed clean (λ y. y ≡ x) IsMemory now who out_old out_new err_old err_new status
 cut_in_feed clean now who out_old out_new err_old err_new stop status x a known front why one is told =
     fed_in_part clean (λ y. y ≡ x) IsMemory now who out_old out_new err_old err_new stop status why one

@@ -34,13 +34,13 @@ abbrev pub HasNone : (Is : ContestState → Type 0) → Who → Type 0
 HasNone Is who = (x : ContestState) × Is x × (audience_of x.fixed.settings who ≡ None)
 
 -- why it stops early: for such a cause, or `out` failed
-abbrev pub StopsFeed : (clean : Type 0) → (Stops : CommandError → Type 0) → (out_old out_new : Stream) → CommandError → Type 0
-StopsFeed clean Stops out_old out_new stop = Stops stop ⊎ ((stop ≡ File) × (clean → Fails out_old out_new))
+abbrev pub StopsFeed : (Stops : CommandError → Type 0) → (out_old out_new : Stream) → CommandError → Type 0
+StopsFeed Stops out_old out_new stop = Stops stop ⊎ ((stop ≡ File) × Fails out_old out_new)
 
 -- what is told: as of any text that is written, or, with status 2 and some words, that no team has the id
 pub record TellsFeed (clean : Type 0) (Is : ContestState → Type 0) (Stops : CommandError → Type 0) (now : ℕ) (who : Who) (out_old out_new err_old err_new : Stream) (status : ℕ) : Type 0 where
   pub statuses : status ≤ 2
-  pub known : TellsWritten (GivesFeed now who) clean Is (StopsFeed clean Stops out_old out_new) out_old out_new err_old err_new status
+  pub known : TellsWritten (GivesFeed now who) clean Is (StopsFeed Stops out_old out_new) out_old out_new err_old err_new status
   pub unknown : status ≡ 2 → (clean → HasNone Is who) × Keeps out_old.bytes out_new.bytes × (text : List ℕ) × Tells err_old err_new text
 
 -- how it ends: what is told is of the valid contest whose lists the tables showed, and a crash leaves no more than it

@@ -6,7 +6,6 @@ use Rattle.std.specs.Option.{option_map, option_and_then}
 use Rattle.std.specs.Ordering.{eq_by_cmp}
 use Rattle.std.proofs.lemmas.List.{map-id}
 use Rattle.std.proofs.lemmas.Map.Lookups.{exact_bytes}
-use Rattle.serde_json.specs.Written.{compact_text}
 use Rattle.contest_types.specs.Laws.{IsHeard}
 use Rattle.contest_types.specs.Order.{Has}
 use Rattle.contest_types.specs.Sight.{SeenClarification, clarification_cmp, seen_clarification, seen_clarifications, sees_clarification}

@@ -1,14 +1,14 @@
 -- What a feed has in it, and how it is written.
-use Rattle.std.proofs.Common.{◌≡◌, ◌∙◌, ◌++◌, ◌+◌, ◌<◌, ◌∷◌, ℕ, zero, suc, List, [], Option, Some, None, Result, Ok, Err, append_assoc, append-nil, ap, arith, drop, get_or, length, map, refl, subst, sym, take}
+use Rattle.std.proofs.Common.{◌≡◌, ◌∙◌, ◌++◌, ◌+◌, ◌<◌, ◌∷◌, ℕ, zero, suc, List, [], Option, Some, None, Result, Ok, Err, append_assoc, append-nil, ap, arith, drop, get_or, length, refl, subst, sym, take}
 use Rattle.std.specs.Prelude.{IsErrAnd}
 use Rattle.std.specs.Io.KnownBytes.{Appends}
 use Rattle.std.proofs.KnownBytes.{Appends-trans}
-use Rattle.contest_streams.specs.Streams.{AppendsFront, Stream}
+use Rattle.contest_streams.specs.Streams.{Stream}
 use Rattle.contest_streams.proofs.StreamLemmas.{front_first, front_second}
 use Rattle.contest_objects.specs.EventFeed.{FeedEvent, event_line, lines_from}
 use Rattle.contest_view.specs.Feeding.{Writes}
 use Rattle.contest_view.specs.declared.feed.FeedFault.{FeedFault}
-use Rattle.contest_view.specs.declared.feed.FeedFault.TheVariants.{Write, Memory}
+use Rattle.contest_view.specs.declared.feed.FeedFault.TheVariants.{Memory}
 
 -- the lines of events are those of the first ones, and of the rest, whose numbers go on
 pub lines_in_two : (n : ℕ) (es : List FeedEvent) (k : ℕ) → lines_from n es ≡ lines_from n (take k es) ++ lines_from (n + k) (drop k es)
@@ -35,15 +35,13 @@ lines_of_both n (e ∷ es) fs =
     rw next (ap (λ ls. event_line n e ++ ls) (lines_of_both (n + 1) es fs) ∙ sym (append_assoc (event_line n e) (lines_from (n + 1) es) (lines_from ((n + 1) + length es) fs)))
 
 -- one text is out, and then another is written
-pub writes_then : (r : Result (Unit {0}) FeedFault) (o m n : Stream) (first rest : List ℕ) → Appends o.bytes m.bytes first → m.faults ≡ o.faults → Writes r m n rest → Writes r o n (first ++ rest)
-writes_then (Ok done) o m n first rest out calm w = Appends-trans o.bytes m.bytes n.bytes first rest out w
-writes_then (Err Write) o m n first rest out calm w = (front_second o.bytes m.bytes n.bytes first rest out w.0, rw calm at w.1)
-writes_then (Err Memory) o m n first rest out calm w = front_second o.bytes m.bytes n.bytes first rest out w
+pub writes_then : (r : Result (Unit {0}) FeedFault) (o m n : Stream) (first rest : List ℕ) → Appends o.bytes m.bytes first → Writes r m n rest → Writes r o n (first ++ rest)
+writes_then (Ok done) o m n first rest out w = Appends-trans o.bytes m.bytes n.bytes first rest out w
+writes_then (Err fault) o m n first rest out w = front_second o.bytes m.bytes n.bytes first rest out w
 
 -- a front of a text is one of what goes on
 pub writes_front : (fault : FeedFault) (o n : Stream) (first rest : List ℕ) → Writes (Err fault) o n first → Writes (Err fault) o n (first ++ rest)
-writes_front Write o n first rest w = (front_first o.bytes n.bytes first rest w.0, w.1)
-writes_front Memory o n first rest w = front_first o.bytes n.bytes first rest w
+writes_front fault o n first rest w = front_first o.bytes n.bytes first rest w
 
 -- what a call failed with is passed on
 pub passed_on : (r : Result (Unit {0}) FeedFault) (fault : FeedFault) (o n : Stream) (text : List ℕ) → IsErrAnd r (λ e. e ≡ fault) → Writes (Err fault) o n text → Writes r o n text

@@ -3,7 +3,6 @@ use Rattle.std.proofs.Common.{◌≡◌, ◌∙◌, ◌≤◌, ℕ, Bool, true, 
 use Rattle.std.specs.Prelude.{if◌then◌else◌}
 use Rattle.std.specs.List.{filter_map, last_or}
 use Rattle.std.specs.Option.{option_map, option_and_then}
-use Rattle.serde_json.specs.Written.{compact_text}
 use Rattle.contest_types.specs.Judging.{judged}
 use Rattle.contest_types.specs.Loads.{without_file, loaded_submissions}
 use Rattle.contest_types.specs.Masks.{mask_for, verdict_under}

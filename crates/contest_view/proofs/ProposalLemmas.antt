@@ -6,7 +6,6 @@ use Rattle.std.specs.Option.{option_map}
 use Rattle.std.proofs.lemmas.Simd.{map-map}
 use Rattle.serde_json.specs.Data.{array}
 use Rattle.serde_json.specs.View.{items_of}
-use Rattle.serde_json.specs.Written.{compact_text}
 use Rattle.contest_types.specs.Loads.{loaded_submissions}
 use Rattle.contest_types.specs.Judging.{Proposed, open_proposals, waiting}
 use Rattle.contest_types.specs.Masks.{is_jury}

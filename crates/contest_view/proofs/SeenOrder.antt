@@ -1,7 +1,6 @@
 -- The submissions that an audience sees are seen of those that stand.
 use Rattle.std.proofs.Common.{◌≡◌, ◌∙◌, ℕ, true, List, Option, Some, sym, ap}
 use Rattle.std.specs.List.{filter_map}
-use Rattle.serde_json.specs.Written.{compact_text}
 use Rattle.contest_types.specs.Loads.{without_file, loaded_submissions}
 use Rattle.contest_types.specs.Sight.{SeenSubmission, seen_submission, seen_submissions, sees_submission, submission_cmp}
 use Rattle.contest_types.specs.Laws.{IsSeen}

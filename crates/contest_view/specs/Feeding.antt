@@ -9,11 +9,16 @@ use Rattle.contest_view.specs.declared.feed.FeedFault.{FeedFault}
 use Rattle.contest_view.specs.declared.feed_objects.FeedCollections.{FeedCollections}
 use Rattle.contest_view.specs.declared.feed.FeedFault.TheVariants.{Write, Memory}
 
--- all of the text is out, or a front of it; where the stream is the cause, it failed
+-- where the stream is the cause, it failed
+abbrev pub FailsIfWrite : Result (Unit {0}) FeedFault → (old new : Stream) → Type 0
+FailsIfWrite (Ok done) old new = Unit {0}
+FailsIfWrite (Err Write) old new = Fails old new
+FailsIfWrite (Err Memory) old new = Unit {0}
+
+-- all of the text is out, or a front of it
 abbrev pub Writes : Result (Unit {0}) FeedFault → (old new : Stream) → List ℕ → Type 0
 Writes (Ok done) old new text = Appends old.bytes new.bytes text
-Writes (Err Write) old new text = AppendsFront old.bytes new.bytes text × Fails old new
-Writes (Err Memory) old new text = AppendsFront old.bytes new.bytes text
+Writes (Err fault) old new text = AppendsFront old.bytes new.bytes text
 
 -- the collections of a feed are those of this contest, as an audience sees it
 pub record AreShown (c : FeedCollections) (x : ContestState) : Type 0 where

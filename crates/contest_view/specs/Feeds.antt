@@ -1,7 +1,7 @@
 -- The event feed that an audience is served (Contest API 2023-06, event feed; the order of the collections is own).
 use Rattle.std.specs.Prelude.{ℕ, List, [], ◌∷◌, ◌++◌, codes, map}
 use Rattle.contest_types.specs.Setup.{Setup}
-use Rattle.contest_types.specs.State.{ContestState, FixedPart}
+use Rattle.contest_types.specs.State.{ContestState}
 use Rattle.contest_types.specs.declared.audience.Audience.{Audience}
 use Rattle.contest_objects.specs.ContestObjects.{whole_data}
 use Rattle.contest_objects.specs.EventFeed.{FeedEvent, item_event, whole_event}

@@ -6,7 +6,7 @@ ghost use Rattle.contest_streams.specs.Streams.{stream};
 ghost use Rattle.contest_objects.specs.CollectionObjects.{event_of};
 ghost use Rattle.contest_objects.specs.ContestObjects.{whole_data};
 ghost use Rattle.contest_objects.specs.EventFeed.{event_line, feed_text, lines_from, whole_event};
-ghost use Rattle.contest_view.specs.Feeding.{Writes};
+ghost use Rattle.contest_view.specs.Feeding.{FailsIfWrite, Writes};
 ghost use Rattle.contest_view.specs.Feeds.{feed_events};
 ghost use Rattle.contest_view.specs.SeenLists.{Shows};
 
@@ -56,7 +56,8 @@ pub fn write_feed<W: Write>(
     seen: &Seen<'_>,
     out: &mut Counted<W>,
 ) -> Result<(), FeedFault>
-    ensures { (x : ContestState) → Shows seen.entry.now x → Writes result (stream W.contents out.old) (stream W.contents out.new) (feed_text (feed_events seen.entry.now.audience seen.entry.now.now x)) }
+    ensures written { (x : ContestState) → Shows seen.entry.now x → Writes result (stream W.contents out.old) (stream W.contents out.new) (feed_text (feed_events seen.entry.now.audience seen.entry.now.now x)) }
+    ensures fault { FailsIfWrite result (stream W.contents out.old) (stream W.contents out.new) }
 {
     match awards_for(alloc, seen) {
         Ok(awards) => write_seen(alloc, seen, awards.as_slice(), out),
@@ -71,8 +72,9 @@ fn write_seen<W: Write>(
     awards: &[Award],
     out: &mut Counted<W>,
 ) -> Result<(), FeedFault>
-    ensures { (x : ContestState) → Shows seen.entry.now x → awards.now ≡ shown_awards seen.entry.now.audience seen.entry.now.now x
+    ensures written { (x : ContestState) → Shows seen.entry.now x → awards.now ≡ shown_awards seen.entry.now.audience seen.entry.now.now x
         → Writes result (stream W.contents out.old) (stream W.contents out.new) (feed_text (feed_events seen.entry.now.audience seen.entry.now.now x)) }
+    ensures fault { FailsIfWrite result (stream W.contents out.old) (stream W.contents out.new) }
 {
     let collections = FeedCollections::of(&*seen);
     match feed_objects(alloc, &collections, awards) {
@@ -88,9 +90,10 @@ fn write_events<W: Write>(
     objects: &[CollectionObject<'_>],
     out: &mut Counted<W>,
 ) -> Result<(), FeedFault>
-    ensures { Writes result (stream W.contents out.old) (stream W.contents out.new)
+    ensures written { Writes result (stream W.contents out.old) (stream W.contents out.new)
         (feed_text (whole_event (codes "contest") (whole_data ContestEndpoint.Contest seen.entry.now.lists.now.fixed seen.entry.now.now)
         ∷ map event_of objects.now ++ whole_event (codes "state") (whole_data ContestEndpoint.State seen.entry.now.lists.now.fixed seen.entry.now.now) ∷ [])) }
+    ensures fault { FailsIfWrite result (stream W.contents out.old) (stream W.contents out.new) }
 {
     let contest = whole_line(alloc, seen, 1, "contest", ContestEndpoint::Contest);
     write_line(out, contest)?;
@@ -144,6 +147,7 @@ fn write_objects<W: Write>(
     out: &mut Counted<W>,
 ) -> Result<(), FeedFault>
     ensures written { Writes result (stream W.contents out.old) (stream W.contents out.new) (lines_from 2 (map event_of objects.now)) }
+    ensures fault { FailsIfWrite result (stream W.contents out.old) (stream W.contents out.new) }
     ensures calm { OnOk result (out.new.faults ≡ out.old.faults) }
 {
     for place in 0..objects.len() {
@@ -158,6 +162,7 @@ fn write_line<W: Write>(
     line: Result<Vec<u8>, AllocError>,
 ) -> Result<(), FeedFault>
     ensures written { (text : List ℕ) → IfOk line (λ t. t.items ≡ text) → Writes result (stream W.contents out.old) (stream W.contents out.new) text }
+    ensures fault { FailsIfWrite result (stream W.contents out.old) (stream W.contents out.new) }
     ensures calm { OnOk result (out.new.faults ≡ out.old.faults) }
 {
     match line {

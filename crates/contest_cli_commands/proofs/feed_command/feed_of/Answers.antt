@@ -15,7 +15,7 @@ returns-in-Err-Memory g c x =
     let known : shown → audience_of x.fixed.settings c.args.who ≡ Some c.in-Ok.audience = λ s. rw (c.fixed.ensures, s.lists_are) at c.in-Ok.ensures.ok in
     cut_in_feed shown c.args.now c.args.who (stream g.O.Write.contents c.args.out.now) (stream g.O.Write.contents c.write_feed.new.out) (stream g.E.Write.contents c.args.err.now) (stream g.E.Write.contents c.refuse-in-Err-Memory.new.err)
     (Refused Memory) c.refuse-in-Err-Memory.result x c.in-Ok.audience known
-    (λ s. rw c.in-Err-Memory.field-0-is at (c.in-Err-Memory.ensures x (record { valid = s.valid; lists = s.lists_are; cells = s.cells_are })))
+    (λ s. (c.in-Err-Memory.ensures.written x (record { valid = s.valid; lists = s.lists_are; cells = s.cells_are })))
     (inl refl) refl c.refuse-in-Err-Memory.ensures.status c.refuse-in-Err-Memory.ensures.told
 
 pub returns-in-Err-Write : goal.returns-in-Err-Write
@@ -24,10 +24,11 @@ returns-in-Err-Write g c x =
     let known : shown → audience_of x.fixed.settings c.args.who ≡ Some c.in-Ok.audience = λ s. rw (c.fixed.ensures, s.lists_are) at c.in-Ok.ensures.ok in
     let out_old = stream g.O.Write.contents c.args.out.now in
     let out_new = stream g.O.Write.contents c.write_feed.new.out in
-    let written : shown → AppendsFront out_old.bytes out_new.bytes (feed_text (feed_events c.in-Ok.audience c.args.now x)) × Fails out_old out_new =
-    λ s. rw c.in-Err-Write.field-0-is at (c.in-Err-Write.ensures x (record { valid = s.valid; lists = s.lists_are; cells = s.cells_are })) in
+    let written : shown → AppendsFront out_old.bytes out_new.bytes (feed_text (feed_events c.in-Ok.audience c.args.now x)) =
+    λ s. (c.in-Err-Write.ensures.written x (record { valid = s.valid; lists = s.lists_are; cells = s.cells_are })) in
+    let failed : Fails out_old out_new = rw c.in-Err-Write.field-0-is at c.in-Err-Write.ensures.fault in
     cut_in_feed shown c.args.now c.args.who out_old out_new (stream g.E.Write.contents c.args.err.now) (stream g.E.Write.contents c.refuse.new.err) File c.refuse.result x c.in-Ok.audience known
-    (λ s. (written s).0) (inr (refl, λ s. (written s).1)) refl c.refuse.ensures.status c.refuse.ensures.told
+    written (inr (refl, failed)) refl c.refuse.ensures.status c.refuse.ensures.told
 
 pub returns-in-Err : goal.returns-in-Err
 returns-in-Err g c x =

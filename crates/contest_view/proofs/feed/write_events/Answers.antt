@@ -20,8 +20,8 @@ last s = whole_event (codes "state") (whole_data State s.lists.now.fixed s.now)
 parts : (s : Seen) (es : List FeedEvent) → event_line 1 (first s) ++ (lines_from 2 es ++ lines_from (2 + length es) (last s ∷ [])) ≡ feed_text (first s ∷ es ++ last s ∷ [])
 parts s es = ap (λ ls. event_line 1 (first s) ++ ls) (sym (lines_of_both 2 es (last s ∷ [])))
 
-pub returns-in_err-write_line : goal.returns-in_err-write_line
-returns-in_err-write_line g c =
+pub returns-in_err-write_line-clause-written : goal.returns-in_err-write_line-clause-written
+returns-in_err-write_line-clause-written g c =
     let s = c.args.seen.now in
     let es = map event_of c.args.objects.now in
     let o = stream g.W.Write.contents c.args.out.now in
@@ -32,8 +32,8 @@ returns-in_err-write_line g c =
     passed_on c.from_residual.result fault o n (feed_text (first s ∷ es ++ last s ∷ [])) c.from_residual.ensures.1
     (writes_front fault o n line (lines_from 2 (es ++ last s ∷ [])) w)
 
-pub returns-in_err-write_objects : goal.returns-in_err-write_objects
-returns-in_err-write_objects g c =
+pub returns-in_err-write_objects-clause-written : goal.returns-in_err-write_objects-clause-written
+returns-in_err-write_objects-clause-written g c =
     let s = c.args.seen.now in
     let es = map event_of c.args.objects.now in
     let o = stream g.W.Write.contents c.args.out.now in
@@ -45,11 +45,11 @@ returns-in_err-write_objects g c =
     let w : Writes (Err fault) m n (lines_from 2 es) = c.in_err-write_objects.ensures.written in
     passed_on c.from_residual-in_err-write_objects.result fault o n (feed_text (first s ∷ es ++ last s ∷ [])) c.from_residual-in_err-write_objects.ensures.1
     (subst (Writes (Err fault) o n) (parts s es)
-    (writes_then (Err fault) o m n line (lines_from 2 es ++ rest) (c.in_ok-write_line.ensures.written line c.whole_line-contest.ensures) c.in_ok-write_line.ensures.calm
+    (writes_then (Err fault) o m n line (lines_from 2 es ++ rest) (c.in_ok-write_line.ensures.written line c.whole_line-contest.ensures)
     (writes_front fault m n (lines_from 2 es) rest w)))
 
-pub returns : goal.returns
-returns g c =
+pub returns-clause-written : goal.returns-clause-written
+returns-clause-written g c =
     let s = c.args.seen.now in
     let es = map event_of c.args.objects.now in
     let o = stream g.W.Write.contents c.args.out.now in
@@ -61,6 +61,6 @@ returns g c =
     let ending = event_line (2 + length es) (last s) in
     let w : Writes c.write_line-2.result p n ending = c.write_line-2.ensures.written ending (rw (← number) c.whole_line-state.ensures) in
     let all : Writes c.write_line-2.result o n (line ++ (lines_from 2 es ++ ending)) =
-    writes_then c.write_line-2.result o m n line (lines_from 2 es ++ ending) (c.in_ok-write_line.ensures.written line c.whole_line-contest.ensures) c.in_ok-write_line.ensures.calm
-    (writes_then c.write_line-2.result m p n (lines_from 2 es) ending c.in_ok-write_objects.ensures.written c.in_ok-write_objects.ensures.calm w) in
+    writes_then c.write_line-2.result o m n line (lines_from 2 es ++ ending) (c.in_ok-write_line.ensures.written line c.whole_line-contest.ensures)
+    (writes_then c.write_line-2.result m p n (lines_from 2 es) ending c.in_ok-write_objects.ensures.written w) in
     subst (Writes c.write_line-2.result o n) (ap (λ e. line ++ (lines_from 2 es ++ e)) (sym (append-nil ending)) ∙ parts s es) all

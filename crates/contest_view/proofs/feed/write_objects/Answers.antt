@@ -28,7 +28,7 @@ returns-in_err-write_line-clause-written g c =
     let rest = lines_from (2 + (k + 1)) (drop (k + 1) events) in
     let whole : lines_from 2 events ≡ (so_far ++ line) ++ rest = lines_in_two 2 events (k + 1) ∙ ap (λ ls. ls ++ rest) more in
     passed_on c.from_residual.result fault o n (lines_from 2 events) c.from_residual.ensures.1
-    (subst (Writes (Err fault) o n) (sym whole) (writes_front fault o n (so_far ++ line) rest (writes_then (Err fault) o m n so_far line c.loop-place.invariant.written c.loop-place.invariant.calm w)))
+    (subst (Writes (Err fault) o n) (sym whole) (writes_front fault o n (so_far ++ line) rest (writes_then (Err fault) o m n so_far line c.loop-place.invariant.written w)))
 
 pub loop-place-preserved : goal.loop-place-preserved
 loop-place-preserved g c =

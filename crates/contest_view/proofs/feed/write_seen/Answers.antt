@@ -4,5 +4,5 @@ use Rattle.contest_view.specs.Feeds.{feed_events}
 use Rattle.contest_view.proofs.FeedLemmas.{none_out}
 use Rattle.contest_view.proofs.feed.write_seen.Goals as goal
 
-pub returns-in-Err : goal.returns-in-Err
-returns-in-Err g c x shows awards = none_out (stream g.W.Write.contents c.args.out.now) (feed_text (feed_events c.args.seen.now.audience c.args.seen.now.now x))
+pub returns-in-Err-clause-written : goal.returns-in-Err-clause-written
+returns-in-Err-clause-written g c x shows awards = none_out (stream g.W.Write.contents c.args.out.now) (feed_text (feed_events c.args.seen.now.audience c.args.seen.now.now x))
