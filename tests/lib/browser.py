@@ -21,6 +21,9 @@ WORDS = [
     "--lang=en",
 ]
 PATIENCE = 20
+# Keys that write nothing, as WebDriver names them.
+KEYS = {"Enter": "\ue007", "Escape": "\ue00c", "Tab": "\ue004", "Shift": "\ue008", "ArrowDown": "\ue015", "ArrowLeft": "\ue012",
+        "ArrowRight": "\ue014", "PageUp": "\ue00e", "PageDown": "\ue00f", "Backspace": "\ue003"}  # fmt: skip
 CLICK = """const at = document.querySelector(arguments[0]);
 if (at === null || at.offsetParent === null || at.disabled) return false;
 at.click();
@@ -125,6 +128,10 @@ class Browser:
         file.write_bytes(base64.b64decode(self.call("GET", "/screenshot")))
         self.as_usual()
 
+    def sheets(self):
+        """How many sheets of paper the page takes."""
+        return len(re.findall(rb"/Type /Page\b", base64.b64decode(self.call("POST", "/print", {}))))
+
     def tell_chromium(self, command, values):
         return self.call("POST", "/goog/cdp/execute", {"cmd": command, "params": values})
 
@@ -142,6 +149,11 @@ class Browser:
         """Types a text in the place of what a field holds, once it is there."""
         self.until(lambda: self.call("POST", self.find(css) + "/clear", {}) is None, f"the field {css}")
         self.call("POST", self.find(css) + "/value", {"text": text})
+
+    def press(self, *keys):
+        """Presses keys, one after the other, wherever the focus is, as a person does."""
+        actions = [{"type": step, "value": KEYS.get(key, key)} for key in keys for step in ("keyDown", "keyUp")]
+        self.call("POST", "/actions", {"actions": [{"type": "key", "id": "keys", "actions": actions}]})
 
     def give_file(self, css, file):
         self.call("POST", self.find(css) + "/value", {"text": str(file)})
