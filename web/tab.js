@@ -1,6 +1,6 @@
 // What a tab keeps until it is closed. Each contest has a folder of its own, and so a token and posts of its own.
 
-const FOLDER = location.pathname.replace(/[^/]*$/, "");
+export const FOLDER = location.pathname.replace(/[^/]*$/, "");
 const TOKEN = "token";
 
 export const recall = (name) => sessionStorage.getItem(`${FOLDER} ${name}`);
