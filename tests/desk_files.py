@@ -298,7 +298,7 @@ def try_readme(desk):
     text = (ROOT / "README.md").read_text(encoding="utf-8")
     blocks = "".join(re.findall(r"(?ms)^```\n(\$ .*?)^```", text))
     calls = [call for call in re.findall(r"(?m)^\$ (.*)\n((?:(?!\$ ).*\n)*)", blocks) if ".ci/run" not in call[0]]
-    desk.note(len(calls) > 15, f"README.md has {len(calls)} calls")
+    desk.note(len(calls) > 7, f"README.md has {len(calls)} calls")
     folder = desk.new_folder()
     (folder / "examples").symlink_to(ROOT / "examples")
     (folder / "clock").write_text("2026-06-01 15:00:00\n", encoding="utf-8")
