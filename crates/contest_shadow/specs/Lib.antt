@@ -1,0 +1,3 @@
+pub mod Scoreboards
+pub mod Differences
+pub mod Comparisons
