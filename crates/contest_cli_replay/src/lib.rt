@@ -7,5 +7,5 @@ mod replay_text;
 mod replay_words;
 
 pub use replay_command::replay;
-pub use replay_text::contest_text;
+pub use replay_text::{contest_board, contest_text};
 pub use replay_words::ReplayWords;

@@ -2,12 +2,12 @@
 ghost use Rattle.std.specs.Prelude.{◌≡◌, ◌⊎◌, ◌<◌, ◌^◌, Ok, Err, IfOk, IfErr, All, length};
 ghost use Rattle.std.specs.Prelude.{string_bytes};
 ghost use Rattle.contest_score.specs.MaskedCells.{IsAdmitted};
-ghost use Rattle.contest_cli_replay.specs.ReplayText.{board_of, audience_for, moment_for};
-ghost use Rattle.contest_cli_replay.specs.ReplayText.{board_text_of, shown};
+ghost use Rattle.contest_cli_replay.specs.ReplayText.{asked_board, audience_for, board_at};
+ghost use Rattle.contest_cli_replay.specs.ReplayText.{board_of, moment_for, shown};
 
 use crate::replay_words::ReplayWords;
 use contest_replay::{ReplayContest, read_replay_csv};
-use contest_score::{JudgedSubmission, board, plain_cells};
+use contest_score::{Board, JudgedSubmission, board, plain_cells};
 use contest_text::board_text;
 use contest_types::{Audience, Marks, Moment, Refusal, RelTime, Settings, TimeSpan};
 use std::alloc::Global;
@@ -40,10 +40,33 @@ pub fn contest_text(
     ensures err { IfErr result (λ e. e ≡ Refusal.Memory) }
 {
     let mut contest = contest;
+    let board = contest_board(alloc, asked, &mut contest)?;
+    let settings = contest.settings();
+    let marks = contest.marks(asked.thawed);
+    let now = moment_for(settings, asked.at);
+    let audience = audience_for(asked.jury);
+    board_text(alloc, settings, &marks, now, audience, None, &board)
+}
+
+/// The board that the words ask for, at a contest time or at the end, of a contest. Its submissions
+/// after that moment are left out, its settings stay.
+///
+/// # Errors
+///
+/// Want of memory alone.
+pub fn contest_board(
+    alloc: Global,
+    asked: &ReplayWords,
+    contest: &mut ReplayContest,
+) -> Result<Board, Refusal>
+    ensures board { IfOk result (λ b. b ≡ asked_board asked.now.jury asked.now.thawed asked.now.at contest.old) }
+    ensures settings { contest.new.settings ≡ contest.old.settings }
+    ensures err { IfErr result (λ e. e ≡ Refusal.Memory) }
+{
     let marks = contest.marks(asked.thawed);
     let now = moment_for(contest.settings(), asked.at);
     contest.retain_until(now);
-    text_of(
+    board_at(
         alloc,
         contest.settings(),
         &marks,
@@ -53,23 +76,22 @@ pub fn contest_text(
     )
 }
 
-/// The text of the board of these submissions, for a caller at a moment.
-fn text_of(
+/// The board of these submissions, for a caller at a moment.
+fn board_at(
     alloc: Global,
     settings: &Settings,
     marks: &Marks,
     now: Moment,
     audience: Audience,
     submissions: &[JudgedSubmission],
-) -> Result<String, Refusal>
+) -> Result<Board, Refusal>
     requires few { length submissions.now < 2 ^ 32 }
     requires admitted { All (IsAdmitted settings.now marks.now) submissions.now }
-    ensures text { IfOk result (λ text. string_bytes text ≡ board_text_of audience settings.now marks.now now submissions.now) }
+    ensures board { IfOk result (λ b. b ≡ board_at audience settings.now marks.now now submissions.now) }
     ensures err { IfErr result (λ e. e ≡ Refusal.Memory) }
 {
     let cells = plain_cells(alloc, settings, marks, audience, now, submissions)?;
-    let board = board(alloc, settings, None, &cells)?;
-    board_text(alloc, settings, marks, now, audience, None, &board)
+    board(alloc, settings, None, &cells)
 }
 
 /// Who looks: the jury, or anyone.
