@@ -1,16 +1,17 @@
 #!/usr/bin/env -S python3 -B
 """Compares `desk audit` with the second opinion on thousands of event feeds made from a seed.
 
-    audit_boards.py [--program PATH] [--seed N] [--cases N] [--changed N] [--keep FOLDER] [--jobs N]
+    audit_boards.py [--program PATH] [--seed N] [--cases N] [--boards N] [--changed N] [--keep FOLDER] [--jobs N]
 
 First come the feeds in tests/audit, each NAME.VERSION.ndjson, whose boards are those of tests/replay that were worked out by hand:
 NAME begins their names. Then each contest of tests/replay as lib/feed_maker.py writes it in each version and in all by turns, with
-its board. Then N feeds (4,000) of made contests: every second one has a fault, and the kinds of faults come in turn. At last N times
-(3,000) a feed of tests/audit with one to three changes of its bytes, about which nobody knows anything. Status, standard output and standard error must be equal byte
+its board. Then N feeds (4,000) of made contests: every second one has a fault, and the kinds of faults come in turn. Then N boards
+(1,500) beside one of another system, which is the same, has differences or is none. At last N times (3,000) a feed of tests/audit with
+one to three changes of its bytes, about which nobody knows anything. Status, standard output and standard error must be equal byte
 for byte; if the words are refused (status 2) standard error is the program's own, and must only say something.
 
 Prints how often each answer came, and at which lines. Prints the first cases that differ, keeps their files in FOLDER (one of its own
-for each case: `file`, `words`, and what each side gave), and ends with the line `N passed, M failed`. The exit status is 0 if
+for each case: `file`, `board`, `words`, and what each side gave), and ends with the line `N passed, M failed`. The exit status is 0 if
 M is 0.
 """
 
@@ -20,10 +21,11 @@ from concurrent.futures import ThreadPoolExecutor
 
 from lib import audit_opinion, feed_spoiler, program, replay_files, replay_opinion
 from lib.beside import Beside, told
+from lib.board_maker import BoardMaker
 from lib.changed_bytes import changed_once
 from lib.feed_maker import VERSIONS, FeedMaker, joined
 from lib.program import ROOT
-from lib.replay_opinion import Refused, WrongWords, read_replay
+from lib.replay_opinion import Refused, Shown, WrongWords, read_replay
 
 ATTEMPTS = 400  # feeds that are made until one has the fault that is wanted
 TURNS = [kind for kind in feed_spoiler.MAKERS if "E6" not in kind] + ["wrong words"]
@@ -34,6 +36,14 @@ PIECES = [
     *(b'"delete"', b'"id":"t1",', b'"data":null,', b'"hidden":true,', b'"valid":false,', b'"type":"teams",', b"0:00:00", b"a" * 37),
 ]
 WORDS = [[], ["--jury"], ["--thawed"], ["--at", "0:20:00"], ["--at", "4:00:00", "--jury"]]
+
+
+class Audit(Beside):
+    """Counts what agreed, and a folder for boards of another system."""
+
+    def __init__(self, options, folder):
+        super().__init__(options, folder)
+        self.folder, self.statuses = folder, set()
 
 
 def options_of(file):
@@ -112,7 +122,7 @@ def made_case(seed, index):
     sys.exit(f"case {seed} {index}: none of {ATTEMPTS} feeds has the fault '{kind}'")
 
 
-WRONG_WORDS = [["--audience", "jury"], ["--Jury"], ["--at"], ["a"]]
+WRONG_WORDS = [["--against"], ["--against", "--jury"], ["--against", "a", "--against", "a"], ["--Against", "a"], ["--audience", "jury"], ["a"]]
 
 
 def try_made(tally):
@@ -126,6 +136,36 @@ def try_made(tally):
     with ThreadPoolExecutor(tally.options.jobs) as pool:
         for case in pool.map(one, range(tally.options.cases)):
             tally.compare(*case)
+
+
+def compared_case(seed, index):
+    """Words, a feed, and a board of another system: of the contest as it is, or in one of twenty of a feed with a fault."""
+    words, maker = made_feed(f"{seed}/beside", index)
+    jury, thawed, at = replay_opinion.read_words(["replay", *words[1:]])
+    board = BoardMaker(f"{seed}/{index}").board(maker.contest, Shown(maker.contest, jury, thawed, at))
+    if index % 20 == 7:
+        feed_spoiler.spoil_member(maker)
+    return words, joined(maker, maker.lines), board
+
+
+def try_compared(tally):
+    """Boards beside another system's."""
+    seed = tally.options.seed
+
+    def one(index):
+        words, data, board = compared_case(seed, index)
+        path = tally.folder / f"{index}.json"
+        path.write_bytes(board)
+        words = ["audit", "--against", str(path), *words[1:]]
+        given = tally.given(words, data)
+        path.unlink()
+        return (f"beside {seed} {index}", words, data, audit_opinion.audit(words, data, board), given), board
+
+    with ThreadPoolExecutor(tally.options.jobs) as pool:
+        for case, board in pool.map(one, range(tally.options.boards)):
+            tally.statuses.add(case[3][0])
+            tally.compare(*case, board=board)
+    tally.note(tally.options.boards < 100 or tally.statuses >= {0, 1, 3}, f"boards came to the statuses {tally.statuses} alone")
 
 
 def try_changed(tally):
@@ -145,6 +185,6 @@ def try_kinds(tally):
 
 
 if __name__ == "__main__":
-    PARTS = try_written, try_worked, try_made, try_changed, try_kinds
+    PARTS = try_written, try_worked, try_made, try_compared, try_changed, try_kinds
     KEEP = ROOT / "tests/out/differing"
-    sys.exit(program.main(__doc__, Beside, PARTS, program="desk", seed=1, cases=4000, changed=3000, keep=KEEP, jobs=2))
+    sys.exit(program.main(__doc__, Audit, PARTS, program="desk", seed=1, cases=4000, boards=1500, changed=3000, keep=KEEP, jobs=2))

@@ -3,9 +3,10 @@
 
     audit_tables.py [--program PATH] [--large]
 
-audit.txt has feeds with what is answered, and audit_words.tsv words that are refused.
+audit.txt has feeds with what is answered, some of them beside another system's board, and audit_words.tsv words that are refused.
 Then come lines that are no events and ones that change nothing, each member of each object with each value that it may not have,
-alone and in an array, as many objects of each kind as there may be and one more, lines of 16 MiB, and streams that fail. What a feed gives is also asked of lib/audit_opinion.py. With --large feeds of 1 GiB and of one byte more come through a
+alone and in an array, as many objects of each kind as there may be and one more, lines of 16 MiB, boards that are none, and streams
+that fail. What a feed gives is also asked of lib/audit_opinion.py. With --large feeds of 1 GiB and of one byte more come through a
 pipe, and the program takes 100 MB at most for them.
 
 Ends with the line `N passed, M failed`; the exit status is 0 if M is 0.
@@ -16,13 +17,13 @@ import subprocess
 import sys
 import threading
 
-from lib import audit_opinion, feed_spoiler, program
+from lib import audit_opinion, board_maker, feed_spoiler, program
 from lib.feed_spoiler import FORMS, MEMBERS, WHOLE, event, with_member
 from lib.program import TESTS, ran
 from lib.tally import Tally
 
 TABLES = TESTS / "tables"
-LINE_LIMIT, FEED_LIMIT = 16_777_216, 1_073_741_824
+LINE_LIMIT, FEED_LIMIT, BOARD_LIMIT = 16_777_216, 1_073_741_824, 16_777_216
 BASE = [event(kind, row) for kind, row in WHOLE.items()]
 BOARD = b"X\nPublic board, contest time 5:00:00.000, frozen\nRank  Team   Solved    Time          A\n   1  Alpha       1      10      +1/10\n"
 SHOWN, TOO_LARGE, MALFORMED = (0, BOARD, b""), (1, b"", b"refused: E6 BodyTooLarge\n"), (1, b"", b"refused: E1 Malformed\n")
@@ -110,7 +111,7 @@ def try_words(test):
             is_right = is_right and test.run(words.split(), stdin=unread) == given
             os.close(unread)
         test.note(is_right, f"{words!r}: {given}")
-    for words in (["--help"], ["-h"], ["--jury", "--help"]):
+    for words in (["--help"], ["-h"], ["--jury", "--help"], ["--against", "-h"]):
         status, out, err = test.run(["audit", *words])
         test.note(status == 0 and out != b"" and err == b"", f"{words}: {status}, {out!r}, {err!r}")
 
@@ -247,20 +248,44 @@ def try_large(test):
     test.note(given == TOO_LARGE and memory <= MEMORY, f"a line of 1 GiB: {given}, with {memory:,} kB")
 
 
-# --- Streams -------------------------------------------------------------------------------------------
+# --- Boards there, and streams -------------------------------------------------------------------------
+
+
+def try_boards(test):
+    """Boards there that are none, which is told before any fault of the feed; and as large as they may be."""
+    cell = {"problem_id": "a", "num_judged": 1, "num_pending": 0, "solved": True, "time": 10}
+    row = {"rank": 1, "team_id": "t1", "score": {"num_solved": 1, "total_time": 10}, "problems": [cell]}
+    good, same = board_text([row]), (0, b"the same: 1 teams\n", b"")
+    test.audit("the same board", same, feed(*BASE), ["--against", "board"], good)
+    for there in board_maker.BAD_BOARDS:
+        test.audit(f"a board {there!r}", MALFORMED, feed(b"{"), ["--against", "board"], there)
+    spoiled = [{**row, name: value} for name, values in board_maker.BAD_ROWS.items() for value in values if (name, value) != ("problems", None)]
+    spoiled += [{**row, "score": {**row["score"], name: value}} for name, values in board_maker.BAD_SCORES.items() for value in values]
+    spoiled += [{**row, "problems": [{**cell, name: value}]} for name, values in board_maker.BAD_CELLS.items() for value in values]
+    for one in [[one] for one in spoiled] + [[row, row], [{**row, "problems": [cell, cell]}]]:
+        test.audit(f"a board of {one}", MALFORMED, feed(*BASE), ["--against", "board"], board_text(one))
+    test.audit("a board of 16 MiB", same, feed(*BASE), ["--against", "board"], good.ljust(BOARD_LIMIT))
+    test.audit("a board of a byte more", TOO_LARGE, feed(b"{"), ["--against", "board"], good.ljust(BOARD_LIMIT + 1))
+    test.audit("a fault of the feed", rejected(8, "Malformed"), feed(*BASE, b"{"), ["--against", "board"], good)
+
+
+def board_text(rows):
+    return event("x", {"rows": rows}).removeprefix(b'{"type": "x", "data": ').removesuffix(b"}")
 
 
 def try_streams(test):
-    """Standard input and output that fail."""
+    """Standard input and output that fail, and a board there that can't be read, which is told first."""
     data = feed(*BASE)
-    unread = os.open("/", os.O_RDONLY)
-    test.same("the audit of a folder", test.run(["audit"], stdin=unread), FILE)
-    os.close(unread)
+    for words, wanted in ((["audit"], FILE), (["audit", "--against", "none"], FILE), (["audit", "--against", "."], FILE)):
+        unread = os.open("/", os.O_RDONLY)
+        test.same(f"{words} of a folder", test.run(words, stdin=unread), wanted)
+        os.close(unread)
+    test.same("a board that isn't there", test.run(["audit", "--against", "none"], feed(b"{")), FILE)
     with open("/dev/full", "wb") as full:
         status, _, err = test.run(["audit"], input=data, stdout=full)
     test.same("an output that is full", (status, err), (FILE[0], FILE[2]))
 
 
 if __name__ == "__main__":
-    PARTS = try_large, try_worked, try_words, try_lines, try_members, try_limits, try_submissions, try_sizes, try_streams
+    PARTS = try_large, try_worked, try_words, try_lines, try_members, try_limits, try_submissions, try_sizes, try_boards, try_streams
     sys.exit(program.main(__doc__, Audit, PARTS, program="desk", large=False))

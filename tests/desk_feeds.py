@@ -26,7 +26,7 @@ from lib import clock, demo, desk_opinion, feed_opinion, program
 from lib.clock import text_of
 from lib.demo import AT_REHEARSAL, START
 from lib.desk_opinion import moment
-from lib.import_opinion import digest_of
+from lib.import_opinion import compact, digest_of
 from lib.program import DONE, FAULT, FILE, ROOT, Program, compiled, limited_to, ran, ran_refused, refused, refused_in_turn
 from lib.rehearsal import END, FREEZE, contest_of, files_of, sent
 from lib.requester import Requester, closing, prolonging
@@ -109,6 +109,10 @@ def same_audited(desk, number, folder, contest, now):
     feed, board = desk.run(folder, "feed", *words)[1].encode(), desk.run(folder, "board", *words)
     status, out, err = ran([desk.path, "audit", "--jury"], input=feed)
     desk.same(f"{what}: the audit", (status, without_title(out.decode()), err), (0, without_title(board[1]), b""))
+    there = desk_opinion.scoreboard(contest, now, JURY)
+    (folder / "board.json").write_text(compact(there), encoding="utf-8")
+    given = ran([desk.path, "audit", "--jury", "--against", "board.json"], input=feed, cwd=folder)
+    desk.same(f"{what}: the audit beside the scoreboard", given, (0, f"the same: {len(there['rows'])} teams\n".encode(), b""))
 
 
 def without_title(board):

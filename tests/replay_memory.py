@@ -35,6 +35,8 @@ FEED = b"".join(event(kind, row) + b"\n" for kind, row in WHOLE.items())
 ARRAYS = b"".join(event(kind, [row, {**row, "id": "b"}]) + b"\n" for kind, row in WHOLE.items() if kind not in ("contest", "problems"))
 TEAM_LESS = FEED + b"\n" + event("teams", None) + b"\n"
 # Another system's board stands in a file of this name.
+BOARD = event("x", {"rows": [{"rank": 1, "team_id": "t1", "score": {"num_solved": 1, "total_time": "0:30:00"}, "problems": [{"problem_id": "b"}]}]})
+BOARD = BOARD.removeprefix(b'{"type": "x", "data": ').removesuffix(b"}")
 CASES = [
     ("the first example", ["replay"], EXAMPLE),
     ("an unknown team", ["replay"], UNKNOWN_TEAM),
@@ -48,12 +50,13 @@ CASES = [
     ("whole collections", ["audit"], FEED + ARRAYS),
     ("what is taken away", ["audit"], TEAM_LESS),
     ("a line that is none", ["audit"], FEED + b"{"),
+    ("a board beside another", ["audit", "--against", "board"], FEED),
 ]
 
 
 def opinion(words, data):
     """What the second opinion gives."""
-    return audit_opinion.audit(words, data) if words[0] == "audit" else replay_opinion.replay(words, data)
+    return audit_opinion.audit(words, data, BOARD) if words[0] == "audit" else replay_opinion.replay(words, data)
 
 
 class Replay(Tally):
@@ -62,6 +65,7 @@ class Replay(Tally):
     def __init__(self, options, folder):
         super().__init__()
         self.program, self.folder, self.numbers = options.program.resolve(), folder, vars(options)["try"]
+        (folder / "board").write_bytes(BOARD)
 
     def with_memory(self, title, words, data):
         """What the program answers with all its memory, which must be what the second opinion gives."""

@@ -41,6 +41,7 @@ module _ {S F N : Type 0} (g : Ghosts S) (remaining : F → Option (List ℕ)) (
       record {
         statuses = omega (arith, is);
         done = λ e. absurd (omega (arith, is, e));
+        differs = λ e. absurd (omega (arith, is, e));
         refused = λ e. (Refused Memory, refl, told, inl (inl refl, Keeps-refl out.bytes));
         faulty = λ e. absurd (omega (arith, is, e));
       }

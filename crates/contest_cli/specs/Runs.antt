@@ -41,7 +41,7 @@ module _ {S F N : Type 0} (g : Ghosts S) (remaining : F → Option (List ℕ)) (
   Runs Replay words in_old in_new out_old out_new err_old err_new status =
       Replays words in_old in_new out_old out_new err_old err_new status
   Runs Audit words in_old in_new out_old out_new err_old err_new status =
-      Audits words in_old in_new out_old out_new err_old err_new status
+      Audits remaining Reads words in_old in_new out_old out_new err_old err_new status
   Runs Init words in_old in_new out_old out_new err_old err_new status =
       RunsByWords init_app NamesInit (λ (asked : InitWords). asked.file.now) LooksNever (LacksContest remaining Reads) Shows There (Found New) FitsAny (HasContest remaining Reads) g Left (InitsOn g) words out_old out_new err_old err_new status
   Runs Import words in_old in_new out_old out_new err_old err_new status =

@@ -2,6 +2,7 @@
 ghost use Rattle.std.specs.Prelude.{◌≡◌, ◌≤◌, codes, map, string_bytes, IfErr, IfOk};
 ghost use Rattle.sqlite.specs.Files.{over_files};
 ghost use Rattle.contest_streams.specs.Streams.{stream};
+ghost use Rattle.contest_cli_audit.specs.Audit.{Audits};
 ghost use Rattle.contest_cli_words.specs.Endings.{ShowsSome, TellsWords};
 ghost use Rattle.contest_cli.specs.Commands.{AsksHelp, NamesNone, TellsNone, TellsUnknown};
 ghost use Rattle.contest_cli.specs.Commands.{first_word, invocation_of, unknown_command};
@@ -38,7 +39,7 @@ pub fn start<R: Read + Drop, O: Write + Drop, E: Write + Drop>(
     out: O,
     err: E,
 ) -> u8
-    ensures statuses { result ≤ 2 }
+    ensures statuses { result ≤ 3 }
     ensures unread { IfErr args (λ _. 1 ≤ result) }
 {
     let mut reader = Counted::new(reader);
@@ -62,7 +63,8 @@ fn run_on_host<D: Start, R: Read, O: Write, E: Write>(
     out: &mut Counted<O>,
     err: &mut Counted<E>,
 ) -> u8
-    ensures statuses { result ≤ 2 }
+    ensures statuses { result ≤ 3 }
+    ensures differs { result ≡ 3 → invocation_of (map string_bytes words.now) ≡ Invocation.To CommandName.Audit }
     ensures command { (command : CommandName) → invocation_of (map string_bytes words.now) ≡ Invocation.To command
         → Runs over_files ⟦<File as Read>⟧.remaining (⟦<Host<'static, D> as MachineClock>⟧.shows (record { rt = rt.entry; disk = disk })) (⟦<Host<'static, D> as Machine>⟧.there (record { rt = rt.entry; disk = disk })) ⟦<Host<'static, D> as Machine>⟧.found ⟦<HostNetwork<'static> as Outside>⟧.reads ⟦<Host<'static, D> as Machine>⟧.left (ServesOn over_files ⟦<HostListener<'static> as Listen>⟧.port_of ⟦<HostListener<'static> as Listen>⟧.gives ⟦<HostListener<'static> as Listen>⟧.parts ⟦<HostNetwork<'static> as Network>⟧.shows ⟦<ClientReader<'static> as Read>⟧.remaining ⟦<ClientWriter<'static> as Write>⟧.contents) command (map string_bytes words.now)
         (stream R.remaining reader.old) (stream R.remaining reader.new)
@@ -82,7 +84,8 @@ fn run_owned<M: Machine, R: Read, O: Write, E: Write>(
     out: &mut Counted<O>,
     err: &mut Counted<E>,
 ) -> u8
-    ensures statuses { result ≤ 2 }
+    ensures statuses { result ≤ 3 }
+    ensures differs { result ≡ 3 → invocation_of (map string_bytes words.now) ≡ Invocation.To CommandName.Audit }
     ensures command { (command : CommandName) → invocation_of (map string_bytes words.now) ≡ Invocation.To command
         → Runs M.Disk.Store M.Outside.File.remaining (M.shows machine) (M.there machine) M.found M.Outside.reads M.left (ServesOn M.Disk.Store M.Outside.Listener.port_of M.Outside.Listener.gives M.Outside.Listener.parts M.Outside.shows M.Outside.Listener.Reader.remaining M.Outside.Listener.Writer.contents) command (map string_bytes words.now)
         (stream R.remaining reader.old) (stream R.remaining reader.new)
@@ -98,7 +101,8 @@ fn run_owned<M: Machine, R: Read, O: Write, E: Write>(
 
 /// Runs the command that the words name; the program's own name isn't among them. Answers the exit
 /// status: 0 where it did what was asked, 1 where that was refused or a stream failed, 2 where the
-/// words have a fault or name no command. Help that is asked for goes to `out`.
+/// words have a fault or name no command, and of `audit` alone 3 where a board differs from another.
+/// Help that is asked for goes to `out`.
 pub fn run<M: Machine, R: Read, O: Write, E: Write>(
     alloc: Global,
     machine: M,
@@ -107,7 +111,8 @@ pub fn run<M: Machine, R: Read, O: Write, E: Write>(
     out: &mut Counted<O>,
     err: &mut Counted<E>,
 ) -> u8
-    ensures statuses { result ≤ 2 }
+    ensures statuses { result ≤ 3 }
+    ensures differs { result ≡ 3 → invocation_of (map (λ s. s.now) words.now) ≡ Invocation.To CommandName.Audit }
     ensures command { (command : CommandName) → invocation_of (map (λ s. s.now) words.now) ≡ Invocation.To command
         → Runs M.Disk.Store M.Outside.File.remaining (M.shows machine) (M.there machine) M.found M.Outside.reads M.left (ServesOn M.Disk.Store M.Outside.Listener.port_of M.Outside.Listener.gives M.Outside.Listener.parts M.Outside.shows M.Outside.Listener.Reader.remaining M.Outside.Listener.Writer.contents) command (map (λ s. s.now) words.now)
         (stream R.remaining reader.old) (stream R.remaining reader.new)
@@ -146,7 +151,8 @@ fn run_command<M: Machine, R: Read, O: Write, E: Write>(
     out: &mut Counted<O>,
     err: &mut Counted<E>,
 ) -> u8
-    ensures statuses { result ≤ 2 }
+    ensures statuses { result ≤ 3 }
+    ensures differs { result ≡ 3 → command ≡ CommandName.Audit }
     ensures runs { Runs M.Disk.Store M.Outside.File.remaining (M.shows machine) (M.there machine) M.found M.Outside.reads M.left (ServesOn M.Disk.Store M.Outside.Listener.port_of M.Outside.Listener.gives M.Outside.Listener.parts M.Outside.shows M.Outside.Listener.Reader.remaining M.Outside.Listener.Writer.contents) command (map (λ s. s.now) words.now)
         (stream R.remaining reader.old) (stream R.remaining reader.new)
         (stream O.contents out.old) (stream O.contents out.new)
@@ -154,7 +160,7 @@ fn run_command<M: Machine, R: Read, O: Write, E: Write>(
 {
     match command {
         CommandName::Replay => replay(alloc, words, reader, out, err),
-        CommandName::Audit => audit(alloc, words, reader, out, err),
+        CommandName::Audit => run_audit(alloc, &machine, words, reader, out, err),
         CommandName::Init => run_by_words::<M, InitWords, O, E>(alloc, machine, words, out, err),
         CommandName::Import => run_by_words::<M, ImportWords, O, E>(
             alloc, machine, words, out, err,
@@ -172,6 +178,24 @@ fn run_command<M: Machine, R: Read, O: Write, E: Write>(
             alloc, machine, words, out, err,
         ),
     }
+}
+
+// Runs `audit` on a machine.
+fn run_audit<M: Machine, R: Read, O: Write, E: Write>(
+    alloc: Global,
+    machine: &M,
+    words: &[&str],
+    reader: &mut Counted<R>,
+    out: &mut Counted<O>,
+    err: &mut Counted<E>,
+) -> u8
+    ensures { Audits M.Outside.File.remaining M.Outside.reads (map (λ s. s.now) words.now)
+        (stream R.remaining reader.old) (stream R.remaining reader.new)
+        (stream O.contents out.old) (stream O.contents out.new)
+        (stream E.contents err.old) (stream E.contents err.new) result }
+{
+    let outside = machine.outside();
+    audit(alloc, &outside, words, reader, out, err)
 }
 
 // The first word, empty where there is none.

@@ -37,6 +37,7 @@ Commands:
 Examples:
   desk replay --at 1:30:00 < contest.csv
   desk audit --jury < event-feed.ndjson
+  desk audit --jury --against scoreboard.json < event-feed.ndjson
   desk init cup.db contest.json
   desk import cup.db problems problems.json
   desk board cup.db --audience jury

@@ -1,1 +1,2 @@
 mod AuditWordLemmas
+mod OtherBoardLemmas

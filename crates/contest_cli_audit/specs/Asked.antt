@@ -1,7 +1,8 @@
 -- What the words of `audit` ask for.
-use Rattle.std.specs.Prelude.{◌∷◌, List, [], codes}
+use Rattle.std.specs.Prelude.{◌≡◌, ◌∷◌, List, [], Option, codes}
+use Rattle.std.specs.Option.{option_map}
 use Rattle.clap.specs.Simple.{App}
-use Rattle.clap.specs.Walk.{Row, Text}
+use Rattle.clap.specs.Walk.{Row, Text, first_of}
 use Rattle.contest_cli_replay.specs.Asked.{NamesReplay}
 use Rattle.contest_cli_words.specs.Arguments.{flag, option}
 use Rattle.contest_cli_words.specs.CommandTable.{HasFault, Names, command_with}
@@ -9,11 +10,17 @@ use Rattle.contest_cli_audit.specs.declared.audit_words.AuditWords.{AuditWords}
 
 -- the command
 unfoldable pub audit_app : App
-audit_app = command_with (codes "audit") (flag (codes "jury") ∷ flag (codes "thawed") ∷ option (codes "at") ∷ [])
+audit_app =
+    command_with (codes "audit") (flag (codes "jury") ∷ flag (codes "thawed") ∷ option (codes "at") ∷ option (codes "against") ∷ [])
 
--- the jury's board, the board after the thaw, and its contest time, as `replay` names them
-abbrev pub NamesAudit : List Row → AuditWords → Type 0
-NamesAudit values asked = NamesReplay values asked.board
+-- the path that is asked for, if one is
+abbrev pub path_of : AuditWords → Option Text
+path_of asked = option_map (λ s. s.now) asked.against
+
+-- the jury's board, the board after the thaw, and its contest time, as `replay` names them; and a path
+pub record NamesAudit (values : List Row) (asked : AuditWords) : Type 0 where
+  pub board : NamesReplay values asked.board
+  pub path : first_of (codes "against") values ≡ path_of asked
 
 -- the words have no fault, and ask for this
 abbrev pub Asks : List Text → AuditWords → Type 0

@@ -1,4 +1,5 @@
 pub mod Asked
 pub mod LeftOutLine
+pub mod OtherBoards
 pub mod Audit
 pub mod Shown

@@ -5,17 +5,19 @@ ghost use Rattle.contest_cli_words.specs.CommandTable.{app_in, wants_words};
 
 use clap::ArgMatches;
 use contest_cli_replay::ReplayWords;
-use contest_cli_words::{CommandError, CommandTable, CommandWords, WordKind, WordRow};
+use contest_cli_words::{CommandError, CommandTable, CommandWords, WordKind, WordRow, value_in};
 use std::alloc::Global;
 
 /// What the words of `audit` ask for.
 #[derive(Clone, Copy)]
-pub struct AuditWords {
+pub struct AuditWords<'a> {
     /// The board, as `replay` is asked for one.
     pub board: ReplayWords,
+    /// The file with the scoreboard that it is held beside; none is to print the board.
+    pub against: Option<&'a str>,
 }
 
-static ROWS: [WordRow; 3] = [
+static ROWS: [WordRow; 4] = [
     WordRow {
         name: "jury",
         kind: WordKind::Flag,
@@ -31,9 +33,15 @@ static ROWS: [WordRow; 3] = [
         kind: WordKind::Option("RELTIME"),
         help: "Shows the board at this contest time, h:mm:ss or h:mm:ss.uuu [default: the end]",
     },
+    WordRow {
+        name: "against",
+        kind: WordKind::Option("PATH"),
+        help: "Prints in place of the board how it differs from the scoreboard of the Contest API in \
+         this file; where it does, the status is 3",
+    },
 ];
 
-impl<'a> CommandWords<'a> for AuditWords {
+impl<'a> CommandWords<'a> for AuditWords<'a> {
     ghost use Rattle.std.specs.Prelude.{[]};
     ghost use Rattle.contest_cli_audit.specs.Asked.{NamesAudit, audit_app};
 
@@ -56,9 +64,12 @@ impl<'a> CommandWords<'a> for AuditWords {
         }
     }
 
-    fn named(alloc: Global, values: &ArgMatches<'a>) -> Result<AuditWords, CommandError> {
+    fn named(alloc: Global, values: &ArgMatches<'a>) -> Result<AuditWords<'a>, CommandError> {
         match ReplayWords::named(alloc, values) {
-            Ok(board) => Ok(AuditWords { board }),
+            Ok(board) => Ok(AuditWords {
+                board,
+                against: value_in(values, "against"),
+            }),
             Err(stop) => Err(stop),
         }
     }
