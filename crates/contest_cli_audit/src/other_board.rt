@@ -1,7 +1,6 @@
 //! The scoreboard of another system that a board is held beside, in a file that the words name.
-ghost use Rattle.std.specs.Prelude.{◌≡◌, ◌⊎◌, Ok, IfErr, IfOk, IfSome, option_map};
+ghost use Rattle.std.specs.Prelude.{◌≡◌, Ok, Some, IfErr, IfOk, IfSome, option_map};
 ghost use Rattle.contest_streams.specs.Streams.{stream};
-ghost use Rattle.contest_cli_words.specs.CommandErrors.{IsMemory};
 ghost use Rattle.contest_cli_audit.specs.OtherBoards.{Holds, Lacks, StopsScoreboard, scoreboard_in};
 
 use contest_cli_machine::Outside;
