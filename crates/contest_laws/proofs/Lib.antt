@@ -1,0 +1,12 @@
+pub mod SourceLemmas
+pub mod RunKeeps
+pub mod ClockSources
+pub mod VerdictLaws
+pub mod OpenRejudgings
+pub mod FinalLemmas
+pub mod FinalLaws
+pub mod Touches
+pub mod StandingLaws
+pub mod AdminLaws
+pub mod GroupLaws
+pub mod Examples

@@ -1,0 +1,5 @@
+pub mod Sources
+pub mod Verdicts
+pub mod Finals
+pub mod Standing
+pub mod GroupBoards

@@ -1,0 +1,58 @@
+//! Laws over any run of requests and imports, by any callers at any moments: functions that do
+//! nothing, and whose contracts say what holds of every contest (own).
+ghost use Rattle.contest_laws.specs.Finals.{FinalResultsStay};
+ghost use Rattle.contest_laws.specs.GroupBoards.{GroupBoardsKeepTheOrder};
+ghost use Rattle.contest_laws.specs.Standing.{ClosedRejudgingsStay, ComeThawStays, HeldReleasesMoveNoBoard, OnlyAdminsReplaceTokens};
+ghost use Rattle.contest_laws.specs.Verdicts.{OnlyRejudgingsRevise, TwoJudgesRejudge, TwoJudgesRelease};
+
+/// Final results are final. Once they were made final, submissions, releases, clarifications,
+/// rejudgings, start, end and the mark stay as they are, whatever is asked and imported
+/// afterwards; and so do the rows of the jury's boards and the awards, unless settings were added
+/// or a name was corrected.
+pub fn final_results_stay()
+    ensures { FinalResultsStay }
+{}
+
+/// A verdict that is out is changed only by a rejudging that is applied.
+pub fn only_rejudgings_revise()
+    ensures { OnlyRejudgingsRevise }
+{}
+
+/// Where verification is asked for, a first verdict is released only by a judge who verifies the
+/// type that another account or a file of verdicts proposed last.
+pub fn two_judges_release()
+    ensures { TwoJudgesRelease }
+{}
+
+/// Where verification is asked for, a member of a rejudging gets a verdict that stands only by a
+/// judge who names the verdict that another account proposed for it.
+pub fn two_judges_rejudge()
+    ensures { TwoJudgesRejudge }
+{}
+
+/// A rejudging that was applied or cancelled stays so, with its reason and its members.
+pub fn closed_rejudgings_stay()
+    ensures { ClosedRejudgingsStay }
+{}
+
+/// A thaw that has come stays as it is over every run in which no moment falls behind it.
+pub fn come_thaw_stays()
+    ensures { ComeThawStays }
+{}
+
+/// An account's token is replaced by an administrator alone.
+pub fn only_admins_replace_tokens()
+    ensures { OnlyAdminsReplaceTokens }
+{}
+
+/// Until the thaw a verdict on another team's submission, which is frozen, moves no board but the
+/// jury's and that team's own.
+pub fn held_releases_move_no_board()
+    ensures { HeldReleasesMoveNoBoard }
+{}
+
+/// The board of a group is the whole board without the teams that aren't in the group: each team
+/// keeps its place among the others.
+pub fn group_boards_keep_the_order()
+    ensures { GroupBoardsKeepTheOrder }
+{}
