@@ -1,5 +1,5 @@
 -- Worked examples: the laws say something of these contests.
-use Rattle.std.proofs.Common.{◌≡◌, ◌+◌, ◌≤◌, ◌++◌, sym, subst, inr, ℕ, List, [], ◌∷◌, true, false, Some, None, refl, inl}
+use Rattle.std.proofs.Common.{◌≡◌, ◌+◌, ◌≤◌, ◌++◌, sym, subst, inr, [], ◌∷◌, true, false, Some, None, refl, inl}
 use Rattle.std.specs.Prelude.{codes}
 use Rattle.std.specs.Fmt.{decimal}
 use Rattle.std.specs.Str.{bytes_eq}
@@ -8,7 +8,6 @@ use Rattle.contest_types.specs.Order.{Has}
 use Rattle.std.proofs.lemmas.Slice.Eq.{bytes_eq-Decides}
 use Rattle.contest_types.specs.State.{ContestState, add}
 use Rattle.contest_types.specs.Valid.{is_valid}
-use Rattle.contest_types.specs.ValidRejudgings.{is_open}
 use Rattle.contest_types.specs.declared.audience.Audience.TheVariants as audience
 use Rattle.contest_types.specs.declared.entry.Entry.TheVariants.{NewRelease}
 use Rattle.contest_types.specs.declared.import_kind.ImportKind.TheVariants as kind
@@ -17,18 +16,19 @@ use Rattle.contest_types.specs.declared.objects.Team.{Team}
 use Rattle.contest_types.specs.declared.rejudging.Rejudging.{Rejudging}
 use Rattle.contest_types.specs.declared.rejudging.RejudgingState.TheVariants.{Applied}
 use Rattle.contest_types.proofs.ExampleContest.{hours, minutes, rejudged, released, team_named, thawed_at, wrong}
-use Rattle.contest_types.proofs.ExampleTalk.{base, frozen_release}
+use Rattle.contest_types.proofs.ExampleTalk.{base, frozen_release, other_submission}
 use Rattle.contest_score.specs.BoardLaws.{teams_of}
 use Rattle.contest_score.specs.Contest.{board_for}
+use Rattle.contest_types.specs.VisibleIds.{submission_id}
+use Rattle.contest_view.specs.Reads.{submission_found}
 use Rattle.contest_view.specs.Rejudgings.{named_rejudging}
 use Rattle.contest_desk.specs.Items.{item_step}
 use Rattle.contest_desk.specs.Runs.{IsRun}
-use Rattle.contest_desk.specs.declared.item.ImportItem.{ImportItem}
 use Rattle.contest_desk.specs.declared.item.Item.{Item}
 use Rattle.contest_desk.specs.declared.item.Item.TheVariants as item
 use Rattle.contest_desk.proofs.UnseenLemmas.{frozen_where}
 use Rattle.contest_laws.specs.Standing.{moment_of}
-use Rattle.contest_laws.proofs.GroupLaws.{group_boards_keep_the_order}
+use Rattle.contest_laws.proofs.IdLaws.{submission_ids_stay}
 use Rattle.contest_laws.proofs.StandingLaws.{closed_rejudgings_stay, come_thaw_stays, held_releases_move_no_board}
 
 -- the first and the third team are in a group
@@ -90,3 +90,7 @@ still_thawed = come_thaw_stays thawed (item_step thawed late).1 (late ∷ []) ((
     not_before : (i : Item) → Has (late ∷ []) i → hours 6 ≤ moment_of i
     not_before i (inl is) = subst (λ j. hours 6 ≤ moment_of j) (sym is) (leb-true (hours 6) (hours 6) refl)
     not_before i (inr none) = absurd none
+
+-- the second team's submission is found by its id as before, by the public too
+found_still : submission_found audience.Public (hours 6) (item_step base late).1 (submission_id 1 1) ≡ submission_found audience.Public (hours 3) base (submission_id 1 1)
+found_still = submission_ids_stay audience.Public base (item_step base late).1 (late ∷ []) ((item_step base late).0 ∷ []) (hours 3) (hours 6) refl (runs_once base) other_submission (inr (inl refl))

@@ -8,12 +8,10 @@ use Rattle.std.proofs.lemmas.Bool.{false≢true}
 use Rattle.std.proofs.lemmas.Cmp.{nat_cmp_total, nat_list_cmp_total, on_total, then_total, tied_itself}
 use Rattle.std.proofs.lemmas.Bool.Decides.{nat_tests}
 use Rattle.std.proofs.lemmas.Map.Lookups.{exact_unsigned}
-use Rattle.contest_types.specs.Order.{Has, IsBefore, IsInOrder, IsStrict, by_each, by_text, in_order, place_in}
+use Rattle.contest_types.specs.Order.{Has, IsInOrder, IsStrict, by_each, by_text, place_in}
 use Rattle.contest_types.specs.Setup.{IsValid, Setup}
-use Rattle.contest_types.specs.State.{ContestState}
 use Rattle.contest_types.specs.TeamPlaces.{is_of_group, is_public, name_at, team_id_at}
-use Rattle.contest_types.specs.Valid.{is_valid}
-use Rattle.contest_types.proofs.InOrderLemmas.{filter_has, has_filter, is_less, nothing_added, place_less}
+use Rattle.contest_types.proofs.InOrderLemmas.{filter_has, has_filter, nothing_added, place_less}
 use Rattle.contest_types.proofs.OrderLemmas.{before_each}
 use Rattle.contest_types.proofs.PlaceLemmas.{and_left, and_right}
 use Rattle.contest_types.proofs.Rising.{before_all, place_tied, rising, strict}

@@ -10,3 +10,4 @@ pub mod StandingLaws
 pub mod AdminLaws
 pub mod GroupLaws
 pub mod Examples
+pub mod IdLaws

@@ -3,3 +3,4 @@ pub mod Verdicts
 pub mod Finals
 pub mod Standing
 pub mod GroupBoards
+pub mod Ids

@@ -2,6 +2,7 @@
 //! nothing, and whose contracts say what holds of every contest (own).
 ghost use Rattle.contest_laws.specs.Finals.{FinalResultsStay};
 ghost use Rattle.contest_laws.specs.GroupBoards.{GroupBoardsKeepTheOrder};
+ghost use Rattle.contest_laws.specs.Ids.{SubmissionIdsStay};
 ghost use Rattle.contest_laws.specs.Standing.{ClosedRejudgingsStay, ComeThawStays, HeldReleasesMoveNoBoard, OnlyAdminsReplaceTokens};
 ghost use Rattle.contest_laws.specs.Verdicts.{OnlyRejudgingsRevise, TwoJudgesRejudge, TwoJudgesRelease};
 
@@ -55,4 +56,10 @@ pub fn held_releases_move_no_board()
 /// keeps its place among the others.
 pub fn group_boards_keep_the_order()
     ensures { GroupBoardsKeepTheOrder }
+{}
+
+/// By the id of a submission that stands an audience is answered the same at any moment of any run
+/// after it: the same object, byte for byte, or that there is none.
+pub fn submission_ids_stay()
+    ensures { SubmissionIdsStay }
 {}
