@@ -113,7 +113,7 @@ def try_verdicts(pages):
     pages.judges("judge2", "s1-1", "AC", "verify")
     pages.sees("another verdict", "#told", "The last proposal names another verdict.")
     pages.shoot("jury-looks")
-    browser.choose("#verdict-type", "WA")
+    pages.chooses("WA")
     browser.click("#verify")
     pages.sees("the verification", "#told", "s1-1: WA is verified.")
     pages.judges("judge2", "s1-2", "AC", "propose")
@@ -313,7 +313,8 @@ def try_analyst(pages):
         browser.click(f"#tab-{tab}")
         shown = browser.run(
             "const all = [...document.querySelectorAll('#inside section :is(button, input, select, textarea)')];"
-            "return all.filter((one) => one.checkVisibility() && !('look' in one.dataset)).map((one) => one.outerHTML)"
+            "const looks = (one) => 'look' in one.dataset || one.closest('#filter') !== null;"
+            "return all.filter((one) => one.checkVisibility() && !looks(one)).map((one) => one.outerHTML)"
         )
         pages.same(f"what an analyst may do by the tab {tab}", shown, [])
     browser.look_at("judge1")

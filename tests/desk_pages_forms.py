@@ -35,6 +35,10 @@ class Forms(Pages):
         """What a field holds."""
         return self.browser.run("return document.querySelector(arguments[0]).value", css)
 
+    def verdict(self):
+        """The verdict that is chosen."""
+        return self.browser.run("return document.querySelector('#verdict-types :checked')?.value ?? null")
+
     def written(self):
         """What the jury wrote: to which team, to which group, the text."""
         all_of_them = self.listed(f"{AT}/clarifications")
@@ -134,23 +138,23 @@ def try_verdict_choices(pages):
     """Whoever proposes or verifies a verdict chooses it."""
     browser = pages.browser
     pages.looks_at("judge", "s2-1")
-    pages.same("at first", pages.held("#verdict-type"), "")
-    browser.choose("#verdict-type", "WA")
+    pages.same("at first", pages.verdict(), None)
+    pages.chooses("WA")
     pages.looks_at("judge", "s2-2")
-    pages.same("at another submission", pages.held("#verdict-type"), "")
+    pages.same("at another submission", pages.verdict(), None)
     browser.click("#propose")
     pages.stay("nothing is chosen", lambda: pages.listed("jury/proposals"), [])
     pages.judges("judge", "s2-1", "WA", "propose")
     pages.sees("a proposal", "#told", "s2-1: WA is proposed.")
     pages.looks_at("judge", "s2-2")
-    pages.same("after a proposal", pages.held("#verdict-type"), "")
+    pages.same("after a proposal", pages.verdict(), None)
     pages.sign_in("second", "jury", "token-j2")
     pages.sees("the proposal", '[data-id="s2-1"]', "WA by j1")
     pages.looks_at("second", "s2-1")
-    pages.same("of the judge who verifies", pages.held("#verdict-type"), "")
+    pages.same("of the judge who verifies", pages.verdict(), None)
     browser.click("#verify")
     pages.stay("nothing is verified", lambda: pages.listed(f"{AT}/judgements"), [])
-    browser.choose("#verdict-type", "WA")
+    pages.chooses("WA")
     browser.click("#verify")
     pages.sees("it is verified", "#told", "s2-1: WA is verified.")
 

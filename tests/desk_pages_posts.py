@@ -146,7 +146,7 @@ def try_jury(pages):
     hold_kept(pages, "an answer", both, answers, is_answered, "Sent as g-1.")
 
     def proposes():
-        browser.choose("#verdict-type", "WA")
+        pages.chooses("WA")
         browser.click("#propose")
 
     pages.looks_at("judge", "s1-1")

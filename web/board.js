@@ -3,6 +3,7 @@
 import { at, element, fill, freeText } from "./elements.js";
 import { nameIn } from "./settings.js";
 import { cell, columnHead, row, rowHead, tableParts } from "./tables.js";
+import { nameTitle } from "./title.js";
 
 const RELTIME = /^(-?)(\d+):(\d\d):(\d\d)/;
 
@@ -118,7 +119,7 @@ function tick() {
 export function showState(contest, board) {
   const [kind, words] = stateWords(board.state, contest);
   fill(at("name"), [freeText(contest.name)]);
-  document.title = contest.name;
+  nameTitle(contest.name);
   at("banner").textContent = words;
   at("banner").className = kind;
   at("banner").hidden = words === "";

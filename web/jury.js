@@ -3,19 +3,24 @@
 
 import { ACCOUNT, beginAdding, NAME, showAddingChoices, TEAM, TOKEN } from "./adding.js";
 import { ANSWER, beginAnswers, showAnswerChoices, showClarifications } from "./answers.js";
+import { ASKED } from "./asked.js";
+import { asking } from "./asking.js";
 import { awardItem, showBoard, showState } from "./board.js";
 import { beginClock, CLOCK, EXTENSION, showMoments } from "./clock.js";
 import { ask, Refusal } from "./desk.js";
 import { at, button, fill } from "./elements.js";
-import { beginJudging, showJudged, showVerdictChoices, showWaiting, VERDICT } from "./judging.js";
+import { showJudged } from "./judged.js";
+import { beginJudging, renewJudging, showVerdictChoices, VERDICT } from "./judging.js";
 import { sendKept } from "./posts.js";
 import { beginRejudgings, REJUDGING, showRejudgings } from "./rejudgings.js";
-import { contestPath, renewing } from "./renewing.js";
+import { contestPath } from "./renewing.js";
 import { hasTeamsOf, readSettings } from "./settings.js";
 import { signIn } from "./sign_in.js";
+import { takeLists, takeProposals } from "./waiting.js";
 
-const SECONDS = 3;
-const jury = { path: await contestPath(), settings: null, isBehind: false, renew: null };
+// Who is signed in, the settings, whether they are to be read again, and what asks the desk anew: for what is quick, and
+// for all.
+const jury = { path: await contestPath(), account: null, settings: null, isBehind: false, renew: null, renewAll: null };
 
 function showTabs() {
   const sections = [...document.querySelectorAll("section[data-tab]")];
@@ -36,21 +41,24 @@ async function showSettings() {
   showAddingChoices(jury);
 }
 
-async function renew() {
-  const names = ["", "/state", "/scoreboard", "/submissions", "/judgements", "/clarifications", "/awards"];
-  const paths = [...names.map((name) => jury.path + name), "jury/proposals", "jury/rejudgings"];
-  const replies = await Promise.all(paths.map((name) => ask(name)));
-  const [contest, state, board, submissions, judgements, clarifications, awards, proposals, rejudgings] = replies;
+// Shows what is known, and the long lists if they have just come.
+async function show(known, came) {
+  const names = ["", "/state", "/scoreboard", "/clarifications", "/awards", "jury/proposals", "jury/rejudgings"];
+  const [contest, state, board, clarifications, awards, proposals, rejudgings] = names.map((name) => known.get(name));
   if (jury.isBehind || !hasTeamsOf(jury.settings, board)) await showSettings();
   showState(contest, board);
   showBoard(at("board"), jury.settings, { board, awards });
   fill(at("award-list"), awards.map((award) => awardItem(award, jury.settings.teams)));
-  const waiting = showWaiting(jury, submissions, judgements, proposals);
-  showJudged(jury, submissions, judgements);
+  if (came.has("/submissions")) {
+    const [submissions, judgements] = ["/submissions", "/judgements"].map((name) => known.get(name));
+    takeLists(submissions, judgements);
+    showJudged(jury, submissions, judgements);
+  }
+  takeProposals(jury, proposals);
+  await renewJudging(jury);
   const unanswered = showClarifications(jury, clarifications);
   showRejudgings(jury, rejudgings);
   showMoments(contest, state);
-  at("tab-Judging").textContent = `Judging (${waiting})`;
   at("tab-Questions").textContent = `Questions (${unanswered})`;
 }
 
@@ -61,15 +69,16 @@ async function begin() {
   beginRejudgings(jury);
   beginClock(jury);
   beginAdding(jury);
-  jury.renew = renewing(renew, SECONDS);
-  await sendKept([ANSWER, VERDICT, REJUDGING, CLOCK, EXTENSION, TEAM, ACCOUNT, TOKEN, NAME]);
-  await jury.renew();
+  const { all, quick } = asking(jury.path, ASKED.jury, show);
+  [jury.renewAll, jury.renew] = [all, quick];
+  if (await sendKept([ANSWER, VERDICT, REJUDGING, CLOCK, EXTENSION, TEAM, ACCOUNT, TOKEN, NAME])) await all();
 }
 
 // This page is for the accounts of the jury. What an analyst may not do isn't shown (desk.css).
 async function check() {
   const account = await ask(`${jury.path}/account`);
   if (account.type === "team") throw new Refusal(403, "RoleForbids");
+  jury.account = account;
   at("who").textContent = `${account.username} (${account.type})`;
   document.body.dataset.account = account.type;
 }

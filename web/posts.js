@@ -49,6 +49,7 @@ async function send(kind, name, post, who) {
   } catch (refusal) {
     if (!(refusal instanceof Refusal)) throw refusal;
     tell(refusal.message, true);
+    kind.refused?.(refusal, post);
     return null;
   } finally {
     forget(name);
@@ -67,7 +68,8 @@ function sendInTurn(kind, ...post) {
 }
 
 // Posts a value of a kind, which says a name, the buttons that are off meanwhile (a selector) and what is told of the
-// reply. The post goes out in the name of who is signed in now, whatever happens to the tab meanwhile.
+// reply; it may say what else is done once a post is refused. The post goes out in the name of who is signed in now,
+// whatever happens to the tab meanwhile.
 export function post(kind, path, value, method = "POST") {
   const who = token();
   const made = { kind: kind.name, method, path, value, key: newKey(), time: Date.now() };
@@ -76,9 +78,11 @@ export function post(kind, path, value, method = "POST") {
   return sendInTurn(kind, name, made, who);
 }
 
-// Sends what whoever is signed in posted before, of these kinds, and has no answer to yet.
+// Sends what whoever is signed in posted before, of these kinds, and has no answer to yet. Whether there was anything.
 export async function sendKept(kinds) {
   const who = token();
-  const known = keptFor(who).map(([name, made]) => [kinds.find((kind) => kind.name === made.kind), name, made]);
-  await Promise.all(known.filter(([kind]) => kind).map((one) => sendInTurn(...one, who)));
+  const named = keptFor(who).map(([name, made]) => [kinds.find((kind) => kind.name === made.kind), name, made]);
+  const known = named.filter(([kind]) => kind);
+  await Promise.all(known.map((one) => sendInTurn(...one, who)));
+  return known.length > 0;
 }

@@ -17,7 +17,7 @@ function wordsOf(rejudging, { path, value }) {
     : `${which} is ${rejudging.state}.`;
 }
 
-const doNow = (jury, path, value) => post(REJUDGING, path, value).then(jury.renew);
+const doNow = (jury, path, value) => post(REJUDGING, path, value).then(jury.renewAll);
 
 // A member, and a choice of its verdict while the rejudging is open.
 function memberItem(jury, rejudging, member) {

@@ -4,7 +4,7 @@ import { askAsPublic, pause, persistently, Refusal } from "./desk.js";
 import { at } from "./elements.js";
 
 // Tells why nothing comes, or that all is well.
-function showAway(refusal) {
+export function showAway(refusal) {
   at("away").hidden = refusal === null;
   at("away").textContent = refusal?.message ?? "";
 }

@@ -95,17 +95,26 @@ class Pages(Program):
         self.browser.give_file("#file", file or self.program_file)
         self.browser.click("#submit-button")
 
+    def is_there(self, css):
+        return self.browser.run("return document.querySelector(arguments[0]) !== null", css)
+
     def looks_at(self, who, submission):
-        """A judge looks at a submission that waits."""
+        """A judge looks at a submission that waits. A page that is loaded anew needn't wait for the next list."""
         self.browser.look_at(who)
+        if not self.is_there(f'[data-look="{submission}"]'):
+            self.browser.reload()
         self.browser.click("#tab-Judging")
         self.browser.click(f'[data-look="{submission}"]')
+        self.sees("the submission", "#verdict-title", f"{submission}, ")
         self.sees("the program", "#program", "int main() { /* é <b>bold</b> */ }")
+
+    def chooses(self, verdict):
+        self.browser.click(f'[data-verdict="{verdict}"]')
 
     def judges(self, who, submission, verdict, step):
         """A judge's verdict on the page."""
         self.looks_at(who, submission)
-        self.browser.choose("#verdict-type", verdict)
+        self.chooses(verdict)
         self.browser.click(f"#{step}")
 
     def asks_desk(self, token, method, path, body=None):
