@@ -118,7 +118,7 @@ def try_verdicts(pages):
     pages.sees("the verification", "#told", "s1-1: WA is verified.")
     pages.judges("judge2", "s1-2", "AC", "propose")
     pages.judges("judge1", "s1-2", "AC", "verify")
-    browser.look_at("team")
+    pages.looks_anew("team")
     pages.sees("the verdict", '[data-id="s1-1"]', "WA: wrong answer")
     pages.sees("the verdict", '[data-id="s1-2"]', "AC: correct")
     browser.look_at("public")
@@ -242,7 +242,7 @@ def try_rejudging(pages):
     browser.click('[data-step="apply"]')
     pages.is_sure("apply", "Apply rejudging 1?")
     pages.sees("applied", '#rejudgings [data-id="1"]', "Rejudging 1, applied: 0 was refused")
-    browser.look_at("team")
+    pages.looks_anew("team")
     pages.sees("the new verdict", '[data-id="s1-1"]', "AC: correct")
 
 
@@ -256,7 +256,7 @@ def try_freeze(pages):
     pages.judges("judge1", "s2-1", "AC", "propose")
     pages.judges("judge2", "s2-1", "AC", "verify")
     pages.sees("the verification", "#told", "s2-1: AC is verified.")
-    browser.look_at("other")
+    pages.looks_anew("other")
     pages.sees("its own verdict", '[data-id="s2-1"]', "AC: correct")
     browser.look_at("public")
     pages.sees("the banner", "#banner", "The board is frozen")
@@ -363,7 +363,7 @@ def try_markup(pages):
         pages.note("token-" not in source, f"the page of {who} shows a token")
     browser.look_at("judge1")
     pages.sign_out()
-    pages.same("what the tab keeps", pages.kept(), [])
+    pages.keeps_nothing("what the tab keeps")
     names = [team["name"] for team in pages.listed("contests/demo/teams", None)]
     pages.same("the names at the desk", names[:3], [MARKUP, RIGHT, TURNED])
 

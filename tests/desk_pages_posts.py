@@ -89,7 +89,7 @@ def try_submission(pages):
     pages.sees("the team is there again", "#told", "The desk has your submission s1-1.")
     pages.same("what the team has then", pages.submissions("token-a1"), [("s1-1", "a", program_bytes)])
     pages.sign_out()
-    pages.same("what the tab keeps in the end", pages.kept(), [])
+    pages.keeps_nothing("what the tab keeps in the end")
 
 
 def try_digest(pages):
@@ -163,7 +163,7 @@ def try_jury(pages):
         pages, "a rejudging", both, opens, lambda: pages.listed("jury/rejudgings") != [], "Rejudging 1 is open."
     )
     pages.sign_out()
-    pages.same("what the tab keeps in the end", pages.kept(), [])
+    pages.keeps_nothing("what the tab keeps in the end")
 
 
 def try_too_many(pages):
@@ -252,6 +252,7 @@ def try_board(pages):
     pages.sees("a submission then", "#told", "The desk has your submission s1-2.")
     for token, step in (("token-j1", "proposals"), ("token-j2", "verifications")):
         pages.posts(token, f"jury/{step}", submission_id="s1-2", judgement_type_id="AC")
+    pages.looks_anew("looking")
     pages.sees("its verdict in the freeze", '[data-id="s1-2"]', "AC: correct")
     pages.page("looking", "scoreboard")
     pages.sees("the board in the freeze", "#board .pending", "?1")

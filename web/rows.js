@@ -7,16 +7,16 @@ import { cell } from "./tables.js";
 // A time without its milliseconds.
 const shortTime = (time) => time.replace(/\.\d+$/, "");
 
-// A verdict's class and its words; none is a submission that waits.
-function verdictText(settings, typeId) {
-  if (typeId === undefined || typeId === null) return ["pending", "waits"];
+export function verdictWords(settings, typeId) {
   const type = settings.types.get(typeId);
-  return [type?.solved ? "solved" : "tried", type ? `${type.id}: ${type.name}` : typeId];
+  return type ? `${type.id}: ${type.name}` : typeId;
 }
 
+// A verdict; none is a submission that waits.
 export function verdictCell(settings, typeId) {
-  const [kind, text] = verdictText(settings, typeId);
-  return cell({ class: kind }, freeText(text));
+  if (typeId === undefined || typeId === null) return cell({ class: "pending" }, freeText("waits"));
+  const kind = settings.types.get(typeId)?.solved ? "solved" : "tried";
+  return cell({ class: kind }, freeText(verdictWords(settings, typeId)));
 }
 
 // A submission's cells, with its team if the table has that.

@@ -2,6 +2,7 @@
 
 export const FOLDER = location.pathname.replace(/[^/]*$/, "");
 const TOKEN = "token";
+const READ = "read";
 
 export const recall = (name) => sessionStorage.getItem(`${FOLDER} ${name}`);
 export const keep = (name, text) => sessionStorage.setItem(`${FOLDER} ${name}`, text);
@@ -13,7 +14,26 @@ export function namesKept(start) {
   return names.map((name) => name.slice(FOLDER.length + 1));
 }
 
-// The token of who is signed in, or null.
+// The token of who is signed in, or null. With it goes what its account has read.
 export const token = () => recall(TOKEN);
 export const keepToken = (text) => keep(TOKEN, text);
-export const forgetToken = () => forget(TOKEN);
+export function forgetToken() {
+  forget(TOKEN);
+  forget(READ);
+}
+
+// What an account has read in this tab, by names; null if nothing is known of that.
+export function readIn(account) {
+  const kept = JSON.parse(recall(READ) ?? "{}");
+  return kept.account === account ? kept.names : null;
+}
+
+// Nobody's is kept once somebody has signed out, and a tab that is full keeps it no longer than its page is there.
+export function keepRead(account, names) {
+  if (token() === null) return;
+  try {
+    keep(READ, JSON.stringify({ account, names }));
+  } catch (fault) {
+    if (fault.name !== "QuotaExceededError") throw fault;
+  }
+}

@@ -1,18 +1,20 @@
 // A team's page: it submits, reads its verdicts and asks the jury.
 
+import { ASKED } from "./asked.js";
+import { asking } from "./asking.js";
 import { showBoard, showState } from "./board.js";
 import { ask, Refusal } from "./desk.js";
 import { at, fill, freeText } from "./elements.js";
 import { choice, choicesOfNone, isWithin, onSubmit } from "./forms.js";
+import { beginNews, newMarks, takeNews } from "./news.js";
 import { post, sendKept } from "./posts.js";
-import { contestPath, renewing } from "./renewing.js";
-import { clarificationItem, submissionCells, verdictCell } from "./rows.js";
-import { ABOUT_ALL, hasTeamsOf, nameIn, problemText, readSettings } from "./settings.js";
+import { contestPath } from "./renewing.js";
+import { clarificationItem, submissionCells, verdictCell, verdictWords } from "./rows.js";
+import { ABOUT_ALL, hasTeamsOf, problemText, readSettings } from "./settings.js";
 import { signIn } from "./sign_in.js";
 import { listParts, row } from "./tables.js";
 import { isSure, tell } from "./telling.js";
 
-const SECONDS = 5;
 const FILE_LIMIT = 1_048_576, TEXT_LIMIT = 4_096, NAME_LIMIT = 200;
 const UNREADABLE = "This file can't be read: it has changed since you chose it, or it is gone. Nothing was sent. " +
   "Choose the file again.";
@@ -25,9 +27,11 @@ const SUBMISSION = {
 const QUESTION = { name: "question", buttons: "#question-button", words: () => "The jury has your question." };
 
 const path = await contestPath();
-let team = null;
+// Who is signed in, the contest's settings, what was shown last, and what asks the desk anew.
+let account = null;
 let settings = null;
-let renewNow = null;
+let shown = { clarifications: [], submissions: [], verdicts: new Map() };
+let renew = null;
 
 // The bytes of the file that was chosen, in base64; or null if it isn't to be sent, which is told.
 async function chosenFile() {
@@ -57,7 +61,7 @@ async function submit() {
   // Nothing of a submission goes over to the next one.
   if (submission !== null) at("submit").reset();
   showEntry();
-  renewNow();
+  renew.all();
 }
 
 async function askJury() {
@@ -66,30 +70,63 @@ async function askJury() {
   if (!isWithin(value.text, TEXT_LIMIT)) return;
   const question = await post(QUESTION, `${path}/clarifications`, value);
   if (question !== null && at("question-text").value === value.text) at("question-text").value = "";
-  renewNow();
+  renew.quick();
 }
 
-function showSubmissions(submissions, judgements) {
-  const verdicts = new Map(judgements.map((judgement) => [judgement.submission_id, judgement.judgement_type_id]));
-  const rows = submissions.map((one) => {
-    const verdict = verdictCell(settings, verdicts.get(one.id));
-    return row({ "data-id": one.id }, ...submissionCells(settings, one, false), verdict);
+function showSubmissions() {
+  const rows = shown.submissions.map((one) => {
+    const verdict = shown.verdicts.get(one.id);
+    const marks = verdict === undefined ? [] : newMarks(account.id, verdict);
+    const cell = verdictCell(settings, verdict?.judgement_type_id);
+    cell.append(...(marks.length ? [" ", ...marks] : []));
+    const about = marks.length ? { class: "new" } : {};
+    return row({ "data-id": one.id, ...about }, ...submissionCells(settings, one, false), cell);
   });
   fill(at("submissions"), listParts(["Id", "Time", "Problem", "Language", "Verdict"], rows.reverse()));
 }
 
-async function renew() {
-  const names = ["", "/scoreboard", "/submissions", "/judgements", "/clarifications", "/awards"];
-  const replies = await Promise.all(names.map((name) => ask(path + name)));
-  const [contest, board, submissions, judgements, clarifications, awards] = replies;
+function showClarifications() {
+  const { clarifications } = shown;
+  const items = clarifications.map((one) => {
+    const marks = newMarks(account.id, one);
+    const item = clarificationItem(settings, one, clarifications, ...marks);
+    item.classList.toggle("new", marks.length > 0);
+    return item;
+  });
+  fill(at("clarifications"), items.reverse());
+}
+
+// What the jury wrote and each verdict, with what is told of it.
+function takeAllNews() {
+  const words = shown.clarifications.filter((one) => one.from_team_id === null);
+  const verdicts = [...shown.verdicts.values()];
+  const told = ({ submission_id: id, judgement_type_id: type }) => `${id}: ${verdictWords(settings, type)}`;
+  takeNews(
+    account.id, words.map((one) => ({ one, text: `The jury: ${one.text}` })), verdicts.map((one) => ({ one, text: told(one) })),
+  );
+}
+
+function showOwn() {
+  showSubmissions();
+  showClarifications();
+}
+
+async function show(known, came) {
+  const names = ["", "/scoreboard", "/clarifications", "/submissions", "/judgements", "/awards"];
+  const [contest, board, clarifications, submissions, judgements, awards] = names.map((name) => known.get(name));
   showState(contest, board);
   if (!hasTeamsOf(settings, board)) await showSettings();
-  // The desk shows the files of a team's own submissions alone.
-  const own = submissions.filter((one) => "files" in one);
-  fill(at("who"), [freeText(nameIn(settings.teams, team))]);
-  showSubmissions(own, judgements);
-  fill(at("clarifications"), clarifications.map((one) => clarificationItem(settings, one, clarifications)).reverse());
-  showBoard(at("board"), settings, { board, awards, team });
+  showBoard(at("board"), settings, { board, awards, team: account.team_id });
+  shown.clarifications = clarifications;
+  if (came.has("/submissions")) {
+    // The desk shows the files of a team's own submissions alone.
+    shown.submissions = submissions.filter((one) => "files" in one);
+    const own = new Set(shown.submissions.map((one) => one.id));
+    const verdicts = judgements.filter((one) => own.has(one.submission_id));
+    shown.verdicts = new Map(verdicts.map((one) => [one.submission_id, one]));
+  }
+  takeAllNews();
+  showOwn();
 }
 
 async function showSettings() {
@@ -106,19 +143,20 @@ function showEntry() {
 }
 
 async function begin() {
-  renewNow = renewing(renew, SECONDS);
+  beginNews(showOwn);
+  renew = asking(path, ASKED.team, show);
   onSubmit("submit", submit);
   onSubmit("question", askJury);
   at("language").addEventListener("change", showEntry);
-  await sendKept([SUBMISSION, QUESTION]);
-  await renewNow();
+  if (await sendKept([SUBMISSION, QUESTION])) await renew.all();
 }
 
-// This page is for the accounts of teams.
+// This page is for the accounts of teams. It says from the first moment whose it is.
 async function check() {
-  const account = await ask(`${path}/account`);
+  account = await ask(`${path}/account`);
   if (account.type !== "team") throw new Refusal(403, "NoTeam");
-  team = account.team_id;
+  const { name } = await ask(`${path}/teams/${account.team_id}`);
+  fill(at("who"), [freeText(name)]);
 }
 
 signIn(check, begin);

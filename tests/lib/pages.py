@@ -75,8 +75,11 @@ class Pages(Program):
         self.note(is_out, "signed out")
 
     def kept(self):
-        """What the tab keeps, each as a name and its value."""
-        return self.browser.run(KEPT)
+        """What the tab keeps, each as a name and its value, but for what its team has read."""
+        return [one for one in self.browser.run(KEPT) if not one.startswith("/demo/ read ")]
+
+    def keeps_nothing(self, what):
+        self.same(what, self.browser.run(KEPT), [])
 
     def is_signed_in(self, what):
         is_in = self.browser.comes(lambda: self.browser.run("return !document.getElementById('inside').hidden"))
@@ -95,14 +98,19 @@ class Pages(Program):
         self.browser.give_file("#file", file or self.program_file)
         self.browser.click("#submit-button")
 
+    def looks_anew(self, who):
+        """Somebody loads a page anew, which then needn't wait for the next list."""
+        self.browser.look_at(who)
+        self.browser.reload()
+
     def is_there(self, css):
         return self.browser.run("return document.querySelector(arguments[0]) !== null", css)
 
     def looks_at(self, who, submission):
-        """A judge looks at a submission that waits. A page that is loaded anew needn't wait for the next list."""
+        """A judge looks at a submission that waits."""
         self.browser.look_at(who)
         if not self.is_there(f'[data-look="{submission}"]'):
-            self.browser.reload()
+            self.looks_anew(who)
         self.browser.click("#tab-Judging")
         self.browser.click(f'[data-look="{submission}"]')
         self.sees("the submission", "#verdict-title", f"{submission}, ")
