@@ -18,18 +18,22 @@ const ONCE = "It is shown this once.";
 
 export const TEAM = {
   name: "team", buttons: "#team-button", words: (team) => `${team.name} takes part, as ${team.id}.`,
+  about: ({ value: { id } }) => `The team ${id}`,
 };
 // The desk keeps no token, so it is told here and never again.
 export const ACCOUNT = {
   name: "account", buttons: "#account-button",
   words: (account, { value }) => `The token of ${account.id} is ${value.token} . ${ONCE}`,
+  about: ({ value: { id } }) => `The account ${id}`,
 };
 export const TOKEN = {
   name: "token", buttons: "#replace-button",
   words: (account, { value }) => `The new token of ${account.id} is ${value.token} .${forWhom(account)} ${ONCE}`,
+  about: ({ value: { account_id: id } }) => `The token of ${id}`,
 };
 export const NAME = {
   name: "name", buttons: "#correct-button", words: (team) => `${team.id} is called ${team.name}.`,
+  about: ({ value: { team_id: id } }) => `The name of ${id}`,
 };
 
 // The teams, as the settings were read last.

@@ -9,6 +9,7 @@ import { isSure } from "./telling.js";
 
 export const ANSWER = {
   name: "answer", buttons: "#answer-button", words: (clarification) => `Sent as ${clarification.id}.`,
+  about: ({ value: { reply_to_id: asked } }) => (asked === undefined ? "Your text" : `Your answer to ${asked}`),
 };
 const TEXT_LIMIT = 4_096;
 const ALL = "all", TEAM = "team ", GROUP = "group ";

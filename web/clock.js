@@ -10,9 +10,11 @@ import { doing, isSure } from "./telling.js";
 export const CLOCK = {
   name: "clock", buttons: "#times button",
   words: (_, { method }) => (method === "PATCH" ? "The clock is set." : "The results are final."),
+  about: ({ method }) => (method === "PATCH" ? "The clock" : "Final results"),
 };
 export const EXTENSION = {
   name: "extension", buttons: "#times button", words: (contest) => `The contest ${endText(contest, contest.duration)}.`,
+  about: ({ value: { duration } }) => `A duration of ${duration}`,
 };
 const MOMENTS = [
   ["started", "Started"], ["frozen", "Frozen"], ["ended", "Ended"], ["finalized", "Final results"],

@@ -1,47 +1,15 @@
 // Asks the desk. The pages hold no rule of a contest: what is allowed, and who sees what, is the desk's to say.
 
+import { isAway, wordsOf } from "./refusals.js";
 import { token } from "./tab.js";
 
 const PATIENCE = 20_000;
 const AGAIN = 2_000;
-const AWAY = "The desk doesn't answer at the moment. This page goes on asking.";
-const BUSY = "The desk gets too many requests from here. This page tries again by itself.";
-const TOO_MANY = 429;
-
-// What the desk refuses, for people.
-const REFUSALS = {
-  AddressForbids: "This isn't taken from the network that you are in.",
-  AlreadyReleased: "This submission has its verdict already. A rejudging changes it.",
-  BodyTooLarge: "The file is too large: at most 1,048,576 bytes.",
-  ClockRefused: "The desk doesn't set the clock so, at this moment.",
-  EntryPointMissing: "This language needs an entry point, such as the name of the main class.",
-  InRejudging: "One of these submissions is in another open rejudging.",
-  KeyReused: "Something else was sent under this key, or stands under this id.",
-  Malformed: "The desk can't read this.",
-  NoTeam: "This account is the jury's. Its page is jury.html.",
-  NothingToVerify: "Nothing was proposed for this submission.",
-  NotFound: "There is no such thing, or it isn't shown to you.",
-  NotOpen: "The contest doesn't take this at this moment.",
-  RejudgingClosed: "This rejudging is applied or cancelled.",
-  RejudgingIncomplete: "A verdict is missing, or waits for a second judge.",
-  RoleForbids: "Your account may not do this.",
-  SameJudge: "You proposed this verdict yourself: another judge has to verify it.",
-  TeamLimit: "The limit is reached: the desk takes no more of these.",
-  TypeDiffers: "The last proposal names another verdict.",
-  UnknownReference: "One of the ids that were given isn't known.",
-  UnknownToken: "No account has this token.",
-};
-
-function wordsOf(status, name) {
-  if (status === TOO_MANY) return BUSY;
-  return status >= 500 ? AWAY : (REFUSALS[name] ?? `The desk answered ${status} ${name}`.trim() + ".");
-}
-
 // What was asked isn't done. `isAway` is true if the desk hasn't said so: the same has to be asked again.
 export class Refusal extends Error {
   constructor(status, name) {
     super(wordsOf(status, name));
-    this.isAway = status >= 500 || status === TOO_MANY;
+    this.isAway = isAway(status);
   }
 }
 

@@ -17,6 +17,7 @@ export const VERDICT = {
   name: "verdict", buttons: "#propose, #verify",
   words: (reply, { path, value: { submission_id: id, judgement_type_id: type } }) =>
     `${id}: ${type} is ${path.endsWith("proposals") ? "proposed" : "verified"}.`,
+  about: ({ value: { submission_id: id } }) => id,
   refused: ({ message }, { value: { submission_id: id } }) => tellBeside(id, message),
 };
 const NONE = "Nothing waits for you. The next submission opens by itself.";

@@ -48,7 +48,7 @@ async function send(kind, name, post, who) {
     return reply;
   } catch (refusal) {
     if (!(refusal instanceof Refusal)) throw refusal;
-    tell(refusal.message, true);
+    tell(kind.about === undefined ? refusal.message : `${kind.about(post)}: ${refusal.message}`, true);
     kind.refused?.(refusal, post);
     return null;
   } finally {
@@ -68,7 +68,7 @@ function sendInTurn(kind, ...post) {
 }
 
 // Posts a value of a kind, which says a name, the buttons that are off meanwhile (a selector) and what is told of the
-// reply; it may say what else is done once a post is refused. The post goes out in the name of who is signed in now,
+// reply. It may say what is told to be refused, and what else is done then. The post goes out in the name of who is signed in now,
 // whatever happens to the tab meanwhile.
 export function post(kind, path, value, method = "POST") {
   const who = token();

@@ -5,7 +5,10 @@ import { isWithin, onSubmit } from "./forms.js";
 import { post } from "./posts.js";
 import { isSure } from "./telling.js";
 
-export const REJUDGING = { name: "rejudging", buttons: "#rejudging button", words: wordsOf };
+export const REJUDGING = {
+  name: "rejudging", buttons: "#rejudging button", words: wordsOf,
+  about: ({ path, value }) => (path === OPENING ? value.submission_ids.join(" ") : `Rejudging ${path.split("/")[2]}`),
+};
 const NAME_LIMIT = 200;
 const OPENING = "jury/rejudgings";
 

@@ -10,7 +10,7 @@ import { beginNews, newMarks, takeNews } from "./news.js";
 import { post, sendKept } from "./posts.js";
 import { contestPath } from "./renewing.js";
 import { clarificationItem, submissionCells, verdictCell, verdictWords } from "./rows.js";
-import { ABOUT_ALL, hasTeamsOf, problemText, readSettings } from "./settings.js";
+import { ABOUT_ALL, hasTeamsOf, labelIn, problemText, readSettings } from "./settings.js";
 import { signIn } from "./sign_in.js";
 import { listParts, row } from "./tables.js";
 import { isSure, tell } from "./telling.js";
@@ -23,8 +23,11 @@ const EMPTY = "This file is empty. Submit it nevertheless?";
 const SUBMISSION = {
   name: "submission", buttons: "#submit-button",
   words: (submission) => `The desk has your submission ${submission.id}.`,
+  about: ({ value: { problem_id: problem } }) => `Your submission to problem ${labelIn(settings?.problems ?? new Map(), problem)}`,
 };
-const QUESTION = { name: "question", buttons: "#question-button", words: () => "The jury has your question." };
+const QUESTION = {
+  name: "question", buttons: "#question-button", words: () => "The jury has your question.", about: () => "Your question",
+};
 
 const path = await contestPath();
 // Who is signed in, the contest's settings, what was shown last, and what asks the desk anew.
