@@ -116,6 +116,7 @@ def try_own_row(pages):
 def try_colours(pages):
     """Bright and dark."""
     pages.sign_in("judge", "jury", "token-j1")
+    pages.browser.click("#tab-Judged")
     pages.sees("what is judged", "#judgements", "s2-2")
     for scheme in ("light", "dark"):
         pages.browser.look_at("team")

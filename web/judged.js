@@ -1,4 +1,5 @@
-// The submissions that are judged, each of which can be put into a rejudging.
+// The submissions that are judged, each of which can be put into a rejudging. They may be ten thousand, so the list is
+// made only while somebody looks at it.
 
 import { at, button, byId, fill } from "./elements.js";
 import { submissionCells, verdictCell } from "./rows.js";
@@ -6,8 +7,17 @@ import { cell, listParts, row } from "./tables.js";
 
 const HEADS = ["Id", "Time", "Team", "Problem", "Language", "Verdict", ""];
 
+// The long lists, as they came last.
+let lists = null;
+
+export function takeJudged(submissions, judgements) {
+  lists = { submissions, judgements };
+}
+
 // The last verdict first.
-export function showJudged(jury, submissions, judgements) {
+export function showJudged(jury) {
+  if (lists === null || at("judged").hidden) return;
+  const { submissions, judgements } = lists;
   const known = byId(submissions);
   const visible = judgements.filter((judgement) => known.has(judgement.submission_id)).reverse();
   const rows = visible.map(({ submission_id: id, judgement_type_id: type }) => {

@@ -9,7 +9,7 @@ import { awardItem, showBoard, showState } from "./board.js";
 import { beginClock, CLOCK, EXTENSION, showMoments } from "./clock.js";
 import { ask, Refusal } from "./desk.js";
 import { at, button, fill } from "./elements.js";
-import { showJudged } from "./judged.js";
+import { showJudged, takeJudged } from "./judged.js";
 import { beginJudging, renewJudging, showVerdictChoices, VERDICT } from "./judging.js";
 import { sendKept } from "./posts.js";
 import { beginRejudgings, REJUDGING, showRejudgings } from "./rejudgings.js";
@@ -27,6 +27,7 @@ function showTabs() {
   const show = (name) => {
     for (const section of sections) section.hidden = section.dataset.tab !== name;
     for (const tab of at("tabs").children) tab.setAttribute("aria-pressed", tab.textContent.startsWith(name));
+    showJudged(jury);
   };
   const tabOf = ({ dataset: { tab } }) => button(tab, () => show(tab), { id: `tab-${tab}` });
   fill(at("tabs"), sections.map(tabOf));
@@ -52,7 +53,8 @@ async function show(known, came) {
   if (came.has("/submissions")) {
     const [submissions, judgements] = ["/submissions", "/judgements"].map((name) => known.get(name));
     takeLists(submissions, judgements);
-    showJudged(jury, submissions, judgements);
+    takeJudged(submissions, judgements);
+    showJudged(jury);
   }
   takeProposals(jury, proposals);
   await renewJudging(jury);
