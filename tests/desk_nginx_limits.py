@@ -24,6 +24,7 @@ import threading
 import time
 
 from lib import demo, program
+from lib.asked import asked, path_of
 from lib.import_opinion import compact
 from lib.nginx import Client, Nginx
 from lib.program import Program, ran
@@ -31,8 +32,8 @@ from lib.server import Server, read_all
 
 HERE, POSTED = "/demo/contests/demo", {"problem_id": "a", "language_id": "cpp", "files": [{"data": "YWJj"}]}
 HALL, IDLE, FLOODING = 120, 1_100, 150
-# What a page asks for at once, every so many seconds.
-PAGE = [f"{HERE}{rest}" for rest in ("", "/state", "/scoreboard", "/submissions", "/judgements", "/clarifications")]
+# What a team's page asks for at once when it is loaded, and here every so many seconds.
+PAGE = [f"/demo{path_of('demo', path)}" for beat in asked()["team"] for path in beat["paths"]]
 PAGES, PAGE_SECONDS, ROUNDS = 30, 5, 2
 # The limits of examples/nginx/: at one time; and in a second, with how many more that may come at once.
 AT_ONCE, ADDRESS_AT_ONCE = 30, 2_000
