@@ -5,6 +5,7 @@ import atexit
 import collections
 import getpass
 import http.client
+import os
 import re
 import resource
 import socket
@@ -41,13 +42,23 @@ CERTIFICATE = re.search(r"^openssl req .*?certificate\.pem$", GUIDE, re.M | re.S
 CONNECTIONS = re.search(r"s/worker_connections \.\*/worker_connections (\d+);/", GUIDE)[1]
 # The files that a worker may have open if nothing is said of them.
 FILES_OF_DEBIAN = 1_024
+FIRST_PORT, ALL_PORTS, OWN_PORTS = 10_000, 20_000, 20
+PORTS = iter(range(1_000))
 TRUSTING = ssl.create_default_context()
 TRUSTING.check_hostname, TRUSTING.verify_mode = False, ssl.CERT_NONE
 
 
 def free_port():
-    with socket.create_server(("127.0.0.1", 0)) as listener:
-        return listener.getsockname()[1]
+    """A port that nobody listens on. Each script has some of its own, below those that the system gives to connections: so it isn't
+    taken by another one before something listens on it."""
+    for at in PORTS:
+        port = FIRST_PORT + os.getpid() * OWN_PORTS % ALL_PORTS + at % OWN_PORTS
+        try:
+            with socket.create_server(("127.0.0.1", port)):
+                return port
+        except OSError:
+            continue
+    raise SystemExit("no port is free")
 
 
 def with_texts(name, texts):
