@@ -130,11 +130,22 @@ def try_away(pages):
     pages.lacks("the desk is back", "#away:not([hidden])")
     since = browser.run(NOW)
     pages.asks_again("team", f"/{AT}/scoreboard", since)
+    browser.look_at("part")
+    browser.tell_chromium("Network.enable", {})
+    browser.tell_chromium("Network.setBlockedURLs", {"urls": ["*/judgements"]})
+    pages.sign_in("part", "team", "token-a2")
+    pages.sees("a page of which a part doesn't come", "#away", "The desk doesn't answer at the moment.")
+    time.sleep(SECONDS / 5)
+    pages.same("what it shows", browser.text("#board"), "")
+    browser.tell_chromium("Network.setBlockedURLs", {"urls": []})
+    pages.sees("all of it", "#board", "Alpha")
+    pages.lacks("all of it", "#away:not([hidden])")
 
 
 def try_token(pages):
     """A token that was replaced: the page says so, and shows nothing that came since."""
     browser = pages.browser
+    browser.look_at("team")
     pages.asks_desk("token-adm", "POST", "jury/tokens", json.dumps({"account_id": "a3", "token": "token-new-a3"}))
     pages.sees("the old token", "#away", "No account has this token.")
     pages.posts("token-j1", f"{AT}/clarifications", text="Not for the old token.")

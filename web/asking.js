@@ -18,25 +18,30 @@ function dueAt(beat) {
 }
 
 // A pause that ends early if somebody comes to look at the page.
-function pauseUnlessLookedAt(milliseconds) {
-  const looked = new Promise((go) => document.addEventListener("visibilitychange", go, { once: true }));
-  return Promise.race([pause(milliseconds), looked]);
+async function pauseUnlessLookedAt(milliseconds) {
+  const over = new AbortController(), { signal } = over;
+  const looked = new Promise((go) => document.addEventListener("visibilitychange", go, { signal }));
+  await Promise.race([pause(milliseconds), looked]);
+  over.abort();
 }
 
 // Begins to ask. `show` is given all that is known, by path, and the paths that came just now. Rounds go one after the
 // other, so nothing older comes after something newer. Gives what asks at once: for all, and for what is quick.
 export function asking(contest, wanted, show) {
-  const beats = wanted.map(({ seconds, paths }) => ({ seconds, paths, asked: -Infinity, after: 0 }));
+  const beats = wanted.map(({ seconds, paths }) => ({ seconds, paths, asked: -Infinity, after: 0, isKnown: false }));
   const known = new Map();
   let line = Promise.resolve();
 
-  async function round(asked) {
-    if (asked.length === 0) return;
+  // A round of these beats. Nothing is shown before all is known.
+  async function round(due) {
+    if (due.length === 0) return;
+    const asked = beats.filter((beat) => due.includes(beat) || !beat.isKnown);
     const since = performance.now(), paths = asked.flatMap((beat) => beat.paths);
     for (const beat of asked) Object.assign(beat, { asked: since, after: spread(beat.seconds) });
     try {
       const replies = await Promise.all(paths.map((path) => ask(path === "" || path[0] === "/" ? contest + path : path)));
       paths.forEach((path, place) => known.set(path, replies[place]));
+      for (const beat of asked) beat.isKnown = true;
       await show(known, new Set(paths));
       showAway(null);
     } catch (refusal) {
@@ -62,9 +67,7 @@ export function asking(contest, wanted, show) {
       return begun;
     };
   };
-  // The first round is for all.
-  const notYet = () => beats.filter(({ asked }) => asked === -Infinity);
-  const all = atOnce(() => beats), quick = atOnce(() => [...new Set([beats[0], ...notYet()])]);
+  const all = atOnce(() => beats), quick = atOnce(() => beats.slice(0, 1));
 
   async function forever() {
     for (;;) {
