@@ -34,6 +34,7 @@ return [id, verdict, document.querySelector(`[data-verdict="${verdict}"] kbd`)?.
 # Where the focus is, and how far the window and the file are scrolled.
 PLACE = """const one = document.activeElement;
 return [one.dataset.look ?? one.tagName, scrollY, document.querySelector('#program').scrollTop];"""
+GO_TO = "const one = document.querySelector(arguments[0]); one.scrollIntoView({ block: 'center' }); one.focus()"
 LIST = "return [...document.querySelectorAll('#waiting tbody tr')].map((one) => one.dataset.id)"
 SAVED = """const saved = [];
 window.saved = saved;
@@ -183,7 +184,7 @@ def try_renewed(pages):
     made = [pages.submit(2, number, "CE", 200) for number in range(14)]
     pages.looks("first", made[0])
     browser.run("document.getElementById('program').scrollTop = 300")
-    browser.run("const one = document.querySelector(arguments[0]); one.scrollIntoView({ block: 'center' }); one.focus()", f'[data-look="{made[9]}"]')
+    browser.run(GO_TO, f'[data-look="{made[9]}"]')
     time.sleep(0.3)
     before = browser.run(PLACE)
     pages.same("the focus", before[0], made[9])

@@ -26,8 +26,10 @@ from lib.program import ROOT
 
 AT, TABS = "contests/demo", ["Judging", "Questions", "Rejudgings", "Judged", "Board", "Teams", "Clock"]
 WIDTHS = [(390, 844), (768, 1024), (1366, 768), (1920, 1080), (3840, 2160)]
-NAMES = ["فريق النيل", "צוות הגליל", "東京ペンギン", "한강 수달", "Ελληνική ομάδα", "Команда «Ёж»", "หมู่บ้านช้าง", "नदी के बाघ", "Ẓ̌a̱l̤g̈ō t́eàm̂", "👩🏽‍💻 & Söhne", "x" * 60]
-TEAMS = demo.FILES["teams-csv"] + "".join(f"n{at},{name},north,\n" for at, name in enumerate(NAMES)) + "".join(f"u{at},Team {at},,\n" for at in range(40))
+NAMES = ["فريق النيل", "צוות הגליל", "東京ペンギン", "한강 수달", "Ελληνική ομάδα", "Команда «Ёж»", "หมู่บ้านช้าง", "नदी के बाघ",
+         "Ẓ̌a̱l̤g̈ō t́eàm̂", "👩🏽‍💻 & Söhne", "x" * 60]  # fmt: skip
+MORE = [*(f"n{at},{name},north,\n" for at, name in enumerate(NAMES)), *(f"u{at},Team {at},,\n" for at in range(40))]
+TEAMS = demo.FILES["teams-csv"] + "".join(MORE)
 # The texts that are seen, each with what it is in and how far it stands out, of those that do so less than 4.5 to 1.
 FAINT = """const numbers = (colour) => colour.match(/[\\d.]+/g).map(Number);
 const behind = (at) => {
@@ -51,14 +53,17 @@ const add = (at, text, style) => {
 };
 while (walker.nextNode()) {
   const at = walker.currentNode.parentElement;
-  if (walker.currentNode.data.trim() && at.checkVisibility() && !at.closest("option")) add(at, walker.currentNode.data, getComputedStyle(at));
+  const { data } = walker.currentNode;
+  if (data.trim() && at.checkVisibility() && !at.closest("option")) add(at, data, getComputedStyle(at));
 }
 for (const at of document.querySelectorAll("input, select, textarea")) {
   if (!at.checkVisibility()) continue;
   add(at, at.value, getComputedStyle(at));
   if (at.placeholder) add(at, at.placeholder, getComputedStyle(at, "::placeholder"));
 }
-for (const at of document.querySelectorAll("#program .line")) if (at.checkVisibility()) add(at, "its number", getComputedStyle(at, "::before"));
+for (const at of document.querySelectorAll("#program .line")) {
+  if (at.checkVisibility()) add(at, "its number", getComputedStyle(at, "::before"));
+}
 return found;"""
 # What can be pressed or filled in, each radio button's group once. Whoever presses Tab comes to it (`seen`); what is under the head then
 # is in `hidden`.
@@ -78,6 +83,7 @@ scrollTo(0, 0);"""
 MISSED = """const all = [...document.querySelectorAll(arguments[0])].filter((one) => one.checkVisibility());
 const isSeen = (one) => window.seen.has(one) || (one.name && one.type === "radio" && [...window.seen].some((two) => two.name === one.name));
 return [all.length, all.filter((one) => !isSeen(one)).map((one) => one.outerHTML.slice(0, 90)), window.hidden];"""
+WORDS = "const all = arguments[0]; return import('./refusals.js').then(({ wordsOf }) => all.map((one) => wordsOf(...one)))"
 HEAD = """scrollTo(0, document.documentElement.scrollHeight);
 const head = document.querySelector("header").getBoundingClientRect();
 const result = [document.documentElement.scrollWidth, head.top, scrollY];
@@ -189,12 +195,12 @@ def try_words(pages):
     """Each refusal has words, which say what it was and what to do, and its name."""
     browser, names = pages.browser, refusals()
     browser.look_at("team")
-    words = browser.run("return import('./refusals.js').then(({ wordsOf }) => arguments[0].map(([name, status]) => wordsOf(status, name)))", list(names.items()))
+    words = browser.run(WORDS, [[status, name] for name, status in names.items()])
     for (name, status), said in zip(names.items(), words):
         pages.note(said.endswith(f" ({status} {name})"), f"{name} is told as {said!r}")
         pages.note(len(re.findall(r"[.?](?: |$)", said)) >= 2, f"{name} says what it was and what to do: {said!r}")
     pages.note(len(set(re.sub(r" \(.*", "", said) for said in words)) >= len(words) - 1, "each has words of its own")
-    other = browser.run("return import('./refusals.js').then(({ wordsOf }) => [wordsOf(418, 'toString'), wordsOf(502, '')])")
+    other = browser.run(WORDS, [[418, "toString"], [502, ""]])
     pages.note("The desk answered 418 toString." in other[0] and other[1].endswith("(502 Away)"), f"others: {other}")
 
 

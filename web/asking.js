@@ -39,7 +39,7 @@ export function asking(contest, wanted, show) {
     const since = performance.now(), paths = asked.flatMap((beat) => beat.paths);
     for (const beat of asked) Object.assign(beat, { asked: since, after: spread(beat.seconds) });
     try {
-      const replies = await Promise.all(paths.map((path) => ask(path === "" || path[0] === "/" ? contest + path : path)));
+      const replies = await Promise.all(paths.map((path) => ask(/^(\/|$)/.test(path) ? contest + path : path)));
       paths.forEach((path, place) => known.set(path, replies[place]));
       for (const beat of asked) beat.isKnown = true;
       await show(known, new Set(paths));

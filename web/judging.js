@@ -1,4 +1,5 @@
-// The submission that a judge looks at, and its verdict, by keys or by buttons. The next one that waits opens by itself.
+// The submission that a judge looks at, and its verdict, by keys or by buttons. The next one that waits opens by
+// itself.
 
 import { ask, askBytes, pause, persistently, Refusal } from "./desk.js";
 import { at, element, fill, freeText } from "./elements.js";
@@ -25,8 +26,8 @@ const NOT_CHOSEN = "Choose a verdict first, by its key or a click.";
 // So long, in milliseconds, a verdict waits to be told what others propose.
 const GLANCE = 2_000;
 
-// What is looked at: the submission, its bytes once they are here, and the state of its verdict when it was opened. Null
-// if nothing is; then the next one opens by itself, unless somebody has closed the last one.
+// What is looked at: the submission, its bytes once they are here, and the state of its verdict when it was opened.
+// Null if nothing is; then the next one opens by itself, unless somebody has closed the last one.
 let current = null;
 let isClosed = false;
 
@@ -86,7 +87,8 @@ function showHead({ settings }, submission) {
   const team = freeText(nameIn(settings.teams, submission.team_id));
   const language = freeText(nameIn(settings.languages, submission.language_id));
   fill(at("verdict-title"), [`${submission.id}, problem `, label, ", ", language, ", ", team]);
-  at("verdict-entry").textContent = submission.entry_point === undefined ? "" : `Entry point ${submission.entry_point}.`;
+  const { entry_point: entry } = submission;
+  at("verdict-entry").textContent = entry === undefined ? "" : `Entry point ${entry}.`;
 }
 
 // Shows a submission, and no verdict: neither the last one that was given nor the one that is proposed is chosen by
@@ -102,7 +104,7 @@ async function open(jury, submission) {
   at("verdict-told").textContent = "";
   at("verdict").hidden = false;
   showVerdictState(jury);
-  showWaiting(jury, id, (which) => lookAt(jury, which));
+  showList(jury);
   if ([document.body, null].includes(document.activeElement)) at("program").focus({ preventScroll: true });
   const bytes = await doing(() => persistently(() => askBytes(`${jury.path}/submissions/${id}/files`)));
   if (bytes === null || current?.submission !== submission) return;
@@ -118,6 +120,9 @@ function goTo(jury, submission) {
   at("verdict").scrollIntoView({ block: "nearest" });
 }
 
+// The list of what waits, with what is open marked in it.
+const showList = (jury) => showWaiting(jury, current?.submission.id ?? null, (id) => lookAt(jury, id));
+
 function lookAt(jury, id) {
   const submission = submissionOf(id);
   if (submission !== null) goTo(jury, submission);
@@ -128,7 +133,7 @@ function openNext(jury) {
   const next = nextFor(jury, current?.submission.id ?? null);
   if (next !== null) return goTo(jury, next);
   close();
-  showWaiting(jury, null, (id) => lookAt(jury, id));
+  showList(jury);
   return tell(NONE);
 }
 
@@ -181,7 +186,7 @@ export async function renewJudging(jury) {
   const id = current?.submission.id ?? null;
   if (id !== null && !isJudged(id) && isOpen(id)) await noteVerdictMeanwhile(jury, id);
   if (current !== null) showVerdictState(jury);
-  showWaiting(jury, current?.submission.id ?? null, (which) => lookAt(jury, which));
+  showList(jury);
   if (current !== null || isClosed || !canJudge(jury) || at("judging").hidden) return;
   const next = nextFor(jury, null);
   if (next !== null) open(jury, next);
@@ -214,7 +219,7 @@ function enter(jury) {
 function leave(jury) {
   isClosed = true;
   close();
-  showWaiting(jury, null, (id) => lookAt(jury, id));
+  showList(jury);
   at("waiting-title").focus();
 }
 
@@ -231,7 +236,7 @@ export function beginJudging(jury) {
   onSubmit("verdict", (pressed) => giveVerdict(jury, pressed?.value ?? "proposals"));
   onKeys(() => current !== null && canJudge(jury) && !at("judging").hidden, (key) => actionOf(jury, key));
   onFilter(() => {
-    if (current !== null || nextFor(jury, null) === null) showWaiting(jury, current?.submission.id, (id) => lookAt(jury, id));
-    else openNext(jury);
+    if (current === null && nextFor(jury, null) !== null) openNext(jury);
+    else showList(jury);
   });
 }

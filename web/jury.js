@@ -18,8 +18,8 @@ import { hasTeamsOf, readSettings } from "./settings.js";
 import { signIn } from "./sign_in.js";
 import { takeLists, takeProposals } from "./waiting.js";
 
-// Who is signed in, the settings, whether they are to be read again, and what asks the desk anew: for what is quick, and
-// for all.
+// Who is signed in, the settings, whether they are to be read again, and what asks the desk anew: for what is quick,
+// and for all.
 const jury = { path: await contestPath(), account: null, settings: null, isBehind: false, renew: null, renewAll: null };
 
 function showTabs() {

@@ -20,7 +20,8 @@ const isNew = (one) => news.some(({ name }) => name === nameOf(one));
 export function takeNews(account, words, verdicts) {
   read ??= readIn(account) ?? verdicts.map(({ one }) => nameOf(one));
   keepRead(account, read);
-  const named = [...words, ...verdicts].map(({ one, text }) => ({ name: nameOf(one), text, time: one.time ?? one.end_time }));
+  const all = [...words, ...verdicts];
+  const named = all.map(({ one, text }) => ({ name: nameOf(one), text, time: one.time ?? one.end_time }));
   news = named.filter(({ name }) => !read.includes(name));
   news.sort((one, other) => (one.time < other.time ? -1 : 1));
   showNews();
@@ -30,7 +31,8 @@ function showNews() {
   const last = news.at(-1);
   countTitle(news.length);
   at("news").hidden = last === undefined;
-  fill(at("news-words"), last === undefined ? [] : [element("strong", {}, `${news.length} new. `), freeText(last.text)]);
+  if (last === undefined) return;
+  fill(at("news-words"), [element("strong", {}, `${news.length} new. `), freeText(last.text)]);
 }
 
 const buttonsThere = () => [...document.querySelectorAll("[data-read]")];

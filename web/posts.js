@@ -68,8 +68,8 @@ function sendInTurn(kind, ...post) {
 }
 
 // Posts a value of a kind, which says a name, the buttons that are off meanwhile (a selector) and what is told of the
-// reply. It may say what is told to be refused, and what else is done then. The post goes out in the name of who is signed in now,
-// whatever happens to the tab meanwhile.
+// reply. It may say what is told to be refused, and what else is done then. The post goes out in the name of who is
+// signed in now, whatever happens to the tab meanwhile.
 export function post(kind, path, value, method = "POST") {
   const who = token();
   const made = { kind: kind.name, method, path, value, key: newKey(), time: Date.now() };

@@ -1,5 +1,5 @@
-// What the desk refuses, or nginx before it, in words for people: what it was, and what to do. The desk's names are those
-// of docs/FORMATS.md, sections 4 and 8.
+// What the desk refuses, or nginx before it, in words for people: what it was, and what to do. The desk's names are
+// those of docs/FORMATS.md, sections 4 and 8.
 
 const TELL = "If it comes again, tell the director.";
 
@@ -8,10 +8,11 @@ const WORDS = {
   AlreadyReleased: "This submission has its verdict already. A rejudging changes it.",
   Away: "The desk doesn't answer at the moment. This page goes on asking.",
   BodyTooLarge: "The file is too large: at most 1,048,576 bytes. Send a smaller one.",
-  ClockRefused: "The desk doesn't set the clock so, at this moment. Look at what has come already, at what waits for a " +
-    "verdict, and at open rejudgings.",
+  ClockRefused: "The desk doesn't set the clock so, at this moment. Look at what has come already, at what " +
+    "waits for a verdict, and at open rejudgings.",
   Encoding: `The desk can't read what was sent. Load the page anew. ${TELL}`,
-  EntryPointMissing: "This language needs an entry point, such as the name of the main class. Type it, and submit again.",
+  EntryPointMissing: "This language needs an entry point, such as the name of the main class. Type it, and submit " +
+    "again.",
   HeadTooLarge: "The desk can't read what was sent: it is too long. Is the token what stands on your slip?",
   InRejudging: "One of these submissions is in another open rejudging. Apply or cancel that one first.",
   KeyReused: "Something else was sent under this key, or stands under this id. Take another id, or another token.",

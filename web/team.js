@@ -23,10 +23,11 @@ const EMPTY = "This file is empty. Submit it nevertheless?";
 const SUBMISSION = {
   name: "submission", buttons: "#submit-button",
   words: (submission) => `The desk has your submission ${submission.id}.`,
-  about: ({ value: { problem_id: problem } }) => `Your submission to problem ${labelIn(settings?.problems ?? new Map(), problem)}`,
+  about: ({ value: { problem_id: id } }) => `Your submission to problem ${labelIn(settings?.problems ?? new Map(), id)}`,
 };
 const QUESTION = {
-  name: "question", buttons: "#question-button", words: () => "The jury has your question.", about: () => "Your question",
+  name: "question", buttons: "#question-button", words: () => "The jury has your question.",
+  about: () => "Your question",
 };
 
 const path = await contestPath();
@@ -102,11 +103,9 @@ function showClarifications() {
 // What the jury wrote and each verdict, with what is told of it.
 function takeAllNews() {
   const words = shown.clarifications.filter((one) => one.from_team_id === null);
-  const verdicts = [...shown.verdicts.values()];
   const told = ({ submission_id: id, judgement_type_id: type }) => `${id}: ${verdictWords(settings, type)}`;
-  takeNews(
-    account.id, words.map((one) => ({ one, text: `The jury: ${one.text}` })), verdicts.map((one) => ({ one, text: told(one) })),
-  );
+  const verdicts = [...shown.verdicts.values()].map((one) => ({ one, text: told(one) }));
+  takeNews(account.id, words.map((one) => ({ one, text: `The jury: ${one.text}` })), verdicts);
 }
 
 function showOwn() {

@@ -41,15 +41,17 @@ function passes(jury, { id, problem_id: problem, language_id: language }) {
 export function nextFor(jury, last) {
   const place = waiting.findIndex((one) => one.id === last);
   const turned = [...waiting.slice(place + 1), ...waiting.slice(0, place + 1)];
-  return turned.find(({ id }) => id !== last && !isMine(jury, proposalFor(id)) && passes(jury, submissionOf(id))) ?? null;
+  const isFor = (one) => one.id !== last && !isMine(jury, proposalFor(one.id)) && passes(jury, one);
+  return turned.find(isFor) ?? null;
 }
 
 // Tells that another verdict stands now where this judge's stood.
 function tellReplaced(jury, last) {
   for (const [id, before] of proposals) {
     const now = last.get(id);
-    if (!now || !isMine(jury, before) || isMine(jury, now) || now.judgement_type_id === before.judgement_type_id) continue;
-    tell(`${id}: ${now.account_id} proposed ${now.judgement_type_id} after your ${before.judgement_type_id}.`, true);
+    if (!now || !isMine(jury, before) || isMine(jury, now)) continue;
+    const [mine, theirs] = [before, now].map((proposal) => proposal.judgement_type_id);
+    if (mine !== theirs) tell(`${id}: ${now.account_id} proposed ${theirs} after your ${mine}.`, true);
   }
 }
 
