@@ -4,8 +4,9 @@
     desk_pages_asking.py [--program PATH] [--shots PATH]
 
 The demo contest is served by the program behind Debian's nginx. The pages of a team, of a judge and of an analyst ask for what
-web/asked.js names, and for nothing else: lists of all submissions and judgements every 30 seconds, and not sooner but after a post of
-their own; the board every few seconds. A page that nobody looks at asks every 30 seconds. After a desk that was away, and after
+web/asked.js names, and for nothing else: lists of all submissions and judgements every 30 seconds, or every two minutes for a team of
+which no submission waits, and not sooner but after a post of their own; the board every few seconds. A page that nobody looks at asks
+every 30 seconds. After a desk that was away, and after
 replies that broke off, they go on so. A token that was replaced gets them nothing.
 
 Takes nginx, openssl, chromium, chromium-driver and faketime. Ends with the line `N passed, M failed`; the exit status
@@ -38,6 +39,7 @@ performance.setResourceTimingBufferSize(5000);"""
 NOW = "return performance.now() / 1000"
 # What a page asks for once, before it shows anything; a judge's page also asks for what it opens.
 ONCE = ["/contests", f"/{AT}/account", *(f"/{AT}/{name}" for name in ("problems", "languages", "teams", "groups", "judgement-types"))]
+JUDGE_ONCE = [f"/{AT}/submissions/s3-1/files"]
 TEAM_ONCE = [f"/{AT}/teams/t2", f"/{AT}/teams/t3"]
 
 
@@ -50,8 +52,9 @@ class Asking(Pages):
         return self.browser.run(TIMES)
 
     def beats(self, who):
-        """The seconds of each path that a page is to ask for again and again."""
-        return {path_of("demo", path): beat["seconds"] for beat in asked()[PAGES[who][0]] for path in beat["paths"]}
+        """The seconds of each path that a page is to ask for again and again. A submission of the team waits."""
+        pace = "sooner" if who == "team" else "seconds"
+        return {path_of("demo", path): beat.get(pace, beat["seconds"]) for beat in asked()[PAGES[who][0]] for path in beat["paths"]}
 
     def asks_again(self, who, path, since):
         """A page asks for a path at once."""
@@ -61,6 +64,8 @@ class Asking(Pages):
 
 def try_names(pages):
     """What the bench reads in web/asked.js is what the pages do."""
+    value = {"problem_id": "b", "language_id": "cpp", "files": [{"data": "eA=="}]}
+    pages.same("what waits", pages.posts("token-a3", f"{AT}/submissions", **value)["id"], "s3-1")
     for who, (page, token) in PAGES.items():
         pages.browser.look_at(who)
         source = LOOKED_AT % json.dumps(who == "hidden")
@@ -80,12 +85,12 @@ def try_pace(pages):
     time.sleep(SECONDS + 3)
     for who in PAGES:
         times, beats = pages.times(who), pages.beats(who)
-        others = sorted(set(times) - set(beats) - set(ONCE) - set(TEAM_ONCE))
+        others = sorted(set(times) - set(beats) - set(ONCE) - set(TEAM_ONCE) - set(JUDGE_ONCE))
         pages.same(f"what else {who} asks for", others, [])
         for path, seconds in beats.items():
             pace, found = max(seconds, SECONDS) if who == "hidden" else seconds, times.get(path, [])
             gaps = gaps_of(found)
-            pages.note(len(found) >= 2, f"{who} asks for {path} at {found}")
+            pages.note(len(found) >= (2 if pace <= SECONDS else 1), f"{who} asks for {path} at {found}")
             is_right = all(0.85 * pace <= gap <= 1.15 * pace + 1 for gap in gaps)
             pages.note(is_right, f"{who} asks for {path} after {[round(gap, 1) for gap in gaps]} s, wanted {pace}")
             if path.endswith(LONG):
@@ -101,10 +106,10 @@ def try_post(pages):
     browser.look_at("team")
     since = browser.run(NOW)
     pages.submits("a")
-    pages.sees("a post", "#told", "The desk has your submission s3-1.")
+    pages.sees("a post", "#told", "The desk has your submission s3-2.")
     for name in LONG:
         pages.asks_again("team", f"/{AT}{name}", since)
-    pages.sees("what was posted", '[data-id="s3-1"]', "waits")
+    pages.sees("what was posted", '[data-id="s3-2"]', "waits")
     counts = {who: len(pages.times(who)[f"/{AT}/judgements"]) - len(before[who][f"/{AT}/judgements"]) for who in PAGES}
     pages.note(counts["team"] == 1 and all(count <= 1 for count in counts.values()), f"lists asked for meanwhile: {counts}")
     browser.look_at("judge")

@@ -8,14 +8,11 @@ const HIDDEN = 30;
 // What wasn't answered is asked for again after so many seconds, or twice as many.
 const AGAIN = 5;
 
+// When it was asked for last, by the page's own clock, and what that makes of its next time.
+const NEW = { asked: -Infinity, spread: 1, again: null, isKnown: false };
 const HASTE = 10;
 // Quick rounds are spread a little; a long list comes every so many seconds as it is said.
-const spread = (seconds) => (seconds < HASTE ? seconds * (0.9 + 0.2 * Math.random()) : seconds) * 1000;
-
-// When a beat is due, by the page's own clock.
-function dueAt(beat) {
-  return beat.asked + (document.hidden ? Math.max(beat.after, HIDDEN * 1000) : beat.after);
-}
+const spreadOf = ({ seconds }) => (seconds < HASTE ? 0.9 + 0.2 * Math.random() : 1);
 
 // A pause that ends early if somebody comes to look at the page.
 async function pauseUnlessLookedAt(milliseconds) {
@@ -25,28 +22,35 @@ async function pauseUnlessLookedAt(milliseconds) {
   over.abort();
 }
 
-// Begins to ask. `show` is given all that is known, by path, and the paths that came just now. Rounds go one after the
-// other, so nothing older comes after something newer. Gives what asks at once: for all, and for what is quick.
+// Begins to ask. `show` is given all that is known, by path, and the paths that came just now, and says whether more is
+// wanted sooner. Rounds go one after the other, so nothing older comes after something newer. Gives what asks at once:
+// for all, and for what is quick.
 export function asking(contest, wanted, show) {
-  const beats = wanted.map(({ seconds, paths }) => ({ seconds, paths, asked: -Infinity, after: 0, isKnown: false }));
+  const beats = wanted.map((beat) => ({ sooner: beat.seconds, ...beat, ...NEW }));
   const known = new Map();
-  let line = Promise.resolve();
+  let line = Promise.resolve(), isSoon = false;
+
+  // When a beat is due, by the page's own clock.
+  function dueAt({ asked, seconds, sooner, spread, again }) {
+    const after = again ?? (isSoon ? sooner : seconds) * spread;
+    return asked + 1000 * (document.hidden ? Math.max(after, HIDDEN) : after);
+  }
 
   // A round of these beats. Nothing is shown before all is known.
   async function round(due) {
     if (due.length === 0) return;
     const asked = beats.filter((beat) => due.includes(beat) || !beat.isKnown);
     const since = performance.now(), paths = asked.flatMap((beat) => beat.paths);
-    for (const beat of asked) Object.assign(beat, { asked: since, after: spread(beat.seconds) });
+    for (const beat of asked) Object.assign(beat, { asked: since, spread: spreadOf(beat), again: null });
     try {
       const replies = await Promise.all(paths.map((path) => ask(/^(\/|$)/.test(path) ? contest + path : path)));
       paths.forEach((path, place) => known.set(path, replies[place]));
       for (const beat of asked) beat.isKnown = true;
-      await show(known, new Set(paths));
+      isSoon = (await show(known, new Set(paths))) === true;
       showAway(null);
     } catch (refusal) {
       if (!(refusal instanceof Refusal)) throw refusal;
-      for (const beat of asked) beat.after = AGAIN * (1 + Math.random()) * 1000;
+      for (const beat of asked) beat.again = AGAIN * (1 + Math.random());
       showAway(refusal);
     }
   }

@@ -23,7 +23,7 @@ const EMPTY = "This file is empty. Submit it nevertheless?";
 const SUBMISSION = {
   name: "submission", buttons: "#submit-button",
   words: (submission) => `The desk has your submission ${submission.id}.`,
-  about: ({ value: { problem_id: id } }) => `Your submission to problem ${labelIn(settings?.problems ?? new Map(), id)}`,
+  about: ({ value }) => `Your submission to problem ${labelIn(settings?.problems ?? new Map(), value.problem_id)}`,
 };
 const QUESTION = {
   name: "question", buttons: "#question-button", words: () => "The jury has your question.",
@@ -34,7 +34,7 @@ const path = await contestPath();
 // Who is signed in, the contest's settings, what was shown last, and what asks the desk anew.
 let account = null;
 let settings = null;
-let shown = { clarifications: [], submissions: [], verdicts: new Map() };
+let shown = { clarifications: [], submissions: [], verdicts: new Map(), row: null };
 let renew = null;
 
 // The bytes of the file that was chosen, in base64; or null if it isn't to be sent, which is told.
@@ -113,6 +113,12 @@ function showOwn() {
   showClarifications();
 }
 
+// Whether lists are wanted sooner: a submission waits for its verdict, or the team's row has changed since they came. A
+// hidden team has no row.
+function isWaiting(row) {
+  return row === undefined || row !== shown.row || shown.submissions.some((one) => !shown.verdicts.has(one.id));
+}
+
 async function show(known, came) {
   const names = ["", "/scoreboard", "/clarifications", "/submissions", "/judgements", "/awards"];
   const [contest, board, clarifications, submissions, judgements, awards] = names.map((name) => known.get(name));
@@ -120,15 +126,18 @@ async function show(known, came) {
   if (!hasTeamsOf(settings, board)) await showSettings();
   showBoard(at("board"), settings, { board, awards, team: account.team_id });
   shown.clarifications = clarifications;
+  const row = JSON.stringify(board.rows.find((one) => one.team_id === account.team_id)?.problems);
   if (came.has("/submissions")) {
     // The desk shows the files of a team's own submissions alone.
     shown.submissions = submissions.filter((one) => "files" in one);
     const own = new Set(shown.submissions.map((one) => one.id));
     const verdicts = judgements.filter((one) => own.has(one.submission_id));
     shown.verdicts = new Map(verdicts.map((one) => [one.submission_id, one]));
+    shown.row = row;
   }
   takeAllNews();
   showOwn();
+  return isWaiting(row);
 }
 
 async function showSettings() {
