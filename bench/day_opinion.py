@@ -17,7 +17,16 @@ import day_plan
 from day_plan import CONTEST, FREEZE, LENGTH, START
 from lib import desk_opinion
 from lib.clock_opinion import time_of
-from lib.desk_opinion import cell, judgement_object, moment, new_contest, state_object, submission_id
+from lib.desk_opinion import (
+    cell,
+    judgement_object,
+    moment,
+    new_contest,
+    open_proposals,
+    state_object,
+    submission_id,
+    submission_object,
+)
 from lib.import_opinion import Refused, compact
 from lib.replay_opinion import reltime_text
 
@@ -26,11 +35,36 @@ from lib.replay_opinion import reltime_text
 Exchange = collections.namedtuple("Exchange", "who key method path body since until status reply")
 HEAD = {"id": CONTEST, "name": "A day", "duration": LENGTH, "freeze": FREEZE, "penalty": 20, "verification": True}
 HERE = f"/contests/{CONTEST}"
+JURY = {"role": "judge", "team": None}
+
+
+# A long reply is kept as its digest, but for a board, which tells its moment.
+LONG = 10_000
+
+
+def kept_of(path, reply):
+    """What is kept of a reply: its bytes, pressed, or a digest of them."""
+    if len(reply) > LONG and not path.endswith("/scoreboard"):
+        return hashlib.sha256(reply).digest()
+    return zlib.compress(reply, 1)
+
+
+def is_kept_of(exchange, text):
+    """Whether a text is what was replied."""
+    return exchange.reply == kept_of(exchange.path, text.encode("utf-8", "surrogateescape"))
+
+
+def shown(exchange):
+    """A reply, or that it was long."""
+    try:
+        return zlib.decompress(exchange.reply)
+    except zlib.error:
+        return b"a long reply"
 
 
 def time_in(exchange, reply):
-    """The moment that a reply tells, or None."""
-    if exchange.status != 200:
+    """The moment that a reply tells, or None. What is read tells none, but for a board."""
+    if exchange.status != 200 or (exchange.method == "GET" and not exchange.path.endswith("/scoreboard")):
         return None
     row = json.loads(reply) if reply[:1] == b"{" else {}
     text = row.get("time") or row.get("end_time")
@@ -56,6 +90,8 @@ class DayOpinion:
         empty = new_contest(HEAD, START, None, None)
         self.of = {team["id"]: {**copy.deepcopy(empty), **settings, "of": team["id"]} for team in plan.teams}
         self.order, self.last, self.known = [], {}, {team["id"]: (0, 0) for team in plan.teams}
+        # Of each submission its text without its file and with it; of each team the proposals that wait, by submission.
+        self.made, self.proposed = {}, {}
         self.caller_of = {day_plan.token(account["id"]): account for account in accounts}
         self.plan, self.rows, self.texts = plan, {}, {True: {}, False: {}}
         self.passed = self.failed = 0
@@ -114,11 +150,27 @@ class DayOpinion:
         """Keeps what a post added of a team: a submission in its order, and the text of its last judgement."""
         team, known = contest["of"], self.known[contest["of"]]
         for one in contest["submissions"][known[0] :]:
-            order = (one["time"], team.encode(), one["number"])
-            bisect.insort(self.order, (order, submission_id(contest, one), team))
+            order, which = (one["time"], team.encode(), one["number"]), submission_id(contest, one)
+            bisect.insort(self.order, (order, which, team))
+            self.made[which] = [compact(submission_object(contest, one, caller)) for caller in (None, JURY)]
+        self.proposed.update({submission_id(contest, one): None for one in contest["submissions"]})
+        self.proposed.update({one["submission_id"]: compact(one) for one in open_proposals(contest, JURY)})
         texts = {one["submission"]: compact(judgement_object(contest, one)) for one in contest["releases"][known[1] :]}
         self.last.update(texts)
         self.known[team] = len(contest["submissions"]), len(contest["releases"])
+
+    def submissions(self, caller):
+        """The submissions that the caller sees, its own with their files."""
+        sees_all, own = caller is not None and caller["team"] is None, caller and caller["team"]
+        hidden = {team["id"] for team in self.plan.teams if team["hidden"]}
+        owned = [(which, sees_all or team == own, team in hidden) for _, which, team in self.order]
+        rows = [self.made[which][is_own] for which, is_own, is_hidden in owned if is_own or not is_hidden]
+        return "[" + ",".join(rows) + "]"
+
+    def proposals(self):
+        """The proposals that wait, in the order of their submissions."""
+        rows = [self.proposed.get(which) for _, which, _ in self.order]
+        return "[" + ",".join(filter(None, rows)) + "]"
 
     def judgements(self, caller):
         """The last judgement of each submission that the caller sees; no thaw comes in the day."""
@@ -131,16 +183,35 @@ class DayOpinion:
         rows = [which for (time, _, _), which, team in self.order if which in self.last and is_seen(time, team)]
         return "[" + ",".join(self.last[which] for which in rows) + "]"
 
+    def listed(self, exchange, now, caller):
+        """What stands under a path that tells no moment, as text."""
+        name = exchange.path.rpartition("/")[2]
+        if name == "submissions":
+            return self.submissions(caller)
+        if name == "judgements":
+            return self.judgements(caller)
+        if name == "proposals":
+            return self.proposals()
+        path = exchange.path.replace(".", "/") + "/"
+        of = next((team for _, which, team in self.order if f"/{which}/" in path), "t1")
+        is_of_team = name in ("files", "rejudgings") or "/judgements/" in exchange.path
+        contest = self.of[of] if is_of_team else self.talk
+        try:
+            value = desk_opinion.value_of(contest, now, exchange.who, None, "GET", exchange.path, b"")
+        except Refused as refused:
+            value = {"code": desk_opinion.STATUSES[str(refused)], "message": str(refused)}
+        return value.decode("utf-8", "surrogateescape") if isinstance(value, bytes) else compact(value)
+
     def read(self, exchange, now):
         """What is answered to a read."""
         caller = None if exchange.who == "public" else self.caller_of[exchange.who]
         if exchange.path.endswith("/scoreboard"):
             return self.board(now, caller)
-        is_talk = exchange.path.endswith("/clarifications")
-        texts, key = self.texts[is_talk], (exchange.who, exchange.path)
+        if exchange.path.endswith("/state"):
+            return self.listed(exchange, now, caller)
+        texts, key = self.texts[exchange.path.endswith("/clarifications")], (exchange.who, exchange.path)
         if key not in texts:
-            heard = desk_opinion.collection(self.talk, now, "clarifications", caller) if is_talk else None
-            texts[key] = compact(heard) if is_talk else self.judgements(caller)
+            texts[key] = self.listed(exchange, now, caller)
         return texts[key]
 
     def note(self, is_right, exchange, given, wanted=""):
@@ -152,7 +223,7 @@ class DayOpinion:
         """Looks at all replies, in the order of the moments that they tell."""
         steps = []
         for number, exchange in enumerate(exchanges):
-            reply = zlib.decompress(exchange.reply)
+            reply = shown(exchange)
             now = time_in(exchange, reply)
             if now is not None and not exchange.since <= now <= exchange.until and exchange.who != "public":
                 self.note(False, exchange, reply, f"a moment from {exchange.since} to {exchange.until}")
@@ -169,7 +240,7 @@ class DayOpinion:
         self.look_at_waiting(waiting, None)
 
     def look_at(self, exchange, now, waiting):
-        given = zlib.decompress(exchange.reply).decode()
+        given = shown(exchange).decode()
         if exchange.method == "GET":
             wanted = self.read(exchange, now)
         else:
@@ -179,7 +250,7 @@ class DayOpinion:
 
     def fits(self, exchange):
         """Whether a read that tells no moment is right now."""
-        is_right = zlib.decompress(exchange.reply).decode() == self.read(exchange, exchange.until)
+        is_right = any(is_kept_of(exchange, self.read(exchange, moment)) for moment in {exchange.until, exchange.since})
         self.passed += is_right
         return is_right
 
@@ -190,5 +261,5 @@ class DayOpinion:
             if now is not None and now <= exchange.until:
                 left.append(exchange)
             elif not self.fits(exchange):
-                self.note(False, exchange, zlib.decompress(exchange.reply), self.read(exchange, exchange.until))
+                self.note(False, exchange, shown(exchange), self.read(exchange, exchange.until))
         return left
