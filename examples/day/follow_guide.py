@@ -64,7 +64,8 @@ class Guide(Program):
         for name, path in (("desk", self.path), ("date", shutil.which("date"))):
             (tools / name).write_text(SET.format(library=clock.LIBRARY, folder=folder, program=path), encoding="utf-8")
             (tools / name).chmod(0o755)
-        (tools / "contest-package").symlink_to(ROOT / "examples/package/contest-package")
+        for tool in ("examples/package/contest-package", "tools/desk-copy"):
+            (tools / pathlib.Path(tool).name).symlink_to(ROOT / tool)
         self.set_clock("2027-05-08 08:00:00")
         how = {"stdin": subprocess.PIPE, "stdout": subprocess.PIPE, "stderr": subprocess.STDOUT, "text": True}
         self.shell = subprocess.Popen(["bash", "--noprofile", "--norc"], cwd=self.place, **how)

@@ -18,9 +18,9 @@ class Server:
     """The program, which serves the contest in a folder, with these libraries before its own, and more in its environment. It
     ends with the script."""
 
-    def __init__(self, desk, folder, requests=1_000_000, port="0", libraries=(), **env):
+    def __init__(self, desk, folder, requests=1_000_000, port="0", libraries=(), moment="2024-03-02 09:05:00", **env):
         self.clock = folder / "clock"
-        self.at("2024-03-02 09:05:00")
+        self.at(moment)
         words = [desk.path, "serve", "cup.db", "--requests", str(requests), "--port", port]
         self.process = subprocess.Popen(
             words, cwd=folder, env={**clock.shown_by(self.clock, libraries), **env}, stdout=subprocess.PIPE, stderr=subprocess.PIPE,
