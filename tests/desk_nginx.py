@@ -17,7 +17,6 @@ Takes nginx, openssl, wrk, curl and faketime. Ends with the line `N passed, M fa
 
 import base64
 import concurrent.futures
-import http.client
 import json
 import random
 import re
@@ -30,13 +29,12 @@ import time
 
 from lib import demo, program
 from lib.import_opinion import compact
-from lib.nginx import Client, Nginx, free_port
+from lib.nginx import HERE, POSTED, Client, Nginx, free_port, post_until_taken
 from lib.program import ROOT, Program, ran
 from lib.relay import Relay
 from lib.server import Server, read_all
 from lib.wire_opinion import asked
 
-HERE, POSTED = "/demo/contests/demo", {"problem_id": "a", "language_id": "cpp", "files": [{"data": "YWJj"}]}
 CALLERS = [None, "token-a1", "token-a2", "token-a9", "token-j1", "token-adm", "token-nobody"]
 PATHS = [f"/contests/demo{rest}" for rest in (
     "", "/state", "/scoreboard", "/submissions", "/submissions/s1-1", "/submissions/s1-1/files", "/submissions/s9-9",
@@ -316,23 +314,6 @@ def try_cache(desk):
         f"a board after two seconds: {pending}",
     )
     stop(server, nginx, relay)
-
-
-def post_until_taken(port, team, number):
-    """Posts until the desk has answered, as a page does; the reply, and how often nginx said that the desk is away, or
-    a reply broke off."""
-    client, away = Client(port, f"token-a{team}"), 0
-    body = compact({**POSTED, "files": [{"data": base64.b64encode(f"{team} {number}".encode()).decode()}]})
-    while away < 1_000:
-        try:
-            status, _, reply = client.ask("POST", f"{HERE}/submissions", body, **{"Idempotency-Key": f"k{number}"})
-            if status != 503:
-                return status, reply, away
-        except http.client.IncompleteRead:
-            client.close()
-        away += 1
-        time.sleep(0.02)
-    return 0, b"", away
 
 
 def try_restarts(desk):

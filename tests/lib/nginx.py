@@ -2,19 +2,24 @@
 it."""
 
 import atexit
+import base64
 import collections
 import getpass
 import http.client
 import os
 import re
 import resource
+import signal
 import socket
 import ssl
 import subprocess
 import time
 
+from .import_opinion import compact
 from .program import ROOT
 
+# Where nginx has the demo contest, and what a team posts there.
+HERE, POSTED = "/demo/contests/demo", {"problem_id": "a", "language_id": "cpp", "files": [{"data": "YWJj"}]}
 # What another machine has instead: where things lie, and the ports that the system gives.
 MAIN = """worker_processes {workers};
 user {user};
@@ -26,8 +31,7 @@ events {{ worker_connections {connections}; }}
 http {{
     include /etc/nginx/mime.types;
     default_type application/octet-stream;
-    log_format statuses $status;
-    access_log {folder}/access.log statuses;
+    access_log {folder}/access.log;
     client_body_temp_path {folder}/body;
     proxy_temp_path {folder}/proxy;
     fastcgi_temp_path {folder}/fastcgi;
@@ -87,7 +91,7 @@ class Nginx:
 
     def __init__(self, folder, desks, is_limited=True, workers=2):
         self.folder, self.port, self.plain_port = folder, free_port(), free_port()
-        self.seen, account_port = 0, free_port()
+        self.seen, self.account_port = 0, free_port()
         (folder / "desk/contests").mkdir(parents=True)
         words = ["bash", "-c", CERTIFICATE.replace("/etc/nginx/desk", str(folder / "desk"))]
         subprocess.run(words, check=True, capture_output=True)
@@ -96,7 +100,7 @@ class Nginx:
         listens = {
             "listen 443 ssl": f"listen 127.0.0.1:{self.port} ssl",
             "listen 80": f"listen 127.0.0.1:{self.plain_port}",
-            "listen 127.0.0.1:8079": f"listen 127.0.0.1:{account_port}",
+            "listen 127.0.0.1:8079": f"listen 127.0.0.1:{self.account_port}",
         }
         caches = {"/var/lib/nginx/desk": f"{folder}/cache", "/run/nginx-accounts": f"{folder}/accounts"}
         shown = (lambda text: text) if is_limited else without_limits
@@ -105,13 +109,20 @@ class Nginx:
         for name in ("ask.conf", "account.conf", "pages.conf"):
             self.write(f"desk/{name}", shown(with_texts(name, {})))
         for contest, port in desks.items():
-            own = {"riverside": contest, "8081": str(port), "8079": str(account_port), "/srv/desk/web/": f"{ROOT}/web/"}
-            self.write(f"desk/contests/{contest}.conf", with_texts("riverside.conf", own))
+            self.lead(contest, port)
         self.process = subprocess.Popen(
             ["nginx", "-p", folder, "-c", folder / "nginx.conf", "-e", folder / "error.log"], preexec_fn=few_files
         )
         atexit.register(self.process.terminate)
         self.wait()
+
+    def lead(self, contest, port):
+        """Leads a contest's paths to a port; if nginx runs it takes that up by `reload`."""
+        own = {"riverside": contest, "8081": str(port), "8079": str(self.account_port), "/srv/desk/web/": f"{ROOT}/web/"}
+        self.write(f"desk/contests/{contest}.conf", with_texts("riverside.conf", own))
+
+    def reload(self):
+        self.process.send_signal(signal.SIGHUP)
 
     def write(self, name, text):
         (self.folder / name).write_text(text, encoding="utf-8")
@@ -132,7 +143,7 @@ class Nginx:
         """How many requests were answered by each status since this was called last."""
         text = (self.folder / "access.log").read_text(encoding="utf-8")
         seen, self.seen = self.seen, len(text)
-        return collections.Counter(map(int, text[seen:].split()))
+        return collections.Counter(map(int, re.findall(r'\] "[^"]*" (\d{3}) ', text[seen:])))
 
     def stop(self):
         self.process.terminate()
@@ -156,7 +167,7 @@ class Client:
         try:
             self.client.request(method, path, body, {**self.fields, **fields})
             answer = self.client.getresponse()
-        except (http.client.RemoteDisconnected, BrokenPipeError, ConnectionResetError):
+        except (http.client.RemoteDisconnected, BrokenPipeError, ConnectionResetError, ssl.SSLEOFError):
             self.client.close()
             self.client.request(method, path, body, {**self.fields, **fields})
             answer = self.client.getresponse()
@@ -164,3 +175,20 @@ class Client:
 
     def close(self):
         self.client.close()
+
+
+def post_until_taken(port, team, number):
+    """Posts until the desk has answered, as a page does; the reply, and how often nginx said that the desk is away, or
+    a reply broke off."""
+    client, away = Client(port, f"token-a{team}"), 0
+    body = compact({**POSTED, "files": [{"data": base64.b64encode(f"{team} {number}".encode()).decode()}]})
+    while away < 1_000:
+        try:
+            status, _, reply = client.ask("POST", f"{HERE}/submissions", body, **{"Idempotency-Key": f"k{number}"})
+            if status != 503:
+                return status, reply, away
+        except http.client.IncompleteRead:
+            client.close()
+        away += 1
+        time.sleep(0.02)
+    return 0, b"", away
