@@ -10,12 +10,13 @@ is the last one, or the next. The older copies that stay are in order.
 
 Then two moments that are made to come: the log is moved into the file between the copies of the two, and TO has an old log. A
 desk-copy that does one thing wrong has to be noticed there, as a control: it copies no log, it doesn't look whether the file was
-written, it leaves the old log. At last what it refuses, each with its status and its words, which leaves all copies as they were.
+written, it leaves the old log. Then four copies at once. At last what it refuses, each with its status and its words, which leaves all copies as they were.
 
 Takes faketime. Ends with the line `N passed, M failed`; the exit status is 0 if M is 0.
 """
 
 import base64
+import concurrent.futures
 import hashlib
 import http.client
 import os
@@ -274,6 +275,19 @@ def try_moments(desk):
         print(f"  {what}: with a fault {'the copy lacks ' + str(len(given)) if isinstance(given, list) else given.strip()}")
 
 
+def try_side_by_side(desk):
+    """Copies that are asked for at once come one after the other, each whole."""
+    day = Day(desk)
+    fill(day, 5)
+    with concurrent.futures.ThreadPoolExecutor(4) as pool:
+        said = list(pool.map(lambda _: copied(desk, day.folder, "cup.db", "copy.db"), range(4)))
+    desk.same("four at once", said, [(0, "")] * 4)
+    desk.same("four copies", list(bytes_in(day.folder, "copy.db")), ["copy.db", "copy.db.1", "copy.db.2", "copy.db.3"])
+    for name in bytes_in(day.folder, "copy.db"):
+        day.holds(name, name, day.so_far())
+    day.end()
+
+
 def refusals(desk, day, other):
     """What is refused: the words, more of how it is run, the status, and what is printed."""
     size = (day.folder / "cup.db").stat().st_size
@@ -332,4 +346,4 @@ def keep_fewer(desk, day):
 
 
 if __name__ == "__main__":
-    sys.exit(program.main(__doc__, Program, (try_a_day, try_moments, try_refusals), program="desk", copies=200, seed=1))
+    sys.exit(program.main(__doc__, Program, (try_a_day, try_moments, try_side_by_side, try_refusals), program="desk", copies=200, seed=1))
