@@ -8,11 +8,11 @@ use Rattle.std.proofs.lemmas.Bool.{false≢true}
 use Rattle.std.proofs.lemmas.Cmp.{nat_cmp_total, nat_list_cmp_total, on_total, then_total, tied_itself}
 use Rattle.std.proofs.lemmas.Bool.Decides.{nat_tests}
 use Rattle.std.proofs.lemmas.Map.Lookups.{exact_unsigned}
-use Rattle.contest_types.specs.Order.{Has, IsInOrder, IsStrict, by_each, by_text, place_in}
+use Rattle.contest_types.specs.Order.{Has, IsInOrder, by_each, by_text, place_in}
 use Rattle.contest_types.specs.Setup.{IsValid, Setup}
 use Rattle.contest_types.specs.TeamPlaces.{is_of_group, is_public, name_at, team_id_at}
 use Rattle.contest_types.proofs.InOrderLemmas.{filter_has, has_filter, nothing_added, place_less}
-use Rattle.contest_types.proofs.OrderLemmas.{before_each}
+use Rattle.contest_types.proofs.OrderLemmas.{before_each, same_order}
 use Rattle.contest_types.proofs.PlaceLemmas.{and_left, and_right}
 use Rattle.contest_types.proofs.Rising.{before_all, place_tied, rising, strict}
 use Rattle.contest_types.proofs.SettingsTest.{is_settings}
@@ -41,26 +41,6 @@ filtered_order {X} before p (x ∷ xs) i = go (p x) (filtered_order before p xs 
     go : (b : Bool) → IsInOrder before (filter p xs) → IsInOrder before (if b then x ∷ filter p xs else filter p xs)
     go true rest = (before_all before x (filter p xs) (λ y k. before_each before x xs y i.0 (filter_has p xs y k).0), rest)
     go false rest = rest
-
--- what has the same elements in one strict order is the same
-one_list : {X : Type 0} (before : X → X → Bool) → IsStrict before → (xs ys : List X) → IsInOrder before xs → IsInOrder before ys → ((z : X) → Has xs z → Has ys z) → ((z : X) → Has ys z → Has xs z) → xs ≡ ys
-one_list before s [] [] i j to from = refl
-one_list before s [] (y ∷ ys) i j to from = absurd (from y (inl refl))
-one_list before s (x ∷ xs) [] i j to from = absurd (to x (inl refl))
-one_list {X} before s (x ∷ xs) (y ∷ ys) i j to from =
-    let same : x ≡ y = elim (to x (inl refl)) [
-      | inl e ↦ e
-      | inr behind ↦ elim (from y (inl refl)) [ inl e ↦ sym e | inr k ↦ absurd (s.never x y (before_each before x xs y i.0 k) (before_each before y ys x j.0 behind)) ]
-    ] in
-    let forth : (z : X) → Has xs z → Has ys z = λ z k. elim (to z (inr k)) [
-      | inl e ↦ (let loop : before x x ≡ true = ap (before x) (same ∙ sym e) ∙ before_each before x xs z i.0 k in absurd (s.never x x loop loop))
-      | inr l ↦ l
-    ] in
-    let back : (z : X) → Has ys z → Has xs z = λ z k. elim (from z (inr k)) [
-      | inl e ↦ (let loop : before y y ≡ true = ap (before y) (sym same ∙ sym e) ∙ before_each before y ys z j.0 k in absurd (s.never y y loop loop))
-      | inr l ↦ l
-    ] in
-    ap (λ z. z ∷ xs) same ∙ ap (λ zs. y ∷ zs) (one_list before s xs ys i.1 j.1 forth back)
 
 -- ---- the order of teams by their scores
 
@@ -141,5 +121,5 @@ group_boards_keep_the_order a now group x valid =
     (let f = filter_has (is_of_group s group) whole u h in
     let k = (on_whole u).0 f.0 in
     (on_part u).1 (k.0, and_both (is_public s u) (is_of_group s group u) k.1 f.1)) in
-    one_list (λ u w. is_lt (team_cmp s cells u w)) (strict (team_cmp_total s cells)) part (filter (is_of_group s group) whole) (teams_ordered s (is_on_board s (Some group)) cells)
+    same_order (λ u w. is_lt (team_cmp s cells u w)) (strict (team_cmp_total s cells)) part (filter (is_of_group s group) whole) (teams_ordered s (is_on_board s (Some group)) cells)
     (filtered_order (λ u w. is_lt (team_cmp s cells u w)) (is_of_group s group) whole (teams_ordered s (is_public s) cells)) to from

@@ -11,3 +11,4 @@ pub mod AdminLaws
 pub mod GroupLaws
 pub mod Examples
 pub mod IdLaws
+pub mod ClarificationLaws

@@ -2,7 +2,7 @@
 //! nothing, and whose contracts say what holds of every contest (own).
 ghost use Rattle.contest_laws.specs.Finals.{FinalResultsStay};
 ghost use Rattle.contest_laws.specs.GroupBoards.{GroupBoardsKeepTheOrder};
-ghost use Rattle.contest_laws.specs.Ids.{SubmissionIdsStay};
+ghost use Rattle.contest_laws.specs.Ids.{ClarificationsStay, SubmissionIdsStay};
 ghost use Rattle.contest_laws.specs.Standing.{ClosedRejudgingsStay, ComeThawStays, HeldReleasesMoveNoBoard, OnlyAdminsReplaceTokens};
 ghost use Rattle.contest_laws.specs.Verdicts.{OnlyRejudgingsRevise, TwoJudgesRejudge, TwoJudgesRelease};
 
@@ -62,4 +62,10 @@ pub fn group_boards_keep_the_order()
 /// after it: the same object, byte for byte, or that there is none.
 pub fn submission_ids_stay()
     ensures { SubmissionIdsStay }
+{}
+
+/// What an audience was served of clarifications it is served for good, word for word: their ids
+/// name the same.
+pub fn clarifications_stay()
+    ensures { ClarificationsStay }
 {}
