@@ -1,5 +1,5 @@
 -- Which command the words name, and what is told where they name none or ask for help.
-use Rattle.std.specs.Prelude.{◌≡◌, ◌⊎◌, ℕ, List, [], ◌∷◌, ◌++◌, Option, Some, None, codes, ◌||◌, if◌then◌else◌}
+use Rattle.std.specs.Prelude.{◌≡◌, ◌⊎◌, ℕ, Bool, List, [], ◌∷◌, ◌++◌, Option, Some, None, codes, ◌||◌, if◌then◌else◌}
 use Rattle.std.specs.Io.KnownBytes.{Keeps}
 use Rattle.std.specs.List.{list_any}
 use Rattle.std.specs.Str.{bytes_eq}
@@ -10,7 +10,7 @@ use Rattle.contest_cli_words.specs.Help.{is_help}
 use Rattle.contest_cli.specs.declared.invocation.CommandName.{CommandName}
 use Rattle.contest_cli.specs.declared.invocation.CommandName.TheVariants.{Replay, Audit, Init, Import, Board, Awards, Export, Feed, Serve, Upgrade}
 use Rattle.contest_cli.specs.declared.invocation.Invocation.{Invocation}
-use Rattle.contest_cli.specs.declared.invocation.Invocation.TheVariants.{Nothing, Help, To, HelpOf, Unknown}
+use Rattle.contest_cli.specs.declared.invocation.Invocation.TheVariants.{Nothing, Help, Version, To, HelpOf, Unknown}
 
 -- the command that a word names
 abbrev pub command_named : Text → Option CommandName
@@ -34,10 +34,29 @@ abbrev pub asked_of_named : Option CommandName → List Text → Invocation
 asked_of_named None options = Unknown
 asked_of_named (Some command) options = asked_of command options
 
+-- what `help` is asked for: the help of the command that the next word names, else the program's
+abbrev pub help_on_named : Option CommandName → Invocation
+help_on_named None = Help
+help_on_named (Some command) = HelpOf command
+
+abbrev pub help_on : List Text → Invocation
+help_on [] = Help
+help_on (name ∷ more) = help_on_named (command_named name)
+
+-- an option asks for the version
+abbrev pub is_version : Text → Bool
+is_version word = bytes_eq word (codes "--version") || bytes_eq word (codes "-V")
+
 -- what the words ask for, by the first of them
 abbrev pub invocation_of : List Text → Invocation
 invocation_of [] = Nothing
-invocation_of (name ∷ options) = if bytes_eq name (codes "help") || is_help name then Help else asked_of_named (command_named name) options
+invocation_of (name ∷ options) =
+    if bytes_eq name (codes "help") then help_on options
+    else (if is_help name then Help else (if is_version name then Version else asked_of_named (command_named name) options))
+
+-- what is shown of the version: the program's, and the kit and the logic that proved it
+abbrev pub version_text : List ℕ
+version_text = codes "desk 1.0.0, proved by rattle-kit-13f logic dac8208d650f15bf\n"
 
 -- the words name no command
 abbrev pub NamesNone : List Text → Type 0

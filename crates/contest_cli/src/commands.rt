@@ -3,15 +3,15 @@ ghost use Rattle.std.specs.Prelude.{◌≡◌, ◌≤◌, codes, map, string_byt
 ghost use Rattle.sqlite.specs.Files.{over_files};
 ghost use Rattle.contest_streams.specs.Streams.{stream};
 ghost use Rattle.contest_cli_audit.specs.Audit.{Audits};
-ghost use Rattle.contest_cli_words.specs.Endings.{ShowsSome, TellsWords};
+ghost use Rattle.contest_cli_words.specs.Endings.{Shows, ShowsSome, TellsWords};
 ghost use Rattle.contest_cli.specs.Commands.{AsksHelp, NamesNone, TellsNone, TellsUnknown};
-ghost use Rattle.contest_cli.specs.Commands.{first_word, invocation_of, unknown_command};
+ghost use Rattle.contest_cli.specs.Commands.{first_word, invocation_of, unknown_command, version_text};
 ghost use Rattle.contest_cli.specs.Runs.{Runs};
 ghost use Rattle.contest_cli_commands.specs.Serve.{ServesOn};
 ghost use Rattle.contest_cli.specs.declared.invocation.CommandName.{CommandName};
 
 use crate::file_command::run_by_words;
-use crate::help::{HELP, show_help_of};
+use crate::help::{HELP, VERSION, show_help_of};
 use crate::invocation::{CommandName, Invocation, invocation_of};
 use contest_cli_audit::audit;
 use contest_cli_machine::{
@@ -102,7 +102,7 @@ fn run_owned<M: Machine, R: Read, O: Write, E: Write>(
 /// Runs the command that the words name; the program's own name isn't among them. Answers the exit
 /// status: 0 where it did what was asked, 1 where that was refused or a stream failed, 2 where the
 /// words have a fault or name no command, and of `audit` alone 3 where a board differs from another.
-/// Help that is asked for goes to `out`.
+/// Help and the version that are asked for go to `out`.
 pub fn run<M: Machine, R: Read, O: Write, E: Write>(
     alloc: Global,
     machine: M,
@@ -121,6 +121,9 @@ pub fn run<M: Machine, R: Read, O: Write, E: Write>(
     ensures help { AsksHelp (map (λ s. s.now) words.now)
         → ShowsSome (stream O.contents out.old) (stream O.contents out.new)
         (stream E.contents err.old) (stream E.contents err.new) result }
+    ensures version { invocation_of (map (λ s. s.now) words.now) ≡ Invocation.Version
+        → Shows version_text (stream O.contents out.old) (stream O.contents out.new)
+        (stream E.contents err.old) (stream E.contents err.new) result }
     ensures nothing { invocation_of (map (λ s. s.now) words.now) ≡ Invocation.Nothing
         → TellsNone (stream O.contents out.old) (stream O.contents out.new)
         (stream E.contents err.old) (stream E.contents err.new) result }
@@ -135,6 +138,7 @@ pub fn run<M: Machine, R: Read, O: Write, E: Write>(
             2
         }
         Invocation::Help => show(HELP.as_bytes(), out, err),
+        Invocation::Version => show(VERSION.as_bytes(), out, err),
         Invocation::To(command) => run_command(alloc, machine, command, words, reader, out, err),
         Invocation::HelpOf(command) => show_help_of(alloc, command, out, err),
         Invocation::Unknown => refuse_command(alloc, first_of(words), err),

@@ -15,6 +15,9 @@ use contest_types::Refusal;
 use std::alloc::{AllocError, Global};
 use std::io::Write;
 
+/// What `desk --version` shows: the version, and the kit and logic that prove it (`rt version`).
+pub(crate) const VERSION: &str = "desk 1.0.0, proved by rattle-kit-13f logic dac8208d650f15bf\n";
+
 /// What `desk help` shows.
 pub(crate) const HELP: &str = "\
 Jury and scoreboard desk of a programming contest
@@ -32,7 +35,7 @@ Commands:
   feed     Writes the event feed of a contest as somebody is served it
   serve    Serves a contest over HTTP, to this machine alone
   upgrade  Makes a file of the first schema one of the schema of today
-  help     Prints this text
+  help     Prints this text, or the help of a command
 
 Examples:
   desk replay --at 1:30:00 < contest.csv
@@ -44,10 +47,10 @@ Examples:
   desk awards cup.db --jury
   desk export cup.db > submissions.csv
   desk feed cup.db --audience jury > event-feed.ndjson
-  desk serve cup.db --requests 1000 --port 8080
+  desk serve cup.db --requests all --port 8080
   desk upgrade cup.db
 
-'desk <COMMAND> --help' tells more of a command. docs/FORMATS.md says how to
+'desk help <COMMAND>' tells more of a command. docs/FORMATS.md says how to
 write a contest as CSV.
 ";
 

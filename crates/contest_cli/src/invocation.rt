@@ -1,6 +1,6 @@
 //! What the words ask for, by the first of them.
 ghost use Rattle.std.specs.Prelude.{◌≡◌, map};
-ghost use Rattle.contest_cli.specs.Commands.{asked_of, command_named, invocation_of};
+ghost use Rattle.contest_cli.specs.Commands.{asked_of, command_named, help_on, invocation_of};
 
 use contest_cli_words::{asks_help, is_help};
 
@@ -36,6 +36,8 @@ pub enum Invocation {
     Nothing,
     /// The program's help.
     Help,
+    /// The program's version.
+    Version,
     /// A command.
     To(CommandName),
     /// The help of a command.
@@ -52,12 +54,31 @@ pub(crate) fn invocation_of(words: &[&str]) -> Invocation
         return Invocation::Nothing;
     }
     let name = words[0];
-    if name == "help" || is_help(name) {
+    if name == "help" {
+        return help_on(&words[1..]);
+    }
+    if is_help(name) {
         return Invocation::Help;
+    }
+    if name == "--version" || name == "-V" {
+        return Invocation::Version;
     }
     match command_named(name) {
         Some(command) => asked_of(command, &words[1..]),
         None => Invocation::Unknown,
+    }
+}
+
+// What `help` is asked for: the help of the command that the next word names, else the program's.
+fn help_on(words: &[&str]) -> Invocation
+    ensures { result ≡ help_on (map (λ s. s.now) words.now) }
+{
+    if words.is_empty() {
+        return Invocation::Help;
+    }
+    match command_named(words[0]) {
+        Some(command) => Invocation::HelpOf(command),
+        None => Invocation::Help,
     }
 }
 

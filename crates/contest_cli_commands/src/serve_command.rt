@@ -31,7 +31,7 @@ pub fn run_serve<S: Alter, N: Network, O: Write, E: Write>(
     conn: Connection<S>,
     network: &N,
     port: u16,
-    requests: u32,
+    requests: u64,
     out: &mut Counted<O>,
     err: &mut Counted<E>,
 ) -> (u8, Connection<S>)
@@ -56,7 +56,7 @@ fn serve_desk<S: ContestStore, N: Network, O: Write, E: Write>(
     desk: &mut Desk<S>,
     network: &N,
     port: u16,
-    requests: u32,
+    requests: u64,
     out: &mut Counted<O>,
     err: &mut Counted<E>,
 ) -> u8
@@ -79,7 +79,7 @@ fn serve_from<S: ContestStore, N: Network, O: Write, E: Write>(
     desk: &mut Desk<S>,
     network: &N,
     listener: &mut N::Listener,
-    requests: u32,
+    requests: u64,
     out: &mut Counted<O>,
     err: &mut Counted<E>,
 ) -> u8

@@ -23,7 +23,7 @@ pub fn serve<S: ContestStore, N: Network>(
     desk: &mut Desk<S>,
     network: &N,
     listener: &mut N::Listener,
-    requests: u32,
+    requests: u64,
 ) -> Result<(), CommandError>
     ensures clients { IfOk result (λ _. ServesClients N.Listener.gives N.Listener.parts (N.shows network.now) N.Listener.Reader.remaining N.Listener.Writer.contents S.kept requests listener.old listener.new desk.old desk.new) }
     ensures fewer { IfErr result (λ stop. ServesFewer N.Listener.gives N.Listener.parts (N.shows network.now) N.Listener.Reader.remaining N.Listener.Writer.contents S.kept N.Listener.breaks requests listener.old listener.new stop desk.old desk.new) }

@@ -1,6 +1,7 @@
 -- What the words of `serve` name.
 use Rattle.std.specs.Prelude.{◌≡◌, ◌&&◌, ◌∷◌, ◌++◌, ℕ, List, [], Option, Some, None, codes, nat_le, if◌then◌else◌}
 use Rattle.std.specs.Option.{option_and_then}
+use Rattle.std.specs.Str.{bytes_eq}
 use Rattle.std.specs.Str.Parse.{digits_value}
 use Rattle.clap.specs.Simple.{App}
 use Rattle.clap.specs.Walk.{Row, Text, first_of}
@@ -17,9 +18,13 @@ serve_app = command_with (codes "serve") (word (codes "FILE") ∷ option (codes 
 abbrev pub number_to : (most : ℕ) → Text → Option ℕ
 number_to most text = if are_digits text && nat_le (digits_value 10 text) most then Some (digits_value 10 text) else None
 
--- how many requests are served; there is no usual number
+-- how many requests are served: the number that a text writes, or as many as there can be for `all`
+abbrev pub number_or_all : Text → Option ℕ
+number_or_all text = if bytes_eq text (codes "all") then Some 18_446_744_073_709_551_615 else number_to 4_294_967_295 text
+
+-- there is no usual number
 abbrev pub requests_of : Option Text → Option ℕ
-requests_of text = option_and_then (number_to 4_294_967_295) text
+requests_of text = option_and_then number_or_all text
 
 -- the port; without one the system chooses, which 0 asks for
 abbrev pub port_of : Option Text → Option ℕ

@@ -17,8 +17,8 @@ use std::alloc::{AllocError, Global};
 pub struct ServeWords<'a> {
     /// The file that keeps the contest.
     pub file: &'a str,
-    /// How many requests are served.
-    pub requests: u32,
+    /// How many requests are served: 2^64 - 1 for `all`, which no machine comes to.
+    pub requests: u64,
     /// The port that clients connect to; 0 leaves it to the system.
     pub port: u16,
 }
@@ -32,7 +32,7 @@ static ROWS: [WordRow; 3] = [
     WordRow {
         name: "requests",
         kind: WordKind::Option("N"),
-        help: "Ends once so many connections were served; there is no usual number",
+        help: "Ends once so many connections were served, or never with 'all'",
     },
     WordRow {
         name: "port",
@@ -67,7 +67,7 @@ impl<'a> CommandWords<'a> for ServeWords<'a> {
     fn named(alloc: Global, values: &ArgMatches<'a>) -> Result<ServeWords<'a>, CommandError> {
         let file = word_in(values, "FILE");
         let Some(requests) = requests_in(value_in(values, "requests")) else {
-            return Err(no_number(alloc, "--requests <N>", "4294967295"));
+            return Err(no_number(alloc, "--requests <N>", "4294967295, or 'all'"));
         };
         let Some(port) = port_in(value_in(values, "port")) else {
             return Err(no_number(alloc, "--port <P>", "65535"));
@@ -81,13 +81,14 @@ impl<'a> CommandWords<'a> for ServeWords<'a> {
 }
 
 // How many requests a text asks for.
-fn requests_in(text: Option<&str>) -> Option<u32>
+fn requests_in(text: Option<&str>) -> Option<u64>
     ensures { result ≡ requests_of (option_map (λ s. s.now) text.entry) }
 {
-    match number_to(text?, 4_294_967_295) {
-        Some(number) => Some(number as u32),
-        None => None,
+    let text = text?;
+    if text == "all" {
+        return Some(u64::MAX);
     }
+    number_to(text, 4_294_967_295)
 }
 
 // Which port a text asks for; the system's choice without one.
