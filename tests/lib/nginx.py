@@ -87,13 +87,13 @@ def few_files():
 
 class Nginx:
     """nginx before desks, each named by its contest and its port. It ends with the script. For a script that asks more than
-    people do, the limits can be taken away."""
+    people do, the limits can be taken away. Its certificate is one of the machine's name, or of another."""
 
-    def __init__(self, folder, desks, is_limited=True, workers=2):
+    def __init__(self, folder, desks, is_limited=True, workers=2, name="$(hostname -f)"):
         self.folder, self.port, self.plain_port = folder, free_port(), free_port()
         self.seen, self.account_port = 0, free_port()
         (folder / "desk/contests").mkdir(parents=True)
-        words = ["bash", "-c", CERTIFICATE.replace("/etc/nginx/desk", str(folder / "desk"))]
+        words = ["bash", "-c", CERTIFICATE.replace("/etc/nginx/desk", str(folder / "desk")).replace("$(hostname -f)", name)]
         subprocess.run(words, check=True, capture_output=True)
         own = {"folder": folder, "user": getpass.getuser(), "workers": workers, "connections": CONNECTIONS}
         self.write("nginx.conf", MAIN.format(**own))
@@ -139,11 +139,16 @@ class Nginx:
     def errors(self):
         return (self.folder / "error.log").read_text(encoding="utf-8")
 
-    def statuses(self):
-        """How many requests were answered by each status since this was called last."""
+    def answered(self):
+        """The status, the method and the path of each request since this or `statuses` was called last."""
         text = (self.folder / "access.log").read_text(encoding="utf-8")
-        seen, self.seen = self.seen, len(text)
-        return collections.Counter(map(int, re.findall(r'\] "[^"]*" (\d{3}) ', text[seen:])))
+        seen, self.seen = self.seen, text.rfind("\n") + 1
+        asked = re.findall(r'\] "([^"]*)" (\d{3}) ', text[seen : self.seen])
+        return [(int(status), *(line.split(" ") + [""])[:2]) for line, status in asked]
+
+    def statuses(self):
+        """How many requests were answered by each status since this or `answered` was called last."""
+        return collections.Counter(status for status, _, _ in self.answered())
 
     def stop(self):
         self.process.terminate()
