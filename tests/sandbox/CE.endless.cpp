@@ -1,0 +1,3 @@
+// Reads without end while it is compiled.
+#include "/dev/zero"
+int main() {}

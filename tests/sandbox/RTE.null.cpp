@@ -1,0 +1,4 @@
+int main() {
+    volatile int *none = nullptr;
+    return *none;
+}

