@@ -7,8 +7,9 @@ The command judges by the word that a program holds (lib/bridge.py): it names a 
 prints without end or what is no type. N submissions (36) are judged by one bridge that proposes and one that verifies,
 while both and the desk are killed and started again, and by two that propose beside a verifier and beside a judge: in the
 end each has one verdict, the right one, and what the command can't say has none. Files are fetched as often as is said. A
-bridge takes the oldest first and so many at once, gives the command its words and no token, tells once what it leaves, and
-goes on with a proposal that is mended. A made-up desk asks for patience by 429 and 503, and breaks off.
+bridge takes the oldest first and so many at once, gives the command its words and no token, and tells once what it leaves.
+It goes on with a proposal that is mended, and beside a desk that goes on from an older copy. A made-up desk asks for
+patience by 429 and 503, and breaks off.
 
 Takes nginx, openssl and faketime. Ends with the line `N passed, M failed`; the exit status is 0 if M is 0.
 """
@@ -98,7 +99,7 @@ class Place:
 
     def fetched(self):
         """How often the file of each submission was had through nginx, since this was asked last."""
-        paths = [path for status, method, path in self.nginx.answered() if status == "200" and path.endswith("/files")]
+        paths = [path for status, method, path in self.nginx.answered() if status == 200 and path.endswith("/files")]
         return collections.Counter(path.split("/")[-2] for path in paths)
 
     def stop(self, bridges):
@@ -239,6 +240,30 @@ def try_left(desk):
     place.stop([first, second])
 
 
+def try_older_copy(desk):
+    """A desk that goes on from an older copy gives an id again: what the command says of the one program isn't given to the
+    other."""
+    place = Place(desk, demo.STARTED)
+    place.server.stop()
+    kept = {file: file.read_bytes() for file in place.folder.glob("cup.db*")}
+    place.begin()
+    lost = place.submit("LONG", minute=5)
+    bridge = place.bridge(limit="20")
+    place.comes("the call", lambda: len(place.calls.lines()) == 1)
+    place.server.stop(signal.SIGKILL)
+    for file in place.folder.glob("cup.db*"):
+        file.unlink()
+    for file, data in kept.items():
+        file.write_bytes(data)
+    place.begin()
+    desk.same("the id of another program", place.submit("AC", minute=6), lost)
+    place.comes("the end of the first call", lambda: len(place.calls.lines("ends")) >= 1)
+    place.comes("its verdict", lambda: place.verdicts() == {lost: "AC"})
+    time.sleep(1)
+    desk.same("how often the command was called", len(place.calls.lines()), 2)
+    place.stop([bridge])
+
+
 def try_ends(desk):
     """A bridge that is ended ends its commands; one that nobody lets in says so."""
     place = Place(desk, demo.STARTED)
@@ -307,7 +332,7 @@ def try_patience(desk):
     server.shutdown()
 
 
-PARTS = (try_kills, try_two_that_propose, try_command, try_left, try_ends, try_patience)
+PARTS = (try_kills, try_two_that_propose, try_command, try_left, try_older_copy, try_ends, try_patience)
 
 if __name__ == "__main__":
     sys.exit(program.main(__doc__, Program, PARTS, program="desk", submissions=36))

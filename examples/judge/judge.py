@@ -17,6 +17,7 @@ if the desk refuses its account.
 """
 
 import argparse
+import contextlib
 import dataclasses
 import http.client
 import json
@@ -196,11 +197,11 @@ class Command:
 
 
 def end_group(process):
-    """Ends a process that has a session of its own, and all that it began there."""
-    try:
-        os.killpg(process.pid, signal.SIGKILL)
-    except ProcessLookupError:
-        pass
+    """Ends a process that has a session of its own, and all that it began there. The number of one that was waited for
+    may be another's by now."""
+    if process.returncode is None:
+        with contextlib.suppress(ProcessLookupError):
+            os.killpg(process.pid, signal.SIGKILL)
 
 
 @dataclasses.dataclass(frozen=True)

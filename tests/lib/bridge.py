@@ -16,6 +16,7 @@ echo "begins $id $(date +%s.%N) $1 $2 <$3> $rest" >> @FOLDER@/calls
 case $word in
 FAIL) exit 3 ;;
 SLOW) sleep 60 ;;
+LONG) sleep 3; echo WA ;;
 ENDLESS) yes ;;
 NOTHING) ;;
 TWO) echo AC WA ;;
