@@ -141,7 +141,8 @@ def try_kills(desk):
             second.stop((signal.SIGKILL, signal.SIGTERM)[number // 6 % 2])
             second, lives = place.bridge(*verifying, token="token-j2"), lives + 1
         time.sleep(0.5)
-    time.sleep(4)
+    place.comes("a call for each", lambda: place.words.keys() == {line[1] for line in place.calls.lines()})
+    time.sleep(0.5)
     # What the command said nothing of at first is tried by the next who starts.
     first.stop(signal.SIGKILL)
     first, lives = place.bridge(*proposing), lives + 1

@@ -142,6 +142,7 @@ def try_programs(desk):
         for name, (given, took) in zip(names, pool.map(judge, names)):
             desk.same(name, given, (0, f"{name.partition('.')[0]}\n", ""))
             desk.note(took < 30, f"{name} took {took:.1f} s")
+    time.sleep(0.2)
     desk.same("processes that are left", processes_of(USER), [])
     after = {file: file.read_bytes() for file in desk.problems.rglob("*") if file.is_file()}
     desk.same("the tests, afterwards", after, before)
@@ -163,6 +164,7 @@ def try_harm(desk):
         desk.same(f"{name}, outside", ran([*AS_USER, *words], input=b"3 4\n")[1].strip(), b"7")
     shutil.rmtree(desk.place)
     desk.place.mkdir()
+    time.sleep(0.2)
     desk.note(len(desk.reached) == 2, f"outside of the sandbox {len(desk.reached)} of 2 were reached")
 
 
