@@ -4,11 +4,13 @@ says what they try, beside each other.
 
     gate_scripts.py
 
-Each is in all three, its head names each option that it is run with, and the words of .ci/run are those of the table. Ends
-with the line 'N passed, N failed'.
+Each is in all three, its head names each option that it is run with, and the words of .ci/run are those of the table. Also,
+the kit and the logic that `desk --version` and README.md name are those that `rt version` does. Ends with the line 'N passed,
+N failed'.
 """
 
 import re
+import subprocess
 import sys
 
 from lib.program import ROOT, TESTS
@@ -52,7 +54,13 @@ def try_words(tally):
     tally.same("words of the test command", asked, list(dict.fromkeys(word for word, _ in rows())))
 
 
+def try_kit(tally):
+    kit = subprocess.run(["rt", "version"], stdout=subprocess.PIPE, text=True, check=True).stdout.strip()
+    for name in ("README.md", "docs/GUIDE.md", "crates/contest_cli/src/help.rt", "crates/contest_cli/specs/Commands.antt"):
+        tally.note(kit in (ROOT / name).read_text(encoding="utf-8"), f"{name}: names another kit than {kit}")
+
+
 if __name__ == "__main__":
     counts = Tally()
-    counts.run_parts((try_names, try_options, try_words))
+    counts.run_parts((try_names, try_options, try_words, try_kit))
     sys.exit(counts.end())
