@@ -1,11 +1,11 @@
-"""How many of a script's cases held, and how many didn't."""
+"""How many of a script's cases held, how many didn't, and how many couldn't be tried here."""
 
 import threading
 
 
 class Tally:
     def __init__(self):
-        self.passed = self.failed = 0
+        self.passed = self.failed = self.skipped = 0
         self.lock = threading.Lock()
 
     def note(self, is_right, what):
@@ -18,6 +18,11 @@ class Tally:
     def same(self, what, given, wanted):
         self.note(given == wanted, f"{what}: {given!r}, wanted {wanted!r}")
 
+    def skip(self, why):
+        """Counts a case that can't be tried on this machine, and says why."""
+        self.skipped += 1
+        print(f"skipped: {why}", flush=True)
+
     def run_parts(self, parts):
         """Runs the parts of a script, each named try_ and what it tries, and tells of each how much held."""
         for part in parts:
@@ -27,5 +32,6 @@ class Tally:
 
     def end(self):
         """Prints the last line, and gives the exit status."""
-        print(f"{self.passed} passed, {self.failed} failed")
+        skipped = f", {self.skipped} skipped" if self.skipped else ""
+        print(f"{self.passed} passed, {self.failed} failed{skipped}")
         return 1 if self.failed else 0
