@@ -311,10 +311,11 @@ def fresh_root(package):
     if os.geteuid() or package.options.no_root:
         package.skip("no fresh root: it takes root's rights, and no --no-root")
         return None
-    status, text = said(*words)
-    if status:
-        package.skip(f"no fresh root: mmdebstrap says {text[-300:]}")
-        return None
+    for tool, call in ("unshare", ["unshare", "--mount", "--net", "--pid", "--fork", "true"]), ("mmdebstrap", words):
+        status, text = said(*call)
+        if status:
+            package.skip(f"no fresh root: {tool} says {text[-300:]}")
+            return None
     tool = root / "usr/local/sbin/systemctl"
     tool.write_text(SYSTEMCTL, encoding="utf-8")
     tool.chmod(0o755)
