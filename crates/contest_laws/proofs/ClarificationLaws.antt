@@ -1,5 +1,5 @@
 -- What was heard of clarifications is heard for good.
-use Rattle.std.proofs.Common.{◌≡◌, ◌∙◌, ◌<◌, ◌-◌, ℕ, true, false, List, [], ◌∷◌, Option, Some, None, arith, length, inr, refl, sym, ap, subst}
+use Rattle.std.proofs.Common.{◌≡◌, ◌∙◌, ◌-◌, ℕ, true, false, List, [], Option, Some, None, arith, length, inr, refl, sym, ap, subst}
 use Rattle.std.specs.Prelude.{◌&&◌, ◌==◌, is_some, nat_le, nat_lt, if◌then◌else◌}
 use Rattle.std.specs.List.{list_all, list_any}
 use Rattle.std.specs.Option.{option_and_then, option_map, option_map_or}
@@ -36,7 +36,7 @@ use Rattle.contest_operations.specs.Growing.{Grows, IsFront}
 use Rattle.contest_operations.proofs.Fronts.{Extends, extends, team_stays}
 use Rattle.contest_desk.proofs.RepeatLemmas.{runs_grow}
 use Rattle.contest_laws.specs.Ids.{ClarificationsStay}
-use Rattle.contest_laws.proofs.IdLaws.{still_valid}
+use Rattle.contest_laws.proofs.IdLaws.{some_stand, still_valid}
 
 -- who is there hears of what is there as before
 hears_stays : (f g : FixedPart) (a : Audience) → Extends f g → is_audience f.settings a ≡ true → (to : Addressee) → hears a g.settings to ≡ hears a f.settings to
@@ -100,10 +100,6 @@ item_still f g a c h n =
       id = id;
       object = object (clarification_members (h.start i) (if c.from_jury then none else whose i) id (problem i) (option_map reference_id (option_and_then (heard_reference a f.settings) c.reply)) c.text c.time (group i) (if c.from_jury then whose i else none));
     }
-
-some_stand : (cs : List Clarification) (c : Clarification) → Has cs c → 0 < length cs
-some_stand [] c h = absurd h
-some_stand (d ∷ cs) c h = omega arith
 
 pub clarifications_stay : ClarificationsStay
 clarifications_stay a x y items answers valid here run served there =

@@ -1,6 +1,6 @@
 -- A group's board keeps the order of the whole board: both are in one order, which goes by scores and not by ranks.
 use Rattle.std.proofs.Common.{nat_cmp, ◌+◌, ◌≡◌, ◌∙◌, ◌<◌, ℕ, Bool, true, false, List, [], ◌∷◌, length, map, filter, None, Some, inl, inr, refl, sym, ap, subst, arith, Ordering}
-use Rattle.std.specs.Prelude.{◌&&◌, ◌↔◌, if◌then◌else◌}
+use Rattle.std.specs.Prelude.{◌↔◌, if◌then◌else◌}
 use Rattle.std.specs.Cmp.{IsTotalOrder}
 use Rattle.std.specs.Ordering.{is_lt, ordering_reverse, ordering_then}
 use Rattle.std.specs.declared.cmp.Ordering.TheVariants.{Less, Equal, Greater}
@@ -13,7 +13,7 @@ use Rattle.contest_types.specs.Setup.{IsValid, Setup}
 use Rattle.contest_types.specs.TeamPlaces.{is_of_group, is_public, name_at, team_id_at}
 use Rattle.contest_types.proofs.InOrderLemmas.{filter_has, has_filter, nothing_added, place_less}
 use Rattle.contest_types.proofs.OrderLemmas.{before_each, same_order}
-use Rattle.contest_types.proofs.PlaceLemmas.{and_left, and_right}
+use Rattle.contest_types.proofs.PlaceLemmas.{and_left, and_right, both_true}
 use Rattle.contest_types.proofs.Rising.{before_all, place_tied, rising, strict}
 use Rattle.contest_types.proofs.SettingsTest.{is_settings}
 use Rattle.contest_types.proofs.ValidParts.{parts}
@@ -89,10 +89,6 @@ as_scores s shown cells u w there above = go (by_scores s cells u w) refl
 
 -- ---- the two boards
 
-and_both : (b c : Bool) → b ≡ true → c ≡ true → (b && c) ≡ true
-and_both true c e f = f
-and_both false c e f = absurd (false≢true e)
-
 teams_are : (s : Setup) (shown : ℕ → Bool) (cells : ℕ → ℕ → Cell) (us : List ℕ) → teams_of (map (row_of s shown cells) us) ≡ us
 teams_are s shown cells [] = refl
 teams_are s shown cells (u ∷ us) = ap (λ ws. u ∷ ws) (teams_are s shown cells us)
@@ -120,6 +116,6 @@ group_boards_keep_the_order a now group x valid =
     let from : (u : ℕ) → Has (filter (is_of_group s group) whole) u → Has part u = λ u h.
     (let f = filter_has (is_of_group s group) whole u h in
     let k = (on_whole u).0 f.0 in
-    (on_part u).1 (k.0, and_both (is_public s u) (is_of_group s group u) k.1 f.1)) in
+    (on_part u).1 (k.0, both_true (is_public s u) (is_of_group s group u) k.1 f.1)) in
     same_order (λ u w. is_lt (team_cmp s cells u w)) (strict (team_cmp_total s cells)) part (filter (is_of_group s group) whole) (teams_ordered s (is_on_board s (Some group)) cells)
     (filtered_order (λ u w. is_lt (team_cmp s cells u w)) (is_of_group s group) whole (teams_ordered s (is_public s) cells)) to from

@@ -89,9 +89,9 @@ object_stays a x y now later s h w =
 sight_stays : (a : Audience) (x y : ContestState) (s : Submission) → Extends x.fixed y.fixed → Within x.fixed s → sees_submission a y s ≡ sees_submission a x s
 sight_stays a x y s h w = ap (λ b. knows_all_of a s.team || b) (team_stays (λ (t : Team). not t.hidden) false (λ t. refl) x.fixed y.fixed s.team h w.team)
 
-some_stand : (ss : List Submission) (s : Submission) → Has ss s → 0 < length ss
-some_stand [] s h = absurd h
-some_stand (t ∷ ss) s h = omega arith
+pub some_stand : {X : Type 0} (xs : List X) (x : X) → Has xs x → 0 < length xs
+some_stand [] x h = absurd h
+some_stand (y ∷ xs) x h = omega arith
 
 pub submission_ids_stay : SubmissionIdsStay
 submission_ids_stay a x y items answers now later valid run s there =
