@@ -7,8 +7,10 @@ pub mod FinalLemmas
 pub mod FinalLaws
 pub mod Touches
 pub mod StandingLaws
+pub mod ReplayLaws
 pub mod AdminLaws
 pub mod GroupLaws
 pub mod Examples
+pub mod ExamplesReplays
 pub mod IdLaws
 pub mod ClarificationLaws

@@ -4,3 +4,4 @@ pub mod Finals
 pub mod Standing
 pub mod GroupBoards
 pub mod Ids
+pub mod Replays

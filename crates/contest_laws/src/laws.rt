@@ -3,6 +3,7 @@
 ghost use Rattle.contest_laws.specs.Finals.{FinalResultsStay};
 ghost use Rattle.contest_laws.specs.GroupBoards.{GroupBoardsKeepTheOrder};
 ghost use Rattle.contest_laws.specs.Ids.{ClarificationsStay, SubmissionIdsStay};
+ghost use Rattle.contest_laws.specs.Replays.{ReplaysAreDays};
 ghost use Rattle.contest_laws.specs.Standing.{ClosedRejudgingsStay, ComeThawStays, HeldReleasesMoveNoBoard, OnlyAdminsReplaceTokens};
 ghost use Rattle.contest_laws.specs.Verdicts.{OnlyRejudgingsRevise, TwoJudgesRejudge, TwoJudgesRelease};
 
@@ -68,4 +69,11 @@ pub fn submission_ids_stay()
 /// name the same.
 pub fn clarifications_stay()
     ensures { ClarificationsStay }
+{}
+
+/// A replay is a desk's day. A desk has the settings of a replay file and its submissions and verdicts up to a contest
+/// time, in the order of the file. The rows of its board, so long after its start, are those that the replay shows then, for the
+/// public, each team and the jury.
+pub fn replays_are_days()
+    ensures { ReplaysAreDays }
 {}
