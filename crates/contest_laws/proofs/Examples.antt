@@ -71,7 +71,7 @@ is_named : named_rejudging (decimal 1) after_one.rejudgings ≡ Some (1, closed)
 is_named = (let own : bytes_eq (decimal 1) (decimal 1) ≡ true = (bytes_eq-Decides (decimal 1) (decimal 1)).1 refl in rw own refl)
 
 -- accounts are imported later, and then nothing is left to import
-abbrev late : Item
+abbrev pub late : Item
 late = item.Import (record { now = hours 6; kind = kind.Fixed fixed.AccountsCsv; file = codes "id,role,team_id,token" })
 
 runs_once : (x : ContestState) → IsRun x (late ∷ []) ((item_step x late).0 ∷ []) (item_step x late).1

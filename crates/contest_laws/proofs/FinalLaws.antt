@@ -61,6 +61,7 @@ use Rattle.contest_laws.proofs.FinalLemmas.{IsAllowed, IsOver, change_allowed, n
 use Rattle.contest_laws.proofs.OpenRejudgings.{applied_open, cancelled_open, judged_open}
 use Rattle.contest_laws.proofs.RunKeeps.{item_keeps, run_keeps}
 use Rattle.contest_laws.proofs.SourceLemmas.{item_adds_so}
+use Rattle.contest_laws.proofs.Touches.{not_yet}
 use Rattle.contest_laws.proofs.VerdictLaws.{by_other, imported_all}
 
 -- ---- what is asked for then
@@ -120,10 +121,7 @@ asked_allowed z now (Ok (Do (Clock (Thaw thaw)))) e over (c, set, is) = subst Is
 asked_allowed z now (Ok (Do Final)) e over (c, set, is) = absurd (not_again (of_final z now c set).0)
   where
     not_again : may_finalize z.fixed z.submissions z.releases z.rejudgings now ≡ true → ⊥
-    not_again may =
-        let ended = has_ended (phase_at z.fixed.settings z.fixed.marks now) in
-        let none = is_none z.fixed.marks.finalized in
-        not_none z.fixed.marks.finalized over.finalized (and_right ended none (and_left (ended && none) (not (list_any is_open z.rejudgings)) (and_left (may_close z.fixed z.rejudgings now) (all_released z.releases z.submissions) may)))
+    not_again may = not_none z.fixed.marks.finalized over.finalized (not_yet z now may)
 asked_allowed z now (Ok (Do (Changed w))) e over (m, made, new, is) = subst IsAllowed (sym is) (change_allowed z now w m over made new)
 
 -- what a file adds then

@@ -4,13 +4,14 @@ use Rattle.std.specs.Prelude.{◌==◌, ◌&&◌, find, is_some, not, slice_get,
 use Rattle.std.specs.Fmt.{decimal}
 use Rattle.std.specs.List.{enumerate_from}
 use Rattle.std.specs.Str.{bytes_eq}
-use Rattle.std.proofs.lemmas.Bool.{eqb-true, false≢true, le-leb}
+use Rattle.std.proofs.lemmas.Bool.{false≢true, le-leb, ne_eqb}
 use Rattle.contest_types.specs.Clock.{end_of, freeze_of, reached}
 use Rattle.contest_types.specs.State.{ContestState, add, changed_at, with_member_state}
 use Rattle.contest_types.specs.ValidRejudgings.{is_open}
 use Rattle.contest_types.specs.declared.entry.Entry.{Entry}
 use Rattle.contest_types.specs.declared.entry.Entry.TheVariants.{NewSubmission, NewProposal, NewRelease, NewClarification, NewRejudging, SetMember, SetRejudging, SetStart, SetThaw, SetFinalized, SetDuration, SetTeamName, SetDigest, NewType, NewLanguage, NewProblem, NewGroup, NewTeam, NewAccount}
 use Rattle.contest_types.specs.declared.rejudging.Rejudging.{Rejudging}
+use Rattle.contest_types.specs.declared.rejudging.RejudgingState.{RejudgingState}
 use Rattle.contest_types.proofs.PlaceLemmas.{and_left, and_right}
 use Rattle.contest_score.proofs.BoardAlike.{board_alike}
 use Rattle.contest_rules.specs.ClockChanges.{may_thaw}
@@ -20,7 +21,7 @@ use Rattle.contest_desk.specs.declared.item.Item.{Item}
 use Rattle.contest_desk.proofs.UnseenLemmas.{unseen_entry}
 use Rattle.contest_laws.specs.Standing.{ClosedRejudgingsStay, ComeThawStays, HeldReleasesMoveNoBoard, moment_of}
 use Rattle.contest_laws.proofs.RunKeeps.{item_keeps, run_keeps}
-use Rattle.contest_laws.proofs.Touches.{May, Touches, item_may}
+use Rattle.contest_laws.proofs.Touches.{May, Touches, closing_of, item_may}
 
 -- ---- a thaw that has come
 
@@ -57,7 +58,7 @@ thaw_kept x thaw now (NewAccount a) late never h = h
 thaw_stays_by : (x : ContestState) (thaw : ℕ) (i : Item) → thaw ≤ moment_of i → x.fixed.marks.thaw ≡ Some thaw → (item_step x i).1.fixed.marks.thaw ≡ Some thaw
 thaw_stays_by x thaw i late h =
     item_keeps (λ z. z.fixed.marks.thaw ≡ Some thaw) x i
-    (λ z e there k. thaw_kept z thaw (moment_of i) e late (λ other is. no_second_thaw x thaw (moment_of i) other h late (subst (May x (moment_of i)) is (item_may x i e there))) k)
+    (λ z e there k. thaw_kept z thaw (moment_of i) e late (λ other is. no_second_thaw x thaw (moment_of i) other h late (subst (May x (moment_of i) (closing_of x i)) is (item_may x i e there))) k)
     h
 
 pub come_thaw_stays : ComeThawStays
@@ -66,7 +67,7 @@ come_thaw_stays x y items answers thaw valid set late run =
 
 -- ---- rejudgings that are closed
 
-abbrev has_number : (id : List ℕ) → ℕ × Rejudging → Bool
+abbrev pub has_number : (id : List ℕ) → ℕ × Rejudging → Bool
 has_number id p = bytes_eq (decimal p.0) id
 
 -- the one that is found stands at its place
@@ -78,7 +79,7 @@ found_at id first n (q ∷ rs) r is = go (bytes_eq (decimal first) id) is (λ k.
     go true k later = let one : ◌≡◌ {A = ℕ × Rejudging} (first, q) (n, r) = cc k in (0, omega (arith, ap (λ p. p.0) one), ap (λ p. Some p.1) one)
     go false k later = let l = later k in (suc l.0, omega (arith, l.1), l.2)
 
-found_behind : (id : List ℕ) (first n : ℕ) (rs more : List Rejudging) (r : Rejudging) → find (has_number id) (enumerate_from first rs) ≡ Some (n, r) → find (has_number id) (enumerate_from first (rs ++ more)) ≡ Some (n, r)
+pub found_behind : (id : List ℕ) (first n : ℕ) (rs more : List Rejudging) (r : Rejudging) → find (has_number id) (enumerate_from first rs) ≡ Some (n, r) → find (has_number id) (enumerate_from first (rs ++ more)) ≡ Some (n, r)
 found_behind id first n [] more r is = absurd (cc is)
 found_behind id first n (q ∷ rs) more r is = go (bytes_eq (decimal first) id) is (λ k. found_behind id (first + 1) n rs more r k)
   where
@@ -88,20 +89,23 @@ found_behind id first n (q ∷ rs) more r is = go (bytes_eq (decimal first) id) 
     go true k later = k
     go false k later = later k
 
--- a change at another place leaves it
-found_beside : (id : List ℕ) (f : Rejudging → Rejudging) (first at n : ℕ) (rs : List Rejudging) (r : Rejudging) → (n ≡ at → ⊥) → find (has_number id) (enumerate_from first rs) ≡ Some (n, r) → find (has_number id) (enumerate_from first (changed_at first at f rs)) ≡ Some (n, r)
-found_beside id f first at n [] r other is = absurd (cc is)
-found_beside id f first at n (q ∷ rs) r other is = go (bytes_eq (decimal first) id) is (λ k. found_beside id f (first + 1) at n rs r other k)
+-- a change at its place changes it, and one at another leaves it
+pub found_changed : (id : List ℕ) (f : Rejudging → Rejudging) (first at n : ℕ) (rs : List Rejudging) (r : Rejudging) → find (has_number id) (enumerate_from first rs) ≡ Some (n, r)
+    → find (has_number id) (enumerate_from first (changed_at first at f rs)) ≡ Some (n, if n == at then f r else r)
+found_changed id f first at n [] r is = absurd (cc is)
+found_changed id f first at n (q ∷ rs) r is = go (bytes_eq (decimal first) id) is (λ k. found_changed id f (first + 1) at n rs r k)
   where
-    here : (b : Bool) → (first == at) ≡ b → first ≡ n → (if b then f q else q) ≡ q
-    here true e same = absurd (other (sym same ∙ eqb-true first at e))
-    here false e same = refl
+    changed : ℕ × Rejudging → ℕ × Rejudging
+    changed p = (p.0, if p.0 == at then f p.1 else p.1)
 
     go : (b : Bool) → (if b then Some (first, q) else find (has_number id) (enumerate_from (first + 1) rs)) ≡ Some (n, r)
-        → (find (has_number id) (enumerate_from (first + 1) rs) ≡ Some (n, r) → find (has_number id) (enumerate_from (first + 1) (changed_at (first + 1) at f rs)) ≡ Some (n, r))
-        → (if b then Some (first, (if first == at then f q else q)) else find (has_number id) (enumerate_from (first + 1) (changed_at (first + 1) at f rs))) ≡ Some (n, r)
-    go true k later = let one : ◌≡◌ {A = ℕ × Rejudging} (first, q) (n, r) = cc k in ap (λ p. Some (first, p)) (here (first == at) refl (ap (λ p. p.0) one)) ∙ k
+        → (find (has_number id) (enumerate_from (first + 1) rs) ≡ Some (n, r) → find (has_number id) (enumerate_from (first + 1) (changed_at (first + 1) at f rs)) ≡ Some (n, if n == at then f r else r))
+        → (if b then Some (first, (if first == at then f q else q)) else find (has_number id) (enumerate_from (first + 1) (changed_at (first + 1) at f rs))) ≡ Some (n, if n == at then f r else r)
+    go true k later = let one : ◌≡◌ {A = ℕ × Rejudging} (first, q) (n, r) = cc k in ap (λ p. Some (changed p)) one
     go false k later = later k
+
+found_beside : (id : List ℕ) (f : Rejudging → Rejudging) (at n : ℕ) (rs : List Rejudging) (r : Rejudging) → (n ≡ at → ⊥) → named_rejudging id rs ≡ Some (n, r) → named_rejudging id (changed_at 1 at f rs) ≡ Some (n, r)
+found_beside id f at n rs r other is = found_changed id f 1 at n rs r is ∙ ap (λ b. Some (n, if b then f r else r)) (ne_eqb n at other)
 
 -- two names of one number name one rejudging: so the open one that is changed is another
 other_number : (x : ContestState) (id : List ℕ) (n m : ℕ) (r : Rejudging) → named_rejudging id x.rejudgings ≡ Some (n, r) → is_open r ≡ false → Touches x m → n ≡ m → ⊥
@@ -113,32 +117,32 @@ other_number x id n m r named closed touched same =
     let is : r ≡ touched.rejudging = cc here in
     false≢true (sym closed ∙ ap is_open is ∙ touched.opened)
 
-closed_kept : (x z : ContestState) (id : List ℕ) (n : ℕ) (r : Rejudging) (now : ℕ) (e : Entry) → named_rejudging id x.rejudgings ≡ Some (n, r) → is_open r ≡ false → May x now e → named_rejudging id z.rejudgings ≡ Some (n, r)
+closed_kept : (x z : ContestState) (id : List ℕ) (n : ℕ) (r : Rejudging) (now : ℕ) (closing : RejudgingState) (e : Entry) → named_rejudging id x.rejudgings ≡ Some (n, r) → is_open r ≡ false → May x now closing e → named_rejudging id z.rejudgings ≡ Some (n, r)
     → named_rejudging id (add z e).rejudgings ≡ Some (n, r)
-closed_kept x z id n r now (NewSubmission s) named closed may h = h
-closed_kept x z id n r now (NewProposal p) named closed may h = h
-closed_kept x z id n r now (NewRelease v) named closed may h = h
-closed_kept x z id n r now (NewClarification c) named closed may h = h
-closed_kept x z id n r now (NewRejudging q) named closed may h = found_behind id 1 n z.rejudgings (q ∷ []) r h
-closed_kept x z id n r now (SetMember m place state) named closed may h = found_beside id (with_member_state place state) 1 m n z.rejudgings r (other_number x id n m r named closed may) h
-closed_kept x z id n r now (SetRejudging m state) named closed may h = found_beside id (λ (q : Rejudging). record q { state = state }) 1 m n z.rejudgings r (other_number x id n m r named closed may) h
-closed_kept x z id n r now (SetStart start) named closed may h = h
-closed_kept x z id n r now (SetThaw other) named closed may h = h
-closed_kept x z id n r now (SetFinalized finalized) named closed may h = h
-closed_kept x z id n r now (SetDuration duration freeze) named closed may h = h
-closed_kept x z id n r now (SetTeamName team name) named closed may h = h
-closed_kept x z id n r now (SetDigest account digest) named closed may h = h
-closed_kept x z id n r now (NewType t) named closed may h = h
-closed_kept x z id n r now (NewLanguage l) named closed may h = h
-closed_kept x z id n r now (NewProblem p) named closed may h = h
-closed_kept x z id n r now (NewGroup g) named closed may h = h
-closed_kept x z id n r now (NewTeam t) named closed may h = h
-closed_kept x z id n r now (NewAccount a) named closed may h = h
+closed_kept x z id n r now closing (NewSubmission s) named closed may h = h
+closed_kept x z id n r now closing (NewProposal p) named closed may h = h
+closed_kept x z id n r now closing (NewRelease v) named closed may h = h
+closed_kept x z id n r now closing (NewClarification c) named closed may h = h
+closed_kept x z id n r now closing (NewRejudging q) named closed may h = found_behind id 1 n z.rejudgings (q ∷ []) r h
+closed_kept x z id n r now closing (SetMember m place state) named closed may h = found_beside id (with_member_state place state) m n z.rejudgings r (other_number x id n m r named closed may) h
+closed_kept x z id n r now closing (SetRejudging m state) named closed may h = found_beside id (λ (q : Rejudging). record q { state = state }) m n z.rejudgings r (other_number x id n m r named closed may.0) h
+closed_kept x z id n r now closing (SetStart start) named closed may h = h
+closed_kept x z id n r now closing (SetThaw other) named closed may h = h
+closed_kept x z id n r now closing (SetFinalized finalized) named closed may h = h
+closed_kept x z id n r now closing (SetDuration duration freeze) named closed may h = h
+closed_kept x z id n r now closing (SetTeamName team name) named closed may h = h
+closed_kept x z id n r now closing (SetDigest account digest) named closed may h = h
+closed_kept x z id n r now closing (NewType t) named closed may h = h
+closed_kept x z id n r now closing (NewLanguage l) named closed may h = h
+closed_kept x z id n r now closing (NewProblem p) named closed may h = h
+closed_kept x z id n r now closing (NewGroup g) named closed may h = h
+closed_kept x z id n r now closing (NewTeam t) named closed may h = h
+closed_kept x z id n r now closing (NewAccount a) named closed may h = h
 
 pub closed_rejudgings_stay : ClosedRejudgingsStay
 closed_rejudgings_stay x y items answers valid run id number r named closed =
     run_keeps (λ z. named_rejudging id z.rejudgings ≡ Some (number, r)) (λ i. Unit)
-    (λ z i v u h. item_keeps (λ w. named_rejudging id w.rejudgings ≡ Some (number, r)) z i (λ w e there k. closed_kept z w id number r (moment_of i) e h closed (item_may z i e there) k) h)
+    (λ z i v u h. item_keeps (λ w. named_rejudging id w.rejudgings ≡ Some (number, r)) z i (λ w e there k. closed_kept z w id number r (moment_of i) (closing_of z i) e h closed (item_may z i e there) k) h)
     x items answers y valid (λ i k. tt) named run
 
 -- ---- a board without the verdicts that are held

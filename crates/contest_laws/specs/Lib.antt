@@ -5,3 +5,4 @@ pub mod Standing
 pub mod GroupBoards
 pub mod Ids
 pub mod Replays
+pub mod Crashes

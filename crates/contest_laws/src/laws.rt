@@ -1,5 +1,6 @@
 //! Laws over any run of requests and imports, by any callers at any moments: functions that do
 //! nothing, and whose contracts say what holds of every contest (own).
+ghost use Rattle.contest_laws.specs.Crashes.{NothingIsLost};
 ghost use Rattle.contest_laws.specs.Finals.{FinalResultsStay};
 ghost use Rattle.contest_laws.specs.GroupBoards.{GroupBoardsKeepTheOrder};
 ghost use Rattle.contest_laws.specs.Ids.{ClarificationsStay, SubmissionIdsStay};
@@ -69,6 +70,13 @@ pub fn submission_ids_stay()
 /// name the same.
 pub fn clarifications_stay()
     ensures { ClarificationsStay }
+{}
+
+/// Nothing is lost. A desk runs, is stopped or crashes at any moment, is opened again, and so on: each submission,
+/// proposal, release, clarification and rejudging, each rejudging that was applied or cancelled, each row of a file and the mark of
+/// final results, once it was answered as done, is in the lists that the last opening reads.
+pub fn nothing_is_lost()
+    ensures { NothingIsLost }
 {}
 
 /// A replay is a desk's day. A desk has the settings of a replay file and its submissions and verdicts up to a contest
