@@ -1,29 +1,45 @@
 -- Worked examples of requests: what the laws ask for is asked for.
-use Rattle.std.proofs.Common.{◌≡◌, ◌∙◌, ◌<◌, ℕ, true, List, [], ◌∷◌, Some, None, Ok, inl, inr, refl, ap, arith, sym, subst}
-use Rattle.std.specs.Prelude.{codes, nat_lt, if◌then◌else◌}
+use Rattle.std.proofs.Common.{◌≡◌, ◌∙◌, ◌<◌, ℕ, true, List, [], ◌∷◌, Some, None, Ok, inl, inr, refl, ap, arith, sym, subst, zero, suc, Err, ◌+◌, Option, Result}
+use Rattle.std.specs.Prelude.{bytes_eq, codes, nat_lt, slice_get, if◌then◌else◌}
 use Rattle.std.specs.List.{All, list_all}
 use Rattle.std.specs.Option.{option_map}
-use Rattle.std.proofs.lemmas.Bool.{false≢true, ltb-true}
+use Rattle.std.proofs.lemmas.Bool.{false≢true, leb-true, ltb-true}
+use Rattle.std.proofs.lemmas.Fmt.{decimal_digit}
 use Rattle.std.proofs.lemmas.List.Elements.{All-cons}
 use Rattle.std.specs.Str.{chars, is_utf8}
 use Rattle.sha2.specs.Sha256.{sha256}
 use Rattle.contest_types.specs.Order.{Has}
-use Rattle.contest_types.specs.State.{ContestState}
+use Rattle.contest_types.specs.State.{ContestState, FixedPart}
 use Rattle.contest_types.specs.Valid.{is_valid}
 use Rattle.contest_types.specs.declared.account.Account.{Account}
-use Rattle.contest_types.specs.declared.entry.Entry.TheVariants.{SetFinalized}
+use Rattle.contest_types.specs.declared.entry.Entry.TheVariants.{NewRelease, SetFinalized}
+use Rattle.contest_types.specs.declared.rejudging.Rejudging.{Rejudging}
+use Rattle.contest_types.specs.declared.rejudging.RejudgingState.TheVariants.{Open}
+use Rattle.contest_types.specs.declared.submission.Release.{Release}
 use Rattle.contest_types.specs.declared.account.Role.TheVariants as role
-use Rattle.contest_types.proofs.ExampleContest.{empty, hours, thawed_at}
+use Rattle.contest_types.proofs.ExampleContest.{empty, hours, minutes, rejudged, released, thawed_at, wrong}
+use Rattle.contest_types.proofs.ExampleTalk.{base}
 use Rattle.contest_types.proofs.PlaceLemmas.{and_left, and_right, bytes_same}
+use Rattle.contest_rules.specs.declared.rule_refusal.RuleRefusal.{RuleRefusal}
+use Rattle.contest_rules.specs.declared.rule_refusal.RuleRefusal.TheVariants.{NotFound}
+use Rattle.contest_view.specs.Rejudgings.{named_rejudging}
+use Rattle.contest_postings.specs.DoneThings.{done_as}
+use Rattle.contest_postings.specs.PostRejudgings.{change_entries, change_object, step_change}
+use Rattle.contest_postings.specs.declared.rejudging.RejudgingChange.{RejudgingChange}
+use Rattle.contest_postings.specs.declared.rejudging.RejudgingStep.TheVariants.{Apply}
+use Rattle.contest_requests.specs.declared.request.Credential.{Credential}
 use Rattle.contest_requests.specs.declared.request.Credential.TheVariants.{Token}
+use Rattle.contest_requests.specs.declared.request.Request.{Request}
 use Rattle.contest_requests.specs.declared.request.KeyField.TheVariants.{Absent}
 use Rattle.contest_requests.specs.declared.request.Method.TheVariants as method
-use Rattle.contest_operations.specs.Callers.{caller_of}
+use Rattle.contest_operations.specs.Callers.{holder_of, caller_of}
 use Rattle.contest_operations.specs.Offers.{nothing}
 use Rattle.contest_operations.specs.Routes.{offer_at, route_rows}
 use Rattle.contest_operations.specs.Step.{asked, asked_there, outcome_of, step, wish_or_reply, wish_or_reply_by}
 use Rattle.contest_operations.specs.declared.command.Command.TheVariants as command
-use Rattle.contest_operations.specs.declared.command.Posted.TheVariants.{Final}
+use Rattle.contest_operations.specs.Outcomes.{told}
+use Rattle.contest_operations.specs.Paths.{jury_piece}
+use Rattle.contest_operations.specs.declared.command.Posted.TheVariants.{Final, Rejudging as OfRejudging}
 use Rattle.contest_operations.specs.declared.offer.Offer.{Offer}
 use Rattle.contest_operations.specs.declared.wish.Wish.TheVariants.{Do}
 use Rattle.contest_operations.proofs.RouteLaw.{routes_read}
@@ -38,7 +54,9 @@ use Rattle.contest_laws.specs.Crashes.{IsDone, Stretch}
 use Rattle.contest_laws.specs.Finals.{HasSameResults, IsFinal}
 use Rattle.contest_laws.proofs.CrashLaws.{nothing_is_lost}
 use Rattle.contest_laws.proofs.Examples.{late}
+use Rattle.contest_laws.specs.Verdicts.{Asks, IsApplied}
 use Rattle.contest_laws.proofs.FinalLaws.{final_results_stay}
+use Rattle.contest_laws.proofs.VerdictLaws.{only_rejudgings_revise}
 
 -- an administrator, with a token
 abbrev admin : Account
@@ -51,12 +69,15 @@ over = record empty { fixed = record (thawed_at empty (hours 5)).fixed { account
 is_over_valid : is_valid over ≡ true
 is_over_valid = refl
 
+abbrev secret : Credential
+secret = Token (codes "secret")
+
 abbrev finalize_path : List ℕ
 finalize_path = codes "/jury/finalize"
 
 -- the administrator asks for final results
 abbrev asks_final : RequestItem
-asks_final = record { now = hours 6; credential = Token (codes "secret"); request = record { method = method.Post; path = finalize_path; key = Absent; body = [] } }
+asks_final = record { now = hours 6; credential = secret; request = record { method = method.Post; path = finalize_path; key = Absent; body = [] } }
 
 abbrev offers_final : Offer
 offers_final = record nothing { post = Some command.Finalize }
@@ -65,20 +86,26 @@ bytes_by : (path : List ℕ) → list_all (λ b. nat_lt b 256) path ≡ true →
 bytes_by [] all = λ i d h. absurd (omega (arith, h))
 bytes_by (b ∷ path) all = All-cons (λ c. c < 256) b path (ltb-true b 256 (and_left (nat_lt b 256) _ all)) (bytes_by path (and_right (nat_lt b 256) _ all))
 
+-- the row at a place of a list is in it
+has_at : {X : Type 0} (n : ℕ) (xs : List X) (x : X) → slice_get xs n ≡ Some x → Has xs x
+has_at n [] x is = absurd (cc is)
+has_at zero (y ∷ xs) x is = (let same : y ≡ x = cc is in inl (sym same))
+has_at (suc n) (y ∷ xs) x is = inr (has_at n xs x is)
+
 route_is : offer_at finalize_path ≡ Some offers_final
 unfolding chars is_utf8 lib.Utf8.encode
-route_is = (routes_read finalize_path (bytes_by finalize_path refl) refl offers_final).1 (finalize_path, among, refl)
-  where
-    among : Has route_rows (finalize_path, offers_final)
-    among = inr (inr (inr (inr (inr (inr (inr (inr (inr (inr (inr (inr (inr (inr (inr (inr (inr (inr (inr (inr (inr (inr (inr (inr (inr (inr (inr (inr (inl refl))))))))))))))))))))))))))))
+route_is = (routes_read finalize_path (bytes_by finalize_path refl) refl offers_final).1 (finalize_path, has_at 28 route_rows (finalize_path, offers_final) refl, refl)
 
-caller_is : caller_of over.fixed (Token (codes "secret")) ≡ Some (Some admin)
-caller_is = ap (λ b. option_map Some (if b then Some admin else None)) (bytes_same (sha256 (codes "secret")))
+-- what the administrator posts where this is offered
+wish_by : (f : FixedPart) (request : Request) (offer : Offer) → f.accounts ≡ admin ∷ [] → offer_at request.path ≡ Some offer
+    → wish_or_reply f secret request ≡ wish_or_reply_by f (Some (Some admin)) request (asked_there f.settings.head.id request.path request.method (Some offer))
+wish_by f request offer alone route =
+    let found : caller_of f secret ≡ Some (Some admin) = ap (λ accounts. option_map (λ (a : Account). Some a) (holder_of accounts (codes "secret"))) alone ∙ ap (λ b. option_map (λ (a : Account). Some a) (if b then Some admin else None)) (bytes_same (sha256 (codes "secret"))) in
+    ap (λ who. wish_or_reply_by f who request (asked f.settings.head.id request.path request.method)) found
+    ∙ ap (λ o. wish_or_reply_by f (Some (Some admin)) request (asked_there f.settings.head.id request.path request.method o)) route
 
 wishes : wish_or_reply over.fixed asks_final.credential asks_final.request ≡ Ok (Do Final)
-wishes =
-    ap (λ who. wish_or_reply_by over.fixed who asks_final.request (asked over.fixed.settings.head.id finalize_path method.Post)) caller_is
-    ∙ ap (λ offer. wish_or_reply_by over.fixed (Some (Some admin)) asks_final.request (asked_there over.fixed.settings.head.id finalize_path method.Post offer)) route_is
+wishes = wish_by over.fixed asks_final.request offers_final refl route_is
 
 is_final : IsFinal over asks_final
 is_final = record { asked = wishes; accepted = ap (λ r. (outcome_of over (hours 6) r).reply.status) wishes }
@@ -106,3 +133,42 @@ is_done = inl (answered, inl (subst (λ es. Has es (SetFinalized (hours 6))) (sy
 
 still_marked : (item_step over finalizing).1.fixed.marks.finalized ≡ Some (hours 6)
 still_marked = nothing_is_lost morning [] (item_step over finalizing).1 is_over_valid (inl (answered, refl), tt) morning (inl refl) (SetFinalized (hours 6)) is_done
+
+-- ---- a rejudging is applied
+
+-- the verdict on the second team's first submission was judged anew, and is ready
+abbrev ready : ContestState
+ready = record base { fixed = record base.fixed { accounts = admin ∷ [] }; rejudgings = rejudged 1 1 wrong Open ∷ [] }
+
+abbrev apply_path : List ℕ
+apply_path = codes "/jury/rejudgings/1/apply"
+
+abbrev applying : Item
+applying = item.Request (record { now = hours 4 + minutes 40; credential = secret; request = record { method = method.Post; path = apply_path; key = Absent; body = [] } })
+
+abbrev offers_apply : Offer
+offers_apply = record nothing { post = Some command.ApplyRejudging }
+
+apply_route : offer_at apply_path ≡ Some offers_apply
+unfolding chars is_utf8 lib.Utf8.encode
+apply_route = (routes_read apply_path (bytes_by apply_path refl) refl offers_apply).1 (codes "/jury/rejudgings/{n}/apply", has_at 37 route_rows (codes "/jury/rejudgings/{n}/apply", offers_apply) refl, refl)
+
+asks_apply : Asks ready applying (OfRejudging apply_path Apply)
+asks_apply = wish_by ready.fixed (record { method = method.Post; path = apply_path; key = Absent; body = [] }) offers_apply refl apply_route
+
+is_first : named_rejudging (jury_piece apply_path) ready.rejudgings ≡ Some (1, rejudged 1 1 wrong Open)
+is_first = ap (λ number. if bytes_eq number (codes "1") then Some (1, rejudged 1 1 wrong Open) else None) (decimal_digit 1 (omega arith))
+
+abbrev revised : Release
+revised = released 1 1 2 wrong (hours 4 + minutes 40)
+
+adds_round : Has (item_entries ready applying) (NewRelease revised)
+adds_round =
+    subst (λ es. Has es (NewRelease revised)) (sym (ap (λ r. (outcome_of ready (hours 4 + minutes 40) r).entries) asks_apply))
+    (subst (λ o. Has (told (done_as (change_object ready.fixed) change_entries (applied_by o))).entries (NewRelease revised)) (sym is_first) (inl refl))
+  where
+    applied_by : Option (ℕ × Rejudging) → Result RejudgingChange RuleRefusal
+    applied_by o = elim o as (λ _. Result RejudgingChange RuleRefusal) [ None ↦ Err NotFound | (Some p) ↦ step_change (hours 4 + minutes 40) Apply ready p ]
+
+is_applied : IsApplied ready applying revised
+is_applied = only_rejudgings_revise ready applying revised adds_round (leb-true 2 2 refl)
