@@ -1,5 +1,5 @@
 -- Worked examples of requests: what the laws ask for is asked for.
-use Rattle.std.proofs.Common.{◌≡◌, ◌∙◌, ◌<◌, ℕ, true, List, [], ◌∷◌, Some, None, Ok, inl, inr, refl, ap, arith, sym, subst, zero, suc, Err, ◌+◌, Option, Result}
+use Rattle.std.proofs.Common.{◌≡◌, ◌∙◌, ◌<◌, ℕ, true, List, [], ◌∷◌, Some, None, Ok, inl, inr, refl, ap, arith, sym, subst, zero, suc, Err, ◌+◌, ◌++◌, Option, Result}
 use Rattle.std.specs.Prelude.{bytes_eq, codes, nat_lt, slice_get, if◌then◌else◌}
 use Rattle.std.specs.List.{All, list_all}
 use Rattle.std.specs.Option.{option_map}
@@ -7,28 +7,37 @@ use Rattle.std.proofs.lemmas.Bool.{false≢true, leb-true, ltb-true}
 use Rattle.std.proofs.lemmas.Fmt.{decimal_digit}
 use Rattle.std.proofs.lemmas.List.Elements.{All-cons}
 use Rattle.std.specs.Str.{chars, is_utf8}
+use Rattle.serde_json.proofs.OnLiterals.{serde_json_on_literals}
 use Rattle.sha2.specs.Sha256.{sha256}
 use Rattle.contest_types.specs.Order.{Has}
-use Rattle.contest_types.specs.State.{ContestState, FixedPart}
+use Rattle.contest_types.specs.State.{ContestState, FixedPart, of_submission}
 use Rattle.contest_types.specs.Valid.{is_valid}
 use Rattle.contest_types.specs.declared.account.Account.{Account}
 use Rattle.contest_types.specs.declared.entry.Entry.TheVariants.{NewRelease, SetFinalized}
+use Rattle.contest_types.specs.declared.proposal.Proposal.{Proposal}
+use Rattle.contest_types.specs.declared.proposal.Proposer.TheVariants.{Import}
 use Rattle.contest_types.specs.declared.rejudging.Rejudging.{Rejudging}
 use Rattle.contest_types.specs.declared.rejudging.RejudgingState.TheVariants.{Open}
 use Rattle.contest_types.specs.declared.submission.Release.{Release}
 use Rattle.contest_types.specs.declared.account.Role.TheVariants as role
-use Rattle.contest_types.proofs.ExampleContest.{empty, hours, minutes, rejudged, released, thawed_at, wrong}
+use Rattle.contest_types.proofs.ExampleContest.{empty, hours, minutes, rejudged, released, submitted, thawed_at, wrong}
 use Rattle.contest_types.proofs.ExampleTalk.{base}
 use Rattle.contest_types.proofs.PlaceLemmas.{and_left, and_right, bytes_same}
+use Rattle.contest_files.specs.JsonMembers.{data_of}
+use Rattle.contest_rules.specs.Verdicts.{named_verdict, verdict_on}
+use Rattle.contest_rules.specs.Verifying.{verify_named}
 use Rattle.contest_rules.specs.declared.rule_refusal.RuleRefusal.{RuleRefusal}
 use Rattle.contest_rules.specs.declared.rule_refusal.RuleRefusal.TheVariants.{NotFound}
 use Rattle.contest_view.specs.Rejudgings.{named_rejudging}
 use Rattle.contest_postings.specs.DoneThings.{done_as}
 use Rattle.contest_postings.specs.PostRejudgings.{change_entries, change_object, step_change}
+use Rattle.contest_postings.specs.PostVerification.{release_entries, release_object}
 use Rattle.contest_postings.specs.declared.rejudging.RejudgingChange.{RejudgingChange}
 use Rattle.contest_postings.specs.declared.rejudging.RejudgingStep.TheVariants.{Apply}
 use Rattle.contest_requests.specs.declared.request.Credential.{Credential}
 use Rattle.contest_requests.specs.declared.request.Credential.TheVariants.{Token}
+use Rattle.contest_requests.specs.JuryVerdicts.{verdict_of}
+use Rattle.contest_requests.specs.declared.jury_verdict.JuryVerdict.{JuryVerdict}
 use Rattle.contest_requests.specs.declared.request.Request.{Request}
 use Rattle.contest_requests.specs.declared.request.KeyField.TheVariants.{Absent}
 use Rattle.contest_requests.specs.declared.request.Method.TheVariants as method
@@ -39,7 +48,7 @@ use Rattle.contest_operations.specs.Step.{asked, asked_there, outcome_of, step, 
 use Rattle.contest_operations.specs.declared.command.Command.TheVariants as command
 use Rattle.contest_operations.specs.Outcomes.{told}
 use Rattle.contest_operations.specs.Paths.{jury_piece}
-use Rattle.contest_operations.specs.declared.command.Posted.TheVariants.{Final, Rejudging as OfRejudging}
+use Rattle.contest_operations.specs.declared.command.Posted.TheVariants.{Final, Rejudging as OfRejudging, Verification}
 use Rattle.contest_operations.specs.declared.offer.Offer.{Offer}
 use Rattle.contest_operations.specs.declared.wish.Wish.TheVariants.{Do}
 use Rattle.contest_operations.proofs.RouteLaw.{routes_read}
@@ -54,9 +63,9 @@ use Rattle.contest_laws.specs.Crashes.{IsDone, Stretch}
 use Rattle.contest_laws.specs.Finals.{HasSameResults, IsFinal}
 use Rattle.contest_laws.proofs.CrashLaws.{nothing_is_lost}
 use Rattle.contest_laws.proofs.Examples.{late}
-use Rattle.contest_laws.specs.Verdicts.{Asks, IsApplied}
+use Rattle.contest_laws.specs.Verdicts.{Asks, IsApplied, IsVerified}
 use Rattle.contest_laws.proofs.FinalLaws.{final_results_stay}
-use Rattle.contest_laws.proofs.VerdictLaws.{only_rejudgings_revise}
+use Rattle.contest_laws.proofs.VerdictLaws.{only_rejudgings_revise, two_judges_release}
 
 -- an administrator, with a token
 abbrev admin : Account
@@ -172,3 +181,56 @@ adds_round =
 
 is_applied : IsApplied ready applying revised
 is_applied = only_rejudgings_revise ready applying revised adds_round (leb-true 2 2 refl)
+
+-- ---- a judge verifies what a file of verdicts proposed
+
+-- a submission of the first team, and its proposal
+abbrev proposed_by_file : Proposal
+proposed_by_file = record { team = 0; number = 1; verdict = wrong; proposer = Import; time = minutes 20 }
+
+abbrev waiting : ContestState
+waiting = record empty {
+  fixed = record empty.fixed { settings = record empty.fixed.settings { head = record empty.fixed.settings.head { verification = true } }; accounts = admin ∷ [] };
+  submissions = submitted 0 1 (minutes 10) 0 ∷ [];
+  proposals = proposed_by_file ∷ [];
+}
+
+is_waiting_valid : is_valid waiting ≡ true
+is_waiting_valid = refl
+
+abbrev verify_path : List ℕ
+verify_path = codes "/jury/verifications"
+
+abbrev verify_request : Request
+verify_request = record { method = method.Post; path = verify_path; key = Absent; body = codes "{\"submission_id\":\"s1-1\",\"judgement_type_id\":\"WA\"}" }
+
+abbrev verifying : Item
+verifying = item.Request (record { now = minutes 30; credential = secret; request = verify_request })
+
+abbrev offers_verify : Offer
+offers_verify = record nothing { post = Some command.Verify }
+
+verify_route : offer_at verify_path ≡ Some offers_verify
+unfolding chars is_utf8 lib.Utf8.encode
+verify_route = (routes_read verify_path (bytes_by verify_path refl) refl offers_verify).1 (verify_path, has_at 27 route_rows (verify_path, offers_verify) refl, refl)
+
+abbrev verdict_asked : JuryVerdict
+verdict_asked = record { account = codes "adm"; wanted = record { submission = codes "s1-1"; judgement_type = codes "WA" } }
+
+asks_verify : Asks waiting verifying (Verification verdict_asked)
+unfolding chars data_of is_utf8 serde_json_on_literals verdict_of
+asks_verify = wish_by waiting.fixed verify_request offers_verify refl verify_route
+
+is_named : named_verdict waiting.fixed waiting.submissions verdict_asked.wanted ≡ Some (record { team = 0; number = 1; verdict = wrong })
+is_named = ap (λ d. verdict_on waiting.fixed (option_map of_submission (if bytes_eq (115 ∷ (d ++ (45 ∷ d))) (codes "s1-1") then Some (submitted 0 1 (minutes 10) 0) else None)) verdict_asked.wanted) (decimal_digit 1 (omega arith))
+
+abbrev verified : Release
+verified = released 0 1 1 wrong (minutes 30)
+
+adds_first : Has (item_entries waiting verifying) (NewRelease verified)
+adds_first =
+    subst (λ es. Has es (NewRelease verified)) (sym (ap (λ r. (outcome_of waiting (minutes 30) r).entries) asks_verify))
+    (subst (λ o. Has (told (done_as (release_object waiting.fixed) release_entries (verify_named o waiting.proposals waiting.releases (minutes 30) (codes "adm")))).entries (NewRelease verified)) (sym is_named) (inl refl))
+
+is_verified : IsVerified waiting verifying verified
+is_verified = two_judges_release waiting verifying verified is_waiting_valid refl adds_first refl
