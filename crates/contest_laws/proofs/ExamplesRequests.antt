@@ -1,8 +1,8 @@
 -- Worked examples of requests: what the laws ask for is asked for.
-use Rattle.std.proofs.Common.{◌≡◌, ◌∙◌, ◌<◌, ℕ, true, List, [], ◌∷◌, Some, None, Ok, inl, inr, refl, ap, arith, sym, subst, zero, suc, Err, ◌+◌, ◌++◌, Option, Result}
+use Rattle.std.proofs.Common.{◌≡◌, ◌∙◌, ◌<◌, ℕ, true, false, List, [], ◌∷◌, Some, None, Ok, inl, inr, refl, ap, arith, sym, subst, zero, suc, Err, ◌+◌, ◌++◌, Option, Result}
 use Rattle.std.specs.Prelude.{bytes_eq, codes, nat_lt, slice_get, if◌then◌else◌}
 use Rattle.std.specs.List.{All, list_all}
-use Rattle.std.specs.Option.{option_map}
+use Rattle.std.specs.Option.{option_map, option_map_or}
 use Rattle.std.proofs.lemmas.Bool.{false≢true, leb-true, ltb-true}
 use Rattle.std.proofs.lemmas.Fmt.{decimal_digit}
 use Rattle.std.proofs.lemmas.List.Elements.{All-cons}
@@ -13,7 +13,8 @@ use Rattle.contest_types.specs.Order.{Has}
 use Rattle.contest_types.specs.State.{ContestState, FixedPart, of_submission}
 use Rattle.contest_types.specs.Valid.{is_valid}
 use Rattle.contest_types.specs.declared.account.Account.{Account}
-use Rattle.contest_types.specs.declared.entry.Entry.TheVariants.{NewRelease, SetFinalized}
+use Rattle.contest_types.specs.declared.entry.Entry.TheVariants.{NewRelease, SetFinalized, SetMember}
+use Rattle.contest_types.specs.declared.rejudging.MemberState.TheVariants.{Proposed, Ready}
 use Rattle.contest_types.specs.declared.proposal.Proposal.{Proposal}
 use Rattle.contest_types.specs.declared.proposal.Proposer.TheVariants.{Import}
 use Rattle.contest_types.specs.declared.rejudging.Rejudging.{Rejudging}
@@ -24,16 +25,19 @@ use Rattle.contest_types.proofs.ExampleContest.{empty, hours, minutes, rejudged,
 use Rattle.contest_types.proofs.ExampleTalk.{base}
 use Rattle.contest_types.proofs.PlaceLemmas.{and_left, and_right, bytes_same}
 use Rattle.contest_files.specs.JsonMembers.{data_of}
+use Rattle.contest_rules.specs.Rejudging.{rejudge_on}
 use Rattle.contest_rules.specs.Verdicts.{named_verdict, verdict_on}
+use Rattle.contest_rules.specs.declared.verdicts.NamedVerdict.{NamedVerdict}
 use Rattle.contest_rules.specs.Verifying.{verify_named}
 use Rattle.contest_rules.specs.declared.rule_refusal.RuleRefusal.{RuleRefusal}
 use Rattle.contest_rules.specs.declared.rule_refusal.RuleRefusal.TheVariants.{NotFound}
 use Rattle.contest_view.specs.Rejudgings.{named_rejudging}
-use Rattle.contest_postings.specs.DoneThings.{done_as}
-use Rattle.contest_postings.specs.PostRejudgings.{change_entries, change_object, step_change}
+use Rattle.contest_postings.specs.DoneThings.{done_as, ruled_with}
+use Rattle.contest_postings.specs.PostRejudgings.{change_entries, change_object, member_change, step_change}
 use Rattle.contest_postings.specs.PostVerification.{release_entries, release_object}
 use Rattle.contest_postings.specs.declared.rejudging.RejudgingChange.{RejudgingChange}
-use Rattle.contest_postings.specs.declared.rejudging.RejudgingStep.TheVariants.{Apply}
+use Rattle.contest_postings.specs.declared.rejudging.RejudgingStep.TheVariants.{Apply, Judge}
+use Rattle.contest_postings.specs.declared.changes.WantedChange.TheVariants as wanted
 use Rattle.contest_requests.specs.declared.request.Credential.{Credential}
 use Rattle.contest_requests.specs.declared.request.Credential.TheVariants.{Token}
 use Rattle.contest_requests.specs.JuryVerdicts.{verdict_of}
@@ -47,11 +51,14 @@ use Rattle.contest_operations.specs.Routes.{offer_at, route_rows}
 use Rattle.contest_operations.specs.Step.{asked, asked_there, outcome_of, step, wish_or_reply, wish_or_reply_by}
 use Rattle.contest_operations.specs.declared.command.Command.TheVariants as command
 use Rattle.contest_operations.specs.Outcomes.{told}
+use Rattle.contest_operations.specs.declared.outcome.Outcome.{Outcome}
 use Rattle.contest_operations.specs.Paths.{jury_piece}
-use Rattle.contest_operations.specs.declared.command.Posted.TheVariants.{Final, Rejudging as OfRejudging, Verification}
+use Rattle.contest_operations.specs.declared.post_change.ChangeKind.TheVariants as change
+use Rattle.contest_operations.specs.declared.command.Posted.TheVariants.{Change as Changed, Final, Rejudging as OfRejudging, Verification}
 use Rattle.contest_operations.specs.declared.offer.Offer.{Offer}
 use Rattle.contest_operations.specs.declared.wish.Wish.TheVariants.{Do}
 use Rattle.contest_operations.proofs.RouteLaw.{routes_read}
+use Rattle.contest_desk.specs.AccountLaws.{replaces_token, token_wished}
 use Rattle.contest_desk.specs.Items.{IsStoreAnswer, item_entries, item_step}
 use Rattle.contest_desk.specs.Runs.{IsRun}
 use Rattle.contest_desk.specs.declared.item.Answer.{Answer}
@@ -63,9 +70,11 @@ use Rattle.contest_laws.specs.Crashes.{IsDone, Stretch}
 use Rattle.contest_laws.specs.Finals.{HasSameResults, IsFinal}
 use Rattle.contest_laws.proofs.CrashLaws.{nothing_is_lost}
 use Rattle.contest_laws.proofs.Examples.{late}
-use Rattle.contest_laws.specs.Verdicts.{Asks, IsApplied, IsVerified}
+use Rattle.contest_laws.specs.Standing.{is_of_admin}
+use Rattle.contest_laws.specs.Verdicts.{Asks, IsApplied, IsSettled, IsVerified}
+use Rattle.contest_laws.proofs.AdminLaws.{only_admins_replace_tokens}
 use Rattle.contest_laws.proofs.FinalLaws.{final_results_stay}
-use Rattle.contest_laws.proofs.VerdictLaws.{only_rejudgings_revise, two_judges_release}
+use Rattle.contest_laws.proofs.VerdictLaws.{only_rejudgings_revise, two_judges_rejudge, two_judges_release}
 
 -- an administrator, with a token
 abbrev admin : Account
@@ -234,3 +243,77 @@ adds_first =
 
 is_verified : IsVerified waiting verifying verified
 is_verified = two_judges_release waiting verifying verified is_waiting_valid refl adds_first refl
+
+-- ---- a judge names what another account proposed for a member of a rejudging
+
+abbrev half_judged : Rejudging
+half_judged = record { reason = codes "limits"; state = Open; members = record { team = 0; number = 1; state = Proposed wrong (codes "j1") } ∷ [] }
+
+abbrev rejudged_by_two : ContestState
+rejudged_by_two = record waiting { proposals = []; rejudgings = half_judged ∷ [] }
+
+abbrev verdicts_path : List ℕ
+verdicts_path = codes "/jury/rejudgings/1/verdicts"
+
+abbrev verdict_request : Request
+verdict_request = record { method = method.Post; path = verdicts_path; key = Absent; body = verify_request.body }
+
+abbrev judging : Item
+judging = item.Request (record { now = minutes 30; credential = secret; request = verdict_request })
+
+abbrev offers_verdicts : Offer
+offers_verdicts = record nothing { post = Some command.JudgeRejudging }
+
+verdicts_route : offer_at verdicts_path ≡ Some offers_verdicts
+unfolding chars is_utf8 lib.Utf8.encode
+verdicts_route = (routes_read verdicts_path (bytes_by verdicts_path refl) refl offers_verdicts).1 (codes "/jury/rejudgings/{n}/verdicts", has_at 36 route_rows (codes "/jury/rejudgings/{n}/verdicts", offers_verdicts) refl, refl)
+
+asks_judge : Asks rejudged_by_two judging (OfRejudging verdicts_path (Judge verdict_asked))
+unfolding chars data_of is_utf8 serde_json_on_literals verdict_of
+asks_judge = wish_by rejudged_by_two.fixed verdict_request offers_verdicts refl verdicts_route
+
+is_half_judged : named_rejudging (jury_piece verdicts_path) rejudged_by_two.rejudgings ≡ Some (1, half_judged)
+is_half_judged = ap (λ number. if bytes_eq number (codes "1") then Some (1, half_judged) else None) (decimal_digit 1 (omega arith))
+
+-- what the step comes to, by the rejudging and the verdict that are named
+abbrev judged_with : Option (ℕ × Rejudging) → Option NamedVerdict → Outcome
+judged_with o v =
+    told (done_as (change_object rejudged_by_two.fixed) change_entries
+    (elim o as (λ _. Result RejudgingChange RuleRefusal) [ None ↦ Err NotFound | (Some p) ↦ ruled_with (member_change p.0 p.1) (rejudge_on true p.1 v (codes "adm")) ]))
+
+sets_ready : Has (item_entries rejudged_by_two judging) (SetMember 1 0 (Ready wrong))
+sets_ready =
+    subst (λ es. Has es (SetMember 1 0 (Ready wrong))) (sym (ap (λ r. (outcome_of rejudged_by_two (minutes 30) r).entries) asks_judge))
+    (subst (λ o. Has (judged_with o (named_verdict waiting.fixed waiting.submissions verdict_asked.wanted)).entries (SetMember 1 0 (Ready wrong))) (sym is_half_judged)
+    (subst (λ v. Has (judged_with (Some (1, half_judged)) v).entries (SetMember 1 0 (Ready wrong))) (sym is_named) (inl refl)))
+
+is_settled : IsSettled rejudged_by_two judging 1 0 wrong
+is_settled = two_judges_rejudge rejudged_by_two judging 1 0 wrong refl sets_ready
+
+-- ---- an administrator replaces a token
+
+abbrev tokens_path : List ℕ
+tokens_path = codes "/jury/tokens"
+
+abbrev token_request : Request
+token_request = record { method = method.Post; path = tokens_path; key = Absent; body = codes "{\"account_id\":\"adm\",\"token\":\"another-secret\"}" }
+
+abbrev replacing : Item
+replacing = item.Request (record { now = hours 6; credential = secret; request = token_request })
+
+abbrev offers_tokens : Offer
+offers_tokens = record nothing { post = Some (command.Change change.Token) }
+
+tokens_route : offer_at tokens_path ≡ Some offers_tokens
+unfolding chars is_utf8 lib.Utf8.encode
+tokens_route = (routes_read tokens_path (bytes_by tokens_path refl) refl offers_tokens).1 (tokens_path, has_at 31 route_rows (tokens_path, offers_tokens) refl, refl)
+
+asks_token : Asks over replacing (Changed (wanted.Token (record { id = codes "adm"; digest = sha256 (codes "another-secret") })))
+unfolding chars data_of is_utf8 serde_json_on_literals
+asks_token = wish_by over.fixed token_request offers_tokens refl tokens_route
+
+replaces : replaces_token over (codes "adm") replacing ≡ true
+replaces = ap (λ w. option_map_or (λ other. bytes_eq other (codes "adm")) (token_wished w) false) asks_token
+
+by_admin : is_of_admin over replacing ≡ true
+by_admin = only_admins_replace_tokens over replacing (codes "adm") replaces
