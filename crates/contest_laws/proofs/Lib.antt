@@ -8,11 +8,13 @@ pub mod FinalLaws
 pub mod Touches
 pub mod StandingLaws
 pub mod ReplayLaws
+pub mod ComparisonLaws
 pub mod CrashLaws
 pub mod AdminLaws
 pub mod GroupLaws
 pub mod Examples
 pub mod ExamplesRequests
 pub mod ExamplesReplays
+pub mod ExamplesComparisons
 pub mod IdLaws
 pub mod ClarificationLaws

@@ -5,4 +5,5 @@ pub mod Standing
 pub mod GroupBoards
 pub mod Ids
 pub mod Replays
+pub mod Comparing
 pub mod Crashes

@@ -1,5 +1,6 @@
 //! Laws over any run of requests and imports, by any callers at any moments: functions that do
 //! nothing, and whose contracts say what holds of every contest (own).
+ghost use Rattle.contest_laws.specs.Comparing.{DifferencesAreTold};
 ghost use Rattle.contest_laws.specs.Crashes.{NothingIsLost};
 ghost use Rattle.contest_laws.specs.Finals.{FinalResultsStay};
 ghost use Rattle.contest_laws.specs.GroupBoards.{GroupBoardsKeepTheOrder};
@@ -84,4 +85,10 @@ pub fn nothing_is_lost()
 /// public, each team and the jury.
 pub fn replays_are_days()
     ensures { ReplaysAreDays }
+{}
+
+/// A board that is held beside another system's scoreboard is told to be the same exactly if each row, each cell and
+/// each team is the same.
+pub fn differences_are_told()
+    ensures { DifferencesAreTold }
 {}
