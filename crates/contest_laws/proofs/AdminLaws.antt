@@ -1,11 +1,13 @@
--- Only an administrator replaces a token.
-use Rattle.std.proofs.Common.{◌≡◌, ◌∙◌, ℕ, Bool, true, false, List, Option, Some, None, Result, Ok, Err, refl, sym, ap}
+-- Only an administrator replaces a token; and so an account stays as long as none asks.
+use Rattle.std.proofs.Common.{◌≡◌, ◌∙◌, ℕ, Bool, true, false, List, [], ◌∷◌, Option, Some, None, Result, Ok, Err, inl, inr, refl, sym, ap}
 use Rattle.std.specs.Prelude.{if◌then◌else◌}
 use Rattle.std.specs.Option.{option_map_or}
 use Rattle.std.specs.Str.{bytes_eq}
 use Rattle.std.proofs.lemmas.Bool.{false≢true}
 use Rattle.contest_types.specs.TeamPlaces.{team_id_at}
-use Rattle.contest_types.specs.State.{FixedPart}
+use Rattle.contest_types.specs.Accounts.{account_named}
+use Rattle.contest_types.specs.State.{ContestState, FixedPart}
+use Rattle.contest_types.specs.Valid.{is_valid}
 use Rattle.contest_types.specs.declared.refusal.Refusal.{Refusal}
 use Rattle.contest_rules.specs.declared.submitting.WantedSubmission.{WantedSubmission}
 use Rattle.contest_postings.specs.declared.changes.WantedChange.{WantedChange}
@@ -34,7 +36,9 @@ use Rattle.contest_requests.specs.declared.request.Request.{Request}
 use Rattle.contest_desk.specs.AccountLaws.{replaces_token, token_posted, token_wished}
 use Rattle.contest_desk.specs.declared.item.Item.{Item}
 use Rattle.contest_desk.specs.declared.item.Item.TheVariants as item
-use Rattle.contest_laws.specs.Standing.{OnlyAdminsReplaceTokens, is_of_admin}
+use Rattle.contest_desk.proofs.AccountFacts.{only_tokens_are_replaced}
+use Rattle.contest_desk.proofs.ItemLemmas.{items_keep_valid}
+use Rattle.contest_laws.specs.Standing.{AccountsStayWithoutAdmins, OnlyAdminsReplaceTokens, is_of_admin}
 
 abbrev ByAdmin : (id : List ℕ) → Option Caller → Result Wish Reply → Type 0
 ByAdmin id who r = option_map_or (λ other. bytes_eq other id) (token_wished r) false ≡ true → option_map_or is_admin who false ≡ true
@@ -95,3 +99,21 @@ only_admins_replace_tokens x i id = go i
     go : (j : Item) → replaces_token x id j ≡ true → is_of_admin x j ≡ true
     go (item.Request j) is = wish_by id x.fixed (caller_of x.fixed j.credential) j.request (asked x.fixed.settings.head.id j.request.path j.request.method) is
     go (item.Import j) is = absurd (false≢true is)
+
+-- whoever isn't an administrator replaces no token
+replaces_none : (x : ContestState) (i : Item) (id : List ℕ) → is_of_admin x i ≡ false → replaces_token x id i ≡ false
+replaces_none x i id none = go (replaces_token x id i) refl
+  where
+    go : (b : Bool) → replaces_token x id i ≡ b → b ≡ false
+    go true is = absurd (false≢true (sym none ∙ only_admins_replace_tokens x i id is))
+    go false is = refl
+
+pub accounts_stay_without_admins : AccountsStayWithoutAdmins
+accounts_stay_without_admins x y [] [] valid run id a named = ap (λ (z : ContestState). account_named z.fixed.accounts id) run ∙ named
+accounts_stay_without_admins x y [] (r ∷ rs) valid run id a named = absurd run
+accounts_stay_without_admins x y (i ∷ is) [] valid run id a named = absurd run
+accounts_stay_without_admins x y (i ∷ is) (r ∷ rs) valid (none, mid, inl (said, done), rest) id a named =
+    accounts_stay_without_admins mid y is rs (ap is_valid done ∙ items_keep_valid x i valid) rest id a
+    (ap (λ (z : ContestState). account_named z.fixed.accounts id) done ∙ only_tokens_are_replaced x i id a valid named (replaces_none x i id none))
+accounts_stay_without_admins x y (i ∷ is) (r ∷ rs) valid (none, mid, inr (fails, same), rest) id a named =
+    accounts_stay_without_admins mid y is rs (ap is_valid same ∙ valid) rest id a (ap (λ (z : ContestState). account_named z.fixed.accounts id) same ∙ named)

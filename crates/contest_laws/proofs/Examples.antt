@@ -6,7 +6,9 @@ use Rattle.std.specs.Str.{bytes_eq}
 use Rattle.std.proofs.lemmas.Bool.{leb-true}
 use Rattle.contest_types.specs.Order.{Has}
 use Rattle.std.proofs.lemmas.Slice.Eq.{bytes_eq-Decides}
+use Rattle.contest_types.specs.Accounts.{account_named}
 use Rattle.contest_types.specs.State.{ContestState, add}
+use Rattle.contest_types.specs.declared.account.Role.TheVariants as role
 use Rattle.contest_types.specs.Valid.{is_valid}
 use Rattle.contest_types.specs.declared.audience.Audience.TheVariants as audience
 use Rattle.contest_types.specs.declared.entry.Entry.TheVariants.{NewRelease}
@@ -15,7 +17,7 @@ use Rattle.contest_types.specs.declared.import_kind.FixedKind.TheVariants as fix
 use Rattle.contest_types.specs.declared.objects.Team.{Team}
 use Rattle.contest_types.specs.declared.rejudging.Rejudging.{Rejudging}
 use Rattle.contest_types.specs.declared.rejudging.RejudgingState.TheVariants.{Applied}
-use Rattle.contest_types.proofs.ExampleContest.{hours, minutes, rejudged, released, team_named, thawed_at, wrong}
+use Rattle.contest_types.proofs.ExampleContest.{account_for, hours, minutes, rejudged, released, team_named, thawed_at, wrong}
 use Rattle.contest_types.proofs.ExampleTalk.{base, frozen_release, other_submission}
 use Rattle.contest_score.specs.BoardLaws.{teams_of}
 use Rattle.contest_score.specs.Contest.{board_for}
@@ -28,6 +30,7 @@ use Rattle.contest_desk.specs.declared.item.Item.{Item}
 use Rattle.contest_desk.specs.declared.item.Item.TheVariants as item
 use Rattle.contest_desk.proofs.UnseenLemmas.{frozen_where}
 use Rattle.contest_laws.specs.Standing.{moment_of}
+use Rattle.contest_laws.proofs.AdminLaws.{accounts_stay_without_admins}
 use Rattle.contest_laws.proofs.IdLaws.{submission_ids_stay}
 use Rattle.contest_laws.proofs.StandingLaws.{closed_rejudgings_stay, come_thaw_stays, held_releases_move_no_board}
 
@@ -94,3 +97,7 @@ still_thawed = come_thaw_stays thawed (item_step thawed late).1 (late ∷ []) ((
 -- the second team's submission is found by its id as before, by the public too
 found_still : submission_found audience.Public (hours 6) (item_step base late).1 (submission_id 1 1) ≡ submission_found audience.Public (hours 3) base (submission_id 1 1)
 found_still = submission_ids_stay audience.Public base (item_step base late).1 (late ∷ []) ((item_step base late).0 ∷ []) (hours 3) (hours 6) refl (runs_once base) other_submission (inr (inl refl))
+
+-- an account that stands keeps its token over the import, which no administrator asks for
+keeps_its_token : account_named (item_step base late).1.fixed.accounts (codes "a1") ≡ Some (account_for (codes "a1") (role.Team 0))
+keeps_its_token = accounts_stay_without_admins base (item_step base late).1 (late ∷ []) ((item_step base late).0 ∷ []) refl (refl, (item_step base late).1, inl (refl, refl), refl) (codes "a1") (account_for (codes "a1") (role.Team 0)) refl

@@ -6,7 +6,7 @@ ghost use Rattle.contest_laws.specs.Finals.{FinalResultsStay};
 ghost use Rattle.contest_laws.specs.GroupBoards.{GroupBoardsKeepTheOrder};
 ghost use Rattle.contest_laws.specs.Ids.{ClarificationsStay, SubmissionIdsStay};
 ghost use Rattle.contest_laws.specs.Replays.{ReplaysAreDays};
-ghost use Rattle.contest_laws.specs.Standing.{ClosedRejudgingsStay, ComeThawStays, HeldReleasesMoveNoBoard, OnlyAdminsReplaceTokens};
+ghost use Rattle.contest_laws.specs.Standing.{AccountsStayWithoutAdmins, ClosedRejudgingsStay, ComeThawStays, HeldReleasesMoveNoBoard, OnlyAdminsReplaceTokens};
 ghost use Rattle.contest_laws.specs.Verdicts.{OnlyRejudgingsRevise, TwoJudgesRejudge, TwoJudgesRelease};
 
 /// Final results are final. Once they were made final, submissions, releases, clarifications,
@@ -47,6 +47,12 @@ pub fn come_thaw_stays()
 /// An account's token is replaced by an administrator alone.
 pub fn only_admins_replace_tokens()
     ensures { OnlyAdminsReplaceTokens }
+{}
+
+/// An account stays as it is, with its role, its team and its token, over every run in which no administrator asks for
+/// anything.
+pub fn accounts_stay_without_admins()
+    ensures { AccountsStayWithoutAdmins }
 {}
 
 /// Until the thaw a verdict on another team's submission, which is frozen, moves no board but the
