@@ -29,6 +29,7 @@ import sys
 from lib import program
 from lib.nginx import free_port
 from lib.program import ROOT, Program
+from lib.units import calls_in, try_exposure, try_filter
 
 sys.path.insert(0, str(ROOT / "examples/day"))
 from follow_guide import commands_in
@@ -43,8 +44,7 @@ CONFIGURED = [
     "/etc/nginx/desk/pages.conf",
     "/etc/nginx/sites-available/desk",
 ]
-UNIT = "usr/lib/systemd/system/desk@.service"
-MOST_EXPOSED = 2.0
+UNIT, COPY_UNIT = (f"usr/lib/systemd/system/{name}@.service" for name in ("desk", "desk-copy"))
 # The name of the machine in the fresh root.
 NAME = "desk.example"
 # What stands in a fresh root beside what every machine has: what the package names, and what the guide calls.
@@ -262,29 +262,11 @@ def try_completion(package):
     package.same("files", completed(package, "import", "cup.db", "teams-csv", "te"), ["teams.csv"])
 
 
-def allowed():
-    """The calls that the unit's filter lets through, by the sets that systemd names."""
-    sets, name = {}, None
-    for line in said("systemd-analyze", "syscall-filter", "--no-pager")[1].splitlines():
-        if line.startswith("@"):
-            name = line.strip()
-        elif name and line.strip() and not line.strip().startswith("#"):
-            sets.setdefault(name, []).append(line.strip())
-
-    def calls(word):
-        return set().union(*map(calls, sets[word])) if word.startswith("@") else {word}
-
-    return calls("@system-service") - calls("@privileged") - calls("@resources") | calls("@default")
-
-
 def try_unit(package):
     """How exposed the unit is, and that it lets through what the desk calls."""
-    _, text = said("systemd-analyze", "security", "--offline=true", package.inside / UNIT)
-    score = re.search(r"Overall exposure level for \S+: ([\d.]+)", text)
-    package.note(bool(score) and float(score[1]) <= MOST_EXPOSED, f"the unit's exposure: {text[-200:]}")
+    for name in (UNIT, COPY_UNIT):
+        try_exposure(package, package.inside / name)
     unit = package.read(UNIT).decode()
-    filters = re.findall(r"(?m)^SystemCallFilter=(.*)$", unit)
-    package.same("the unit's filter", filters, ["@system-service", "~@privileged @resources"])
     for line in ("User=desk", "UMask=0077", "CapabilityBoundingSet=", "RestrictAddressFamilies=AF_INET"):
         package.note(f"\n{line}\n" in unit, f"the unit lacks {line}")
     folder, cup, port = package.new_folder(), ROOT / "examples/cup", free_port()
@@ -299,9 +281,9 @@ def try_unit(package):
         start = '{"start_time":"2031-01-01T00:00:00Z"}'
         said("curl", "-s", "--oauth2-bearer", "example-director", "-X", "PATCH", "-d", start, here)
         package.note("rows" in said("curl", "-s", f"{here}/scoreboard")[1], "no board under strace")
-    called = set(re.findall(r"(?m)^\d+ +([a-z_0-9]+)\(", (folder / "calls").read_text(encoding="utf-8")))
+    called = calls_in(folder / "calls")
     package.note("fdatasync" in called and "accept4" in called, f"the calls that were seen: {called}")
-    package.same("calls that the unit doesn't let through", called - allowed(), set())
+    try_filter(package, unit, called)
 
 
 def fresh_root(package):
