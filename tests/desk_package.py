@@ -6,11 +6,12 @@
 The package is held beside the files that it is made of, Debian's lintian, the help of the program and of its commands, and
 what `systemd-analyze security` says of its unit. The calls of `desk serve` on the system are those that the unit lets through.
 Then a fresh root of Debian gets it by apt, docs/GUIDE.md is followed there as root and as the user desk, by the blocks that
-are marked so and by the commands of sections 2 to 4, up to a board that nginx answers over TLS, and the package is purged. No
-systemd runs there: a script stands in for `systemctl`, which starts what the unit says as its user.
+are marked so and by the commands of sections 2 to 4, up to a board that nginx answers over TLS. The next version takes its
+place, and this one again, while the desk serves; then the package is purged. No systemd runs there: a script stands in for
+`systemctl`, which starts what the unit says as its user.
 
 Where no root can be made, as without root's rights or without a mirror, the package is only unpacked, and the last line
-counts that as skipped. With --no-root none is tried: it takes some 40 seconds.
+counts that as skipped. With --no-root none is tried: it takes some 50 seconds.
 
 Takes dpkg-deb, lintian, systemd-analyze, groff, strace, mmdebstrap, unshare, curl and sqlite3. Ends with the line `N passed, M failed`
 and, if something couldn't be tried, `, K skipped`; the exit status is 0 if M is 0.
@@ -375,6 +376,39 @@ def look_at_board(package, inside):
     package.note("desk@spring.service" in text, f"the machine starts {text}")
 
 
+def next_version(package):
+    """A package of the version after this one, with a word more in its README; and that version."""
+    folder, (major, minor, patch) = package.folder / "next", package.version.split(".")
+    version = f"{major}.{minor}.{int(patch) + 1}"
+    said("dpkg-deb", "-R", package.file, folder)
+    control, readme = folder / "DEBIAN/control", folder / "usr/share/doc/desk/README.md"
+    control.write_text(control.read_text(encoding="utf-8").replace(f"Version: {package.version}", f"Version: {version}"), encoding="utf-8")
+    readme.write_text("The next version.\n" + readme.read_text(encoding="utf-8"), encoding="utf-8")
+    file = package.folder / f"desk_{version}_amd64.deb"
+    status, text = said("dpkg-deb", "--root-owner-group", "-b", folder, file)
+    package.note(status == 0, f"the next version: {text}")
+    return version, file
+
+
+def take_next_version(package, inside):
+    """The next version takes the place of this one while a desk serves: the contests and what the director set up stay."""
+    version, file = next_version(package)
+    (inside.root / "root" / file.name).write_bytes(file.read_bytes())
+    contest = inside.root / "var/lib/desk/spring/spring.db"
+    done(package, inside, "a setting", "echo '# kept' >> /etc/nginx/desk/account.conf")
+    before = contest.read_bytes()
+    text = done(package, inside, "the next version", f"apt-get install ./{file.name} && dpkg-query -W -f '=${{Version}}=' desk")
+    package.note(text.endswith(f"={version}="), f"the version after an upgrade: {text[-200:]}")
+    text = done(package, inside, "its README", "head -n 1 /usr/share/doc/desk/README.md; tail -n 1 /etc/nginx/desk/account.conf; nginx -t 2>&1 | tail -n 1")
+    package.note(text.startswith("The next version.\n# kept\n") and "successful" in text, f"what an upgrade leaves: {text}")
+    package.note(contest.read_bytes() == before, "an upgrade changes the contest")
+    look_at_board(package, inside)
+    text = done(package, inside, "the version before", f"apt-get install --allow-downgrades ./{package.file.name} && dpkg-query -W -f '=${{Version}}=' desk")
+    package.note(text.endswith(f"={package.version}="), f"the version after a way back: {text[-200:]}")
+    done(package, inside, "what was set", f"sed -i '/^# kept$/d' /etc/nginx/desk/account.conf; rm {file.name}")
+    look_at_board(package, inside)
+
+
 def try_fresh_root(package):
     root = fresh_root(package)
     if root is None:
@@ -385,6 +419,7 @@ def try_fresh_root(package):
     before = listed(root)
     follow_guide(package, inside)
     look_at_board(package, inside)
+    take_next_version(package, inside)
     contest = root / "var/lib/desk/spring/spring.db"
     done(package, inside, "the desk ends", "kill $(pidof desk); nginx -s stop; sleep 1")
     kept = contest.read_bytes()
