@@ -46,12 +46,12 @@ pub still_valid : (x y : ContestState) (items : List Item) (answers : List Answe
 still_valid x y items answers valid run = run_keeps (λ z. is_valid z ≡ true) (λ i. Unit) (λ z i v u h. items_keep_valid z i v) x items answers y valid (λ i k. tt) valid run
 
 -- the places of a submission that stands
-record Within (f : FixedPart) (s : Submission) : Type 0 where
+pub record Within (f : FixedPart) (s : Submission) : Type 0 where
   pub team : s.team < length f.settings.teams
   pub problem : s.problem < length f.settings.problems
   pub language : s.language < length f.settings.languages
 
-within : (x : ContestState) (s : Submission) → is_valid x ≡ true → Has x.submissions s → Within x.fixed s
+pub within : (x : ContestState) (s : Submission) → is_valid x ≡ true → Has x.submissions s → Within x.fixed s
 within x s valid there =
     let f = x.fixed in
     let t = nat_lt s.team (length f.settings.teams) in
@@ -86,7 +86,7 @@ object_stays a x y now later s h w =
     let whose : team_id_at g.settings s.team ≡ team_id_at f.settings s.team = team_stays (λ (u : Team). u.id) [] (λ u. refl) f g s.team h w.team in
     λ i. object_by s (program_for a s) (h.start i) (h.id i) (language i) (problem i) (whose i)
 
-sight_stays : (a : Audience) (x y : ContestState) (s : Submission) → Extends x.fixed y.fixed → Within x.fixed s → sees_submission a y s ≡ sees_submission a x s
+pub sight_stays : (a : Audience) (x y : ContestState) (s : Submission) → Extends x.fixed y.fixed → Within x.fixed s → sees_submission a y s ≡ sees_submission a x s
 sight_stays a x y s h w = ap (λ b. knows_all_of a s.team || b) (team_stays (λ (t : Team). not t.hidden) false (λ t. refl) x.fixed y.fixed s.team h w.team)
 
 pub some_stand : {X : Type 0} (xs : List X) (x : X) → Has xs x → 0 < length xs

@@ -18,3 +18,6 @@ pub mod ExamplesReplays
 pub mod ExamplesComparisons
 pub mod IdLaws
 pub mod ClarificationLaws
+pub mod FreezeKeeps
+pub mod ServedJudgements
+pub mod JudgementIdLaws

@@ -4,7 +4,7 @@ ghost use Rattle.contest_laws.specs.Comparing.{DifferencesAreTold};
 ghost use Rattle.contest_laws.specs.Crashes.{NothingIsLost};
 ghost use Rattle.contest_laws.specs.Finals.{FinalResultsStay};
 ghost use Rattle.contest_laws.specs.GroupBoards.{GroupBoardsKeepTheOrder};
-ghost use Rattle.contest_laws.specs.Ids.{ClarificationsStay, SubmissionIdsStay};
+ghost use Rattle.contest_laws.specs.Ids.{ClarificationsStay, JudgementIdsStay, RevisedJudgementsGo, ServedJudgementsStay, SubmissionIdsStay};
 ghost use Rattle.contest_laws.specs.Replays.{ReplaysAreDays};
 ghost use Rattle.contest_laws.specs.Standing.{AccountsStayWithoutAdmins, ClosedRejudgingsStay, ComeThawStays, HeldReleasesMoveNoBoard, OnlyAdminsReplaceTokens};
 ghost use Rattle.contest_laws.specs.Verdicts.{OnlyRejudgingsRevise, TwoJudgesRejudge, TwoJudgesRelease};
@@ -97,4 +97,21 @@ pub fn replays_are_days()
 /// each team is the same.
 pub fn differences_are_told()
     ensures { DifferencesAreTold }
+{}
+
+/// The id of a judgement names one judgement for good: whoever is served one by it, at any moment of
+/// any run, is served the same object, byte for byte.
+pub fn judgement_ids_stay()
+    ensures { JudgementIdsStay }
+{}
+
+/// A verdict that an audience was served it is served for good, until another one is released on
+/// the submission. One that the thaw alone showed is served at no moment before the thaw.
+pub fn served_judgements_stay()
+    ensures { ServedJudgementsStay }
+{}
+
+/// A verdict that a later one revised is served to nobody any more.
+pub fn revised_judgements_go()
+    ensures { RevisedJudgementsGo }
 {}
