@@ -21,3 +21,6 @@ pub mod ClarificationLaws
 pub mod FreezeKeeps
 pub mod ServedJudgements
 pub mod JudgementIdLaws
+pub mod JoinedRows
+pub mod JoinLaws
+pub mod ExamplesJoined

@@ -7,3 +7,4 @@ pub mod Ids
 pub mod Replays
 pub mod Comparing
 pub mod Crashes
+pub mod JoinedFiles

@@ -5,6 +5,7 @@ ghost use Rattle.contest_laws.specs.Crashes.{NothingIsLost};
 ghost use Rattle.contest_laws.specs.Finals.{FinalResultsStay};
 ghost use Rattle.contest_laws.specs.GroupBoards.{GroupBoardsKeepTheOrder};
 ghost use Rattle.contest_laws.specs.Ids.{ClarificationsStay, JudgementIdsStay, RevisedJudgementsGo, ServedJudgementsStay, SubmissionIdsStay};
+ghost use Rattle.contest_laws.specs.JoinedFiles.{FaultsJoin, ImportsJoin, ImportsPart};
 ghost use Rattle.contest_laws.specs.Replays.{ReplaysAreDays};
 ghost use Rattle.contest_laws.specs.Standing.{AccountsStayWithoutAdmins, ClosedRejudgingsStay, ComeThawStays, HeldReleasesMoveNoBoard, OnlyAdminsReplaceTokens};
 ghost use Rattle.contest_laws.specs.Verdicts.{OnlyRejudgingsRevise, TwoJudgesRejudge, TwoJudgesRelease};
@@ -114,4 +115,20 @@ pub fn served_judgements_stay()
 /// A verdict that a later one revised is served to nobody any more.
 pub fn revised_judgements_go()
     ensures { RevisedJudgementsGo }
+{}
+
+/// Two files that are imported one after the other come to the same as both in one: as many records
+/// add something, and the contest is the same.
+pub fn imports_join()
+    ensures { ImportsJoin }
+{}
+
+/// A file that is accepted is accepted in two parts too, one after the other.
+pub fn imports_part()
+    ensures { ImportsPart }
+{}
+
+/// A record that is at fault in one of two files is at fault in both in one, for the same cause.
+pub fn faults_join()
+    ensures { FaultsJoin }
 {}
