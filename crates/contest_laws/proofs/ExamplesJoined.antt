@@ -1,5 +1,5 @@
 -- Worked examples: files that are put together by their bytes, and what they add.
-use Rattle.std.proofs.Common.{◌≡◌, ◌++◌, ℕ, true, false, List, [], ◌∷◌, map, None, Ok, Err, refl}
+use Rattle.std.proofs.Common.{◌≡◌, ◌++◌, ℕ, true, false, List, [], ◌∷◌, map, Some, None, Ok, Err, inr, refl}
 use Rattle.std.specs.Fmt.{digits}
 use Rattle.std.specs.Prelude.{codes}
 use Rattle.std.specs.Str.{chars, is_utf8}
@@ -21,8 +21,10 @@ use Rattle.contest_types.specs.declared.refusal.Refusal.TheVariants.{ImportRow}
 use Rattle.contest_types.specs.declared.submission.Release.{Release}
 use Rattle.contest_types.proofs.ExampleContest.{empty, minutes, submitted, team_named}
 use Rattle.contest_files.specs.JsonMembers.{data_of}
+use Rattle.contest_import.specs.CsvFiles.{team_names}
+use Rattle.contest_import.specs.Files.{csv_records}
 use Rattle.contest_desk.specs.Imports.{import_step, is_of_record}
-use Rattle.contest_laws.specs.JoinedFiles.{AreJoined}
+use Rattle.contest_laws.specs.JoinedFiles.{AreJoined, EndsLine}
 use Rattle.contest_laws.proofs.JoinLaws.{faults_join, imports_join}
 
 abbrev teams : ImportKind
@@ -47,6 +49,19 @@ are_joined = record {
   of_second = refl;
   of_joined = refl;
 }
+
+-- those of the first end in a line's end that is no part of a field. One within quotation marks is
+ends_line : EndsLine (csv_records team_names) header first_rows
+unfolding next_record records_from strip_bom
+ends_line = inr (codes "t4,Delta,,\nt5,\"Echo, and others\",,true", refl, refl)
+
+within_marks : csv_records team_names (header ++ codes "t4,\"Delta\n") ≡ Some ((codes "t4" ∷ codes "Delta\n" ∷ []) ∷ [])
+unfolding next_record records_from strip_bom
+within_marks = refl
+
+without_it : csv_records team_names (header ++ codes "t4,\"Delta") ≡ Some ((codes "t4" ∷ codes "Delta" ∷ []) ∷ [])
+unfolding next_record records_from strip_bom
+without_it = refl
 
 -- a contest whose start isn't set yet
 abbrev unset : ContestState

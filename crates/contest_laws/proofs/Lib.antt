@@ -24,3 +24,4 @@ pub mod JudgementIdLaws
 pub mod JoinedRows
 pub mod JoinLaws
 pub mod ExamplesJoined
+pub mod CsvRows

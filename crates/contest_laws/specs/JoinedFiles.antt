@@ -1,5 +1,5 @@
 -- An import in two files is the import of both in one (own). Each law is the contract of a function of src/laws.rt.
-use Rattle.std.specs.Prelude.{◌≡◌, ◌≤◌, ◌+◌, ◌++◌, ℕ, List, length, Option, Some, Ok, Err}
+use Rattle.std.specs.Prelude.{◌≡◌, ◌⊎◌, ◌≤◌, ◌+◌, ◌++◌, ℕ, List, [], codes, length, Option, Some, Ok, Err}
 use Rattle.std.specs.Option.{option_map_or}
 use Rattle.contest_types.specs.State.{ContestState}
 use Rattle.contest_types.specs.declared.import_kind.FixedKind.TheVariants as fixed
@@ -72,3 +72,17 @@ pub record FaultsJoin : Type 0 where
   pub of_second :
       (x y : ContestState) (now later : ℕ) (k : ImportKind) (first second joined : List ℕ) (n at : ℕ) (cause : Cause) → Follows k now later → AreJoined k first second joined → length joined ≤ IMPORTED_FILE
       → import_step x now k first ≡ (Ok n, y) → (import_step y later k second).0 ≡ Err (ImportRow at cause) → import_step x now k joined ≡ (Err (ImportRow (records_in k first + at) cause), x)
+
+-- rows below a header line that end in a line's end which is no part of a field: without it the same is read. Or none
+abbrev pub EndsLine : {R : Type 0} → (read : List ℕ → Option (List R)) → (header rows : List ℕ) → Type 0
+EndsLine read header rows = (rows ≡ []) ⊎ ((text : List ℕ) × (rows ≡ text ++ codes "\n") × (read (header ++ text) ≡ read (header ++ rows)))
+
+-- the rows of the second file may stand below those of the first as they are, below one header line
+abbrev pub RowsJoin : {R : Type 0} → (read : List ℕ → Option (List R)) → (header : List ℕ) → Type 0
+RowsJoin read header = (rows others : List ℕ) → EndsLine read header rows → ReadsAsBoth read (header ++ rows) (header ++ others) (header ++ (rows ++ others))
+
+-- so it is with the files of each kind that are CSV
+pub record CsvRowsJoin : Type 0 where
+  pub teams : RowsJoin (csv_records team_names) (codes "id,name,group_ids,hidden\n")
+  pub accounts : RowsJoin (csv_records account_names) (codes "id,role,team_id,token\n")
+  pub verdicts : RowsJoin verdict_records (codes "submission_id,judgement_type_id\n")

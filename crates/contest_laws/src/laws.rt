@@ -5,7 +5,7 @@ ghost use Rattle.contest_laws.specs.Crashes.{NothingIsLost};
 ghost use Rattle.contest_laws.specs.Finals.{FinalResultsStay};
 ghost use Rattle.contest_laws.specs.GroupBoards.{GroupBoardsKeepTheOrder};
 ghost use Rattle.contest_laws.specs.Ids.{ClarificationsStay, JudgementIdsStay, RevisedJudgementsGo, ServedJudgementsStay, SubmissionIdsStay};
-ghost use Rattle.contest_laws.specs.JoinedFiles.{FaultsJoin, ImportsJoin, ImportsPart};
+ghost use Rattle.contest_laws.specs.JoinedFiles.{CsvRowsJoin, FaultsJoin, ImportsJoin, ImportsPart};
 ghost use Rattle.contest_laws.specs.Replays.{ReplaysAreDays};
 ghost use Rattle.contest_laws.specs.Standing.{AccountsStayWithoutAdmins, ClosedRejudgingsStay, ComeThawStays, HeldReleasesMoveNoBoard, OnlyAdminsReplaceTokens};
 ghost use Rattle.contest_laws.specs.Verdicts.{OnlyRejudgingsRevise, TwoJudgesRejudge, TwoJudgesRelease};
@@ -131,4 +131,10 @@ pub fn imports_part()
 /// A record that is at fault in one of two files is at fault in both in one, for the same cause.
 pub fn faults_join()
     ensures { FaultsJoin }
+{}
+
+/// Two files of CSV are in one if the rows of the second are put below those of the first as they
+/// are, where these end in a line's end that is no part of a field.
+pub fn csv_rows_join()
+    ensures { CsvRowsJoin }
 {}
