@@ -1,4 +1,4 @@
--- Final results are final (own). The law is the contract of a function of src/laws/finals.rt.
+-- Final results are final (own). The law is the contract of a function of src/laws.rt.
 use Rattle.std.specs.Prelude.{◌≡◌, ℕ, true, List, Option, None}
 use Rattle.contest_types.specs.Clock.{end_of}
 use Rattle.contest_types.specs.State.{ContestState}

@@ -1,5 +1,5 @@
 -- How verdicts come to be released, in the subject's words (DOMjudge manual, "Judging" and "Rejudging"; verification by a
--- second account is own). Each law is the contract of a function of src/laws/verdicts.rt.
+-- second account is own). Each law is the contract of a function of src/laws.rt.
 use Rattle.std.specs.Prelude.{◌≡◌, ◌≤◌, ℕ, true, false, List, Some, Ok}
 use Rattle.std.specs.Str.{bytes_eq}
 use Rattle.contest_types.specs.Order.{Has}
