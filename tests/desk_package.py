@@ -261,6 +261,7 @@ def try_completion(package):
     package.same("formats", completed(package, "board", "cup.db", "--format", ""), ["text", "csv"])
     package.same("audiences", completed(package, "feed", "--audience", "j"), ["jury"])
     package.same("files", completed(package, "import", "cup.db", "teams-csv", "te"), ["teams.csv"])
+    package.same("formats of an export", completed(package, "export", "cup.db", "--format", ""), ["csv", "icpc"])
 
 
 def try_unit(package):

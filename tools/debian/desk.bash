@@ -9,7 +9,7 @@ _desk_words() {
 _desk_values() {
     case $3 in
     --audience) echo public jury ;;
-    --format) "$1" "$2" --help | sed -n 's/^ *--format .*[Ww]rites it as \([^[]*\).*/\1/p' | tr -s ', ' '\n' | grep -vxE 'as|or' ;;
+    --format) "$1" "$2" --help | grep '^ *--format ' | grep -oE ' as [a-z]+' | cut -d ' ' -f 3 ;;
     KIND) "$1" "$2" --help | sed -n 's/^ *<KIND> .*holds: //p' | tr -s ', ' '\n' | grep -vxE 'or|as|JSON' ;;
     esac
 }

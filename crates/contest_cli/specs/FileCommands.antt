@@ -1,12 +1,14 @@
 -- What each command that keeps a contest in a file asks of the machine, and how it ends on what was opened.
-use Rattle.std.specs.Prelude.{◌≡◌, ◌⊎◌, ℕ, Bool, if◌then◌else◌, List, Option, Some, None, Result, Ok, Err}
+use Rattle.std.specs.Prelude.{◌≡◌, ◌≤◌, ◌⊎◌, ℕ, Bool, if◌then◌else◌, List, Option, Some, None, Result, Ok, Err}
 use Rattle.std.specs.Io.KnownBytes.{Keeps}
 use Rattle.sqlite_trees.specs.declared.store.Store.{Ghosts}
 use Rattle.sqlite.specs.Held.{Held, state}
+use Rattle.sqlite.specs.State.{State}
 use Rattle.contest_streams.specs.Streams.{Counting, Fails, ReadsAll, Stream, stream}
 use Rattle.contest_types.specs.declared.limits.TheConstants.{IMPORTED_FILE}
 use Rattle.contest_types.specs.declared.refusal.Refusal.TheVariants.{BodyTooLarge, Memory}
 use Rattle.contest_cli_commands.specs.Exporting.{Exports}
+use Rattle.contest_cli_commands.specs.ExportingResults.{ExportsResults}
 use Rattle.contest_cli_commands.specs.Feeding.{Feeds}
 use Rattle.contest_cli_commands.specs.Import.{Imports}
 use Rattle.contest_cli_commands.specs.Init.{Inits}
@@ -22,6 +24,8 @@ use Rattle.contest_cli_words.specs.declared.awards_words.AwardsWords.{AwardsWord
 use Rattle.contest_cli_words.specs.declared.board_words.BoardWords.{BoardWords}
 use Rattle.contest_cli_words.specs.declared.command_error.CommandError.{CommandError}
 use Rattle.contest_cli_words.specs.declared.command_error.CommandError.TheVariants.{File, Refused}
+use Rattle.contest_cli_words.specs.declared.export_words.ExportFormat.{ExportFormat}
+use Rattle.contest_cli_words.specs.declared.export_words.ExportFormat.TheVariants.{Csv, Icpc}
 use Rattle.contest_cli_words.specs.declared.export_words.ExportWords.{ExportWords}
 use Rattle.contest_cli_words.specs.declared.feed_words.FeedWords.{FeedWords}
 use Rattle.contest_cli_words.specs.declared.import_words.ImportWords.{ImportWords}
@@ -106,6 +110,11 @@ module _ {F : Type 0} (remaining : F → Option (List ℕ)) (Reads : List ℕ �
 abbrev pub viewer : (jury : Bool) → Who
 viewer jury = if jury then Jury else Public
 
+-- all submissions are exported, or the final results
+abbrev pub ExportsAs : ExportFormat → (out_old out_new err_old err_new : Stream) → (old new : State) → (status : ℕ) → Type 0
+ExportsAs Csv = Exports
+ExportsAs Icpc = ExportsResults
+
 -- stores of some type S
 module _ {S : Type 0} (g : Ghosts S) where
   -- `init`, of a contest whose bytes these are; `out` keeps what it had
@@ -130,7 +139,8 @@ module _ {S : Type 0} (g : Ghosts S) where
 
   -- `export`
   abbrev pub ExportsOn : ExportWords → Unit {0} → Unit {0} → (out_old out_new err_old err_new : Stream) → (old new : Held S) → (status : ℕ) → Type 0
-  ExportsOn asked now input out_old out_new err_old err_new old new status = Exports out_old out_new err_old err_new (state g old) (state g new) status
+  ExportsOn asked now input out_old out_new err_old err_new old new status =
+      (status ≤ 1) × ExportsAs asked.format out_old out_new err_old err_new (state g old) (state g new) status
 
   -- `feed`, at a moment
   abbrev pub FeedsOn : FeedWords → ℕ → Unit {0} → (out_old out_new err_old err_new : Stream) → (old new : Held S) → (status : ℕ) → Type 0

@@ -7,10 +7,10 @@ ghost use Rattle.contest_cli.specs.FileCommands.{AwardsOn, BoardsOn, ExportsOn, 
 ghost use Rattle.contest_cli.specs.FileCommands.{IsAskedMoment, viewer};
 
 use crate::file_command::FileCommand;
-use contest_cli_commands::{run_export, run_feed, run_print};
+use contest_cli_commands::{run_export, run_feed, run_print, run_results};
 use contest_cli_machine::{MachineClock, Opening, Outside};
 use contest_cli_words::{
-    AskedText, AwardsWords, BoardWords, CommandError, ExportWords, FeedWords, Who,
+    AskedText, AwardsWords, BoardWords, CommandError, ExportFormat, ExportWords, FeedWords, Who,
 };
 use contest_streams::Counted;
 use contest_types::Moment;
@@ -183,7 +183,10 @@ impl<W: Outside> FileCommand<W> for ExportWords<'_> {
         ensures { ExportsOn S.Store self.now now input (stream O.contents out.old) (stream O.contents out.new)
             (stream E.contents err.old) (stream E.contents err.new) conn result.1 result.0 }
     {
-        run_export(alloc, conn, out, err)
+        match self.format {
+            ExportFormat::Csv => run_export(alloc, conn, out, err),
+            ExportFormat::Icpc => run_results(alloc, conn, out, err),
+        }
     }
 }
 

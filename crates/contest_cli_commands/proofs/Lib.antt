@@ -4,6 +4,7 @@ mod OpeningLemmas
 mod ImportLemmas
 mod PrintLemmas
 mod ExportLemmas
+mod ResultsLemmas
 mod FeedLemmas
 mod ClientLemmas
 mod ServingLemmas

@@ -4,6 +4,7 @@ pub mod Import
 pub mod Looking
 pub mod Printing
 pub mod Exporting
+pub mod ExportingResults
 pub mod Feeding
 pub mod Clients
 pub mod Served

@@ -29,7 +29,7 @@ pub use board_words::BoardWords;
 pub use command_error::CommandError;
 pub use command_table::{CommandTable, WordKind, WordRow, command_of};
 pub use command_words::{CommandWords, read_words};
-pub use export_words::ExportWords;
+pub use export_words::{ExportFormat, ExportWords};
 pub use feed_words::FeedWords;
 pub use given_words::{borrowed, refuse_arguments};
 pub use help::{asks_help, is_help, show_help};
