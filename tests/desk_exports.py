@@ -107,7 +107,8 @@ def export_text(contest):
 
 def larger_files(chance, places):
     """Files of the demo contest with more teams, in groups by chance, and with so many places of each medal."""
-    rows = [f"t{10 + number},Team {number},{' '.join(chance.sample(['north', 'south', 'guests'], chance.randrange(4)))}," for number in range(6)]
+    groups = [" ".join(chance.sample(["north", "south", "guests"], chance.randrange(4))) for _ in range(6)]
+    rows = [f"t{10 + number},Team {number},{ids}," for number, ids in enumerate(groups)]
     medals = json.dumps(dict(zip(COLOURS, places)))
     init = demo.STARTED.replace('"duration"', f'"medals":{medals},"duration"')
     return {**demo.FILES, "init": init, "teams-csv": demo.FILES["teams-csv"] + "".join(row + "\n" for row in rows)}
@@ -257,4 +258,5 @@ def try_memory(desk):
 
 
 if __name__ == "__main__":
-    sys.exit(program.main(__doc__, Program, (try_made, try_results, try_cuts, try_cut_results, try_refused, try_memory), program="desk", made=120, every=7, seed=42))
+    parts = (try_made, try_results, try_cuts, try_cut_results, try_refused, try_memory)
+    sys.exit(program.main(__doc__, Program, parts, program="desk", made=120, every=7, seed=42))
