@@ -158,6 +158,8 @@ def try_files(package):
         package.is_from(f"usr/share/doc/desk/{name}", name)
     for name in ("ask", "account", "pages", "files"):
         package.is_from(f"etc/nginx/desk/{name}.conf", f"examples/nginx/{name}.conf")
+    for name in ("front", "through"):
+        package.is_from(f"usr/share/desk/examples/nginx/{name}.conf", f"examples/nginx/{name}.conf")
     package.is_from("usr/bin/contest-package", "examples/package/contest-package")
     package.same("what an upgrade asks about", said("dpkg-deb", "-I", package.file, "conffiles")[1].split(), CONFIGURED)
 
@@ -259,9 +261,9 @@ def try_completion(package):
     kinds = "judgement-types languages problems groups teams teams-csv accounts-csv verdicts-csv"
     package.same("kinds", completed(package, "import", "cup.db", ""), kinds.split())
     package.same("formats", completed(package, "board", "cup.db", "--format", ""), ["text", "csv"])
+    package.same("formats of an export", completed(package, "export", "cup.db", "--format", ""), ["csv", "icpc"])
     package.same("audiences", completed(package, "feed", "--audience", "j"), ["jury"])
     package.same("files", completed(package, "import", "cup.db", "teams-csv", "te"), ["teams.csv"])
-    package.same("formats of an export", completed(package, "export", "cup.db", "--format", ""), ["csv", "icpc"])
 
 
 def try_unit(package):

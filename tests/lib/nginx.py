@@ -1,5 +1,5 @@
-"""Debian's nginx in front of desks, as examples/nginx/ has it, in a folder and on ports of its own; and what asks
-it."""
+"""Debian's nginx in front of desks, and before that one for spectators, as examples/nginx/ has it, each in a folder and on
+ports of its own; and what asks it."""
 
 import atexit
 import base64
@@ -37,7 +37,7 @@ http {{
     fastcgi_temp_path {folder}/fastcgi;
     uwsgi_temp_path {folder}/uwsgi;
     scgi_temp_path {folder}/scgi;
-    include desk.conf;
+    include {conf};
 }}
 """
 # What docs/GUIDE.md does: it makes a certificate, and sets a worker's connections.
@@ -85,44 +85,24 @@ def few_files():
     resource.setrlimit(resource.RLIMIT_NOFILE, (FILES_OF_DEBIAN, resource.getrlimit(resource.RLIMIT_NOFILE)[1]))
 
 
-class Nginx:
-    """nginx before desks, each named by its contest and its port. It ends with the script. For a script that asks more than
-    people do, the limits can be taken away. Its certificate is one of the machine's name, or of another."""
+class Started:
+    """nginx in a folder and on a port of its own, by one of the files of examples/nginx/, with a certificate of a name. It ends
+    with the script."""
 
-    def __init__(self, folder, desks, is_limited=True, workers=2, name="$(hostname -f)"):
-        self.folder, self.port, self.plain_port = folder, free_port(), free_port()
-        self.seen, self.account_port = 0, free_port()
+    def __init__(self, folder, conf, workers, name):
+        self.folder, self.port, self.seen = folder, free_port(), 0
         (folder / "desk/contests").mkdir(parents=True)
         words = ["bash", "-c", CERTIFICATE.replace("/etc/nginx/desk", str(folder / "desk")).replace("$(hostname -f)", name)]
         subprocess.run(words, check=True, capture_output=True)
-        own = {"folder": folder, "user": getpass.getuser(), "workers": workers, "connections": CONNECTIONS}
+        own = {"folder": folder, "user": getpass.getuser(), "workers": workers, "connections": CONNECTIONS, "conf": conf}
         self.write("nginx.conf", MAIN.format(**own))
-        listens = {
-            "listen 443 ssl": f"listen 127.0.0.1:{self.port} ssl",
-            "listen 80": f"listen 127.0.0.1:{self.plain_port}",
-            "listen 127.0.0.1:8079": f"listen 127.0.0.1:{self.account_port}",
-        }
-        caches = {"/var/lib/nginx/desk": f"{folder}/cache", "/run/nginx-accounts": f"{folder}/accounts"}
-        shown = (lambda text: text) if is_limited else without_limits
         self.write("files.conf", with_texts("files.conf", {}))
-        self.write("desk.conf", shown(with_texts("desk.conf", {**listens, **caches})))
-        for name in ("ask.conf", "account.conf", "pages.conf"):
-            self.write(f"desk/{name}", shown(with_texts(name, {})))
-        for contest, port in desks.items():
-            self.lead(contest, port)
-        self.process = subprocess.Popen(
-            ["nginx", "-p", folder, "-c", folder / "nginx.conf", "-e", folder / "error.log"], preexec_fn=few_files
-        )
+
+    def start(self):
+        words = ["nginx", "-p", self.folder, "-c", self.folder / "nginx.conf", "-e", self.folder / "error.log"]
+        self.process = subprocess.Popen(words, preexec_fn=few_files)
         atexit.register(self.process.terminate)
         self.wait()
-
-    def lead(self, contest, port):
-        """Leads a contest's paths to a port; if nginx runs it takes that up by `reload`."""
-        own = {"riverside": contest, "8081": str(port), "8079": str(self.account_port), "/srv/desk/web/": f"{ROOT}/web/"}
-        self.write(f"desk/contests/{contest}.conf", with_texts("riverside.conf", own))
-
-    def reload(self):
-        self.process.send_signal(signal.SIGHUP)
 
     def write(self, name, text):
         (self.folder / name).write_text(text, encoding="utf-8")
@@ -157,6 +137,53 @@ class Nginx:
     def connected(self):
         """A client's end of a new connection, for bytes."""
         return TRUSTING.wrap_socket(socket.create_connection(("127.0.0.1", self.port), timeout=60))
+
+
+class Nginx(Started):
+    """nginx before desks, each named by its contest and its port. For a script that asks more than people do, the limits can be
+    taken away. Its certificate is one of the machine's name, or of another."""
+
+    def __init__(self, folder, desks, is_limited=True, workers=2, name="$(hostname -f)"):
+        super().__init__(folder, "desk.conf", workers, name)
+        self.plain_port, self.account_port = free_port(), free_port()
+        listens = {
+            "listen 443 ssl": f"listen 127.0.0.1:{self.port} ssl",
+            "listen 80": f"listen 127.0.0.1:{self.plain_port}",
+            "listen 127.0.0.1:8079": f"listen 127.0.0.1:{self.account_port}",
+        }
+        caches = {"/var/lib/nginx/desk": f"{folder}/cache", "/run/nginx-accounts": f"{folder}/accounts"}
+        shown = (lambda text: text) if is_limited else without_limits
+        self.write("desk.conf", shown(with_texts("desk.conf", {**listens, **caches})))
+        for name in ("ask.conf", "account.conf", "pages.conf"):
+            self.write(f"desk/{name}", shown(with_texts(name, {})))
+        for contest, port in desks.items():
+            self.lead(contest, port)
+        self.start()
+
+    def lead(self, contest, port):
+        """Leads a contest's paths to a port; if nginx runs it takes that up by `reload`."""
+        own = {"riverside": contest, "8081": str(port), "8079": str(self.account_port), "/srv/desk/web/": f"{ROOT}/web/"}
+        self.write(f"desk/contests/{contest}.conf", with_texts("riverside.conf", own))
+
+    def reload(self):
+        self.process.send_signal(signal.SIGHUP)
+
+
+class Front(Started):
+    """nginx of a machine for spectators, before that of a contest's machine, whose certificate is of a name."""
+
+    def __init__(self, folder, behind, name, is_limited=True, workers=2):
+        super().__init__(folder, "front.conf", workers, "spectators.example")
+        shown = (lambda text: text) if is_limited else without_limits
+        own = {
+            "listen 443 ssl": f"listen 127.0.0.1:{self.port} ssl",
+            "server contest.example:443": f"server 127.0.0.1:{behind.port}",
+            "/var/lib/nginx/front": f"{folder}/front",
+        }
+        self.write("front.conf", shown(with_texts("front.conf", own)))
+        self.write("desk/through.conf", shown(with_texts("through.conf", {"contest.example": name})))
+        self.write("desk/contest.pem", (behind.folder / "desk/certificate.pem").read_text(encoding="utf-8"))
+        self.start()
 
 
 class Client:
