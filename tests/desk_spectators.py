@@ -129,7 +129,7 @@ def watch(desk, contest, port, kept):
 def look_at(desk, contest, bodies):
     """Each board that spectators were shown: the desk gave it to the public, and it shows no verdict of the freeze."""
     given = {board for _, board in contest.boards}
-    desk.note(len(bodies) > 2, f"spectators were shown {len(bodies)} different boards")
+    desk.note(len(bodies) > 1, f"spectators were shown {len(bodies)} different boards")
     for body in bodies:
         desk.note(body in given, f"a board that the desk never gave the public: {body}")
         cells = [cell for row in json.loads(body)["rows"] for cell in row["problems"]]

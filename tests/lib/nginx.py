@@ -177,6 +177,7 @@ class Front(Started):
         shown = (lambda text: text) if is_limited else without_limits
         own = {
             "listen 443 ssl": f"listen 127.0.0.1:{self.port} ssl",
+            "listen 80": f"listen 127.0.0.1:{free_port()}",
             "server contest.example:443": f"server 127.0.0.1:{behind.port}",
             "/var/lib/nginx/front": f"{folder}/front",
         }
