@@ -10,10 +10,12 @@ ghost use Rattle.contest_cli.specs.Runs.{Runs};
 ghost use Rattle.contest_cli_commands.specs.Serve.{ServesOn};
 ghost use Rattle.contest_cli.specs.declared.invocation.CommandName.{CommandName};
 
+use crate::explained::{Failures, explain_refusal};
 use crate::file_command::run_by_words;
 use crate::help::{HELP, VERSION, show_help_of};
 use crate::invocation::{CommandName, Invocation, invocation_of};
 use contest_cli_audit::audit;
+use contest_cli_explain::{Kept, LastLine, take_explain};
 use contest_cli_machine::{
     ClientReader, ClientWriter, Host, HostListener, HostNetwork, Listen, Machine, MachineClock,
     Network, Outside,
@@ -32,6 +34,7 @@ use std::fs::File;
 use std::io::{self, Read, Write};
 
 /// Runs the program by its arguments, of which the first is its own name. Answers the exit status.
+/// With `--explain` among the words of a command, a refusal is explained on `err`, behind its line.
 pub fn start<R: Read + Drop, O: Write + Drop, E: Write + Drop>(
     rt: &HostRuntime,
     args: io::Result<Args>,
@@ -42,16 +45,57 @@ pub fn start<R: Read + Drop, O: Write + Drop, E: Write + Drop>(
     ensures statuses { result ≤ 3 }
     ensures unread { IfErr args (λ _. 1 ≤ result) }
 {
-    let mut reader = Counted::new(reader);
-    let mut out = Counted::new(out);
-    let mut err = Counted::new(err);
     match args {
         Ok(args) => match args.skip(1).collect::<Vec<String>>(rt.alloc()) {
-            Ok(words) => run_on_host(rt, Unknown, &words, &mut reader, &mut out, &mut err),
-            Err(AllocError) => CommandError::Refused(Refusal::Memory).refuse(&mut err),
+            Ok(words) => run_words(rt, words, reader, out, err),
+            Err(AllocError) => CommandError::Refused(Refusal::Memory).refuse(&mut Counted::new(err)),
         },
-        Err(error) => refuse_arguments(&error, &mut err),
+        Err(error) => refuse_arguments(&error, &mut Counted::new(err)),
     }
+}
+
+// Runs the program by words of its own.
+fn run_words<R: Read + Drop, O: Write + Drop, E: Write + Drop>(
+    rt: &HostRuntime,
+    words: Vec<String>,
+    reader: R,
+    out: O,
+    err: E,
+) -> u8
+    ensures { result ≤ 3 }
+{
+    let mut words = words;
+    let mut out = Counted::new(out);
+    if take_explain(&mut words) {
+        return run_explained(rt, &words, reader, &mut out, err);
+    }
+    let mut reader = Counted::new(reader);
+    let mut err = Counted::new(err);
+    run_on_host(rt, Unknown, &words, &mut reader, &mut out, &mut err)
+}
+
+// The same, where a refusal is explained.
+fn run_explained<R: Read + Drop, O: Write, E: Write + Drop>(
+    rt: &HostRuntime,
+    words: &[String],
+    reader: R,
+    out: &mut Counted<O>,
+    err: E,
+) -> u8
+    ensures { result ≤ 3 }
+{
+    let mut reader = Counted::new(Kept::new(rt.alloc(), reader));
+    let mut err = Counted::new(LastLine::new(err));
+    let status = run_on_host(rt, Unknown, words, &mut reader, out, &mut err);
+    if status == 1 {
+        let failures = Failures {
+            input: reader.faults() > 0,
+            output: out.faults() > 0,
+        };
+        let input = reader.into_inner();
+        explain_refusal(rt, words, failures, &input, err.into_inner());
+    }
+    status
 }
 
 // The same, where `disk` stands for what the files hold that keep a contest.

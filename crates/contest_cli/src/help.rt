@@ -3,7 +3,7 @@ ghost use Rattle.contest_streams.specs.Streams.{stream};
 ghost use Rattle.contest_cli_words.specs.Endings.{ShowsSome};
 
 use crate::invocation::CommandName;
-use clap::Command;
+use clap::{Arg, ArgAction, Command};
 use contest_cli_audit::AuditWords;
 use contest_cli_replay::ReplayWords;
 use contest_cli_words::{
@@ -50,9 +50,13 @@ Examples:
   desk serve cup.db --requests all --port 8080
   desk upgrade cup.db
 
-'desk help <COMMAND>' tells more of a command. docs/FORMATS.md says how to
-write a contest as CSV.
+'desk help <COMMAND>' tells more of a command; with --explain among its words, a
+command says more of why it is refused. docs/FORMATS.md says how to write a
+contest as CSV.
 ";
+
+/// The line of `--explain` in the help of each command.
+const EXPLAIN: &str = "Says more of a refusal, in lines for people behind the one that tells of it";
 
 /// Writes the help of a command to `out`, or tells `err` that `out` failed or memory was refused.
 /// Answers the exit status, 0 or 1.
@@ -72,8 +76,17 @@ pub(crate) fn show_help_of<O: Write, E: Write>(
     }
 }
 
-// A command, as clap knows it. The error is want of memory.
+// A command, as its help tells of it. The error is want of memory.
 fn app_of<'a>(alloc: Global, command: CommandName) -> Result<Command<'a>, AllocError> {
+    let explain = Arg::new(alloc, "explain")
+        .long("explain")
+        .action(ArgAction::SetTrue)
+        .help(EXPLAIN);
+    table_of(alloc, command)?.arg(explain)
+}
+
+// A command with the words of its own, as clap knows it. The error is want of memory.
+fn table_of<'a>(alloc: Global, command: CommandName) -> Result<Command<'a>, AllocError> {
     match command {
         CommandName::Replay => command_of(alloc, &ReplayWords::command()),
         CommandName::Audit => command_of(alloc, &AuditWords::command()),

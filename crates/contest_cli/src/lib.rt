@@ -2,6 +2,7 @@
 #![tactic(auto)]
 
 mod commands;
+mod explained;
 mod file_command;
 mod file_commands;
 mod help;
