@@ -27,22 +27,15 @@ import tempfile
 import time
 
 from lib import clock, demo, program, sqlite
+from lib.command_cases import cases
 from lib.demo import CONTEST
-from lib.program import DONE, FAULT, FILE, ROOT, TESTS, Program, compiled, ran, refused
+from lib.program import DONE, FAULT, FILE, ROOT, Program, compiled, ran, refused
 from lib.sqlite import dump
 
 TEAMS = "id,name,group_ids,hidden\n" + "".join(f"n{n},Team {n},,\n" for n in range(1, 501))
 LIMIT = 16_777_216
 # Another user, who may neither read nor write what root alone may.
 NOBODY = ["setpriv", "--reuid=65534", "--regid=65534", "--clear-groups"]
-
-
-def cases():
-    """The cases of desk_commands.txt: the title, and its files and calls in order."""
-    text = (TESTS / "tables/desk_commands.txt").read_text(encoding="utf-8")
-    for case in text.split("\n== ")[1:]:
-        title, _, rest = case.partition("\n")
-        yield title, re.findall(r"(?m)^([>$]) (.*)\n((?:(?![>$] ).*\n)*)", rest.rstrip("\n") + "\n")
 
 
 class Desk(Program):
@@ -96,10 +89,9 @@ def wanted_of(answer):
 
 
 def try_commands(desk):
-    for title, steps in cases():
+    for title, steps in cases("desk_commands.txt"):
         folder = desk.new_folder()
         for sign, head, rest in steps:
-            rest = rest.rstrip("\n") + "\n" if rest.strip() else ""
             what = f"{title}: {head}"
             if sign == ">":
                 (folder / head).write_text(rest, encoding="utf-8")

@@ -10,7 +10,7 @@ ghost use Rattle.contest_cli.specs.Runs.{Runs};
 ghost use Rattle.contest_cli_commands.specs.Serve.{ServesOn};
 ghost use Rattle.contest_cli.specs.declared.invocation.CommandName.{CommandName};
 
-use crate::explained::{Failures, explain_refusal};
+use crate::explained::{Input, explain_refusal};
 use crate::file_command::run_by_words;
 use crate::help::{HELP, VERSION, show_help_of};
 use crate::invocation::{CommandName, Invocation, invocation_of};
@@ -48,7 +48,9 @@ pub fn start<R: Read + Drop, O: Write + Drop, E: Write + Drop>(
     match args {
         Ok(args) => match args.skip(1).collect::<Vec<String>>(rt.alloc()) {
             Ok(words) => run_words(rt, words, reader, out, err),
-            Err(AllocError) => CommandError::Refused(Refusal::Memory).refuse(&mut Counted::new(err)),
+            Err(AllocError) => CommandError::Refused(Refusal::Memory).refuse(&mut Counted::new(
+                err,
+            )),
         },
         Err(error) => refuse_arguments(&error, &mut Counted::new(err)),
     }
@@ -88,12 +90,14 @@ fn run_explained<R: Read + Drop, O: Write, E: Write + Drop>(
     let mut err = Counted::new(LastLine::new(err));
     let status = run_on_host(rt, Unknown, words, &mut reader, out, &mut err);
     if status == 1 {
-        let failures = Failures {
-            input: reader.faults() > 0,
-            output: out.faults() > 0,
+        let failed = reader.faults() > 0;
+        let kept = reader.into_inner();
+        let input = Input {
+            bytes: kept.so_far(),
+            was_read: kept.was_read(),
+            failed,
         };
-        let input = reader.into_inner();
-        explain_refusal(rt, words, failures, &input, err.into_inner());
+        explain_refusal(rt, words, &input, out.faults() > 0, err.into_inner());
     }
     status
 }

@@ -1,6 +1,7 @@
 //! The commands of the program `desk`, on any machine, over any reader and writers.
 #![tactic(auto)]
 
+mod asked_words;
 mod commands;
 mod explained;
 mod file_command;

@@ -1,17 +1,15 @@
 //! The explanation of a refusal.
 
 use crate::asked::Asked;
-use crate::event_line::{tell_event, tell_no_contest};
-use crate::faulty_row::{Faulty, tell_imported_row, tell_replay_row};
 use crate::file_fault::tell_file_fault;
 use crate::meanings::{CLOCK, NET, meaning_of};
 use crate::named_file::{read_again, tell_of_file};
-use crate::off_form::{tell_contest, tell_imported_file, tell_replay_file};
-use crate::report::Report;
-use crate::scoreboard::tell_scoreboard;
 use crate::store_fault::tell_store_fault;
 use crate::told::{Told, told_in};
-use contest_types::Cause;
+use contest_file_faults::{
+    Faulty, Report, tell_contest, tell_event, tell_imported_file, tell_imported_row,
+    tell_no_contest, tell_replay_file, tell_replay_row, tell_scoreboard,
+};
 use std::alloc::AllocError;
 
 /// What standard input is called.
@@ -19,13 +17,11 @@ const INPUT: &str = "standard input";
 
 /// A command that has ended with a refusal.
 #[derive(Clone, Copy)]
-pub struct Ended<'a> {
-    /// What it was asked for.
-    pub asked: Asked<'a>,
+pub struct Ended<'s> {
     /// The line that tells of the refusal, without its end.
-    pub line: &'a [u8],
+    pub line: &'s [u8],
     /// What it read of standard input, as far as that was kept.
-    pub input: &'a [u8],
+    pub input: &'s [u8],
     /// Whether it asked for standard input.
     pub input_was_read: bool,
     /// Whether a read of standard input failed.
@@ -40,28 +36,41 @@ pub struct Ended<'a> {
 /// # Errors
 ///
 /// Want of memory alone.
-pub fn explain(rt: &HostRuntime, ended: &Ended<'_>) -> Result<String, AllocError> {
+pub fn explain(
+    rt: &HostRuntime,
+    asked: Asked<'_>,
+    ended: &Ended<'_>,
+) -> Result<String, AllocError> {
     let mut report = Report::new(rt.alloc());
     if let Some(told) = told_in(ended.line) {
-        tell(rt, ended, told, &mut report)?;
+        tell(rt, asked, ended, told, &mut report)?;
     }
     Ok(report.into_text())
 }
 
 fn tell(
     rt: &HostRuntime,
+    asked: Asked<'_>,
     ended: &Ended<'_>,
     told: Told,
     report: &mut Report,
 ) -> Result<(), AllocError> {
     match told {
-        Told::File => tell_file_fault(rt, ended, report),
+        Told::File => tell_file_fault(rt, asked, ended, report),
         Told::Clock => tell_lines(CLOCK, report),
         Told::Net => tell_lines(NET, report),
-        Told::Refused(1) => tell_off_form(rt, ended, report),
-        Told::Refused(24) => tell_store(rt, ended.asked, report),
-        Told::Refused(number) => tell_lines(meaning_of(number, ended.asked), report),
-        Told::Row(number, cause) => tell_row(rt, ended, number, cause, report),
+        Told::Refused(1) => tell_off_form(rt, asked, ended, report),
+        Told::Refused(24) => tell_store(rt, asked, report),
+        Told::Refused(number) => tell_lines(meaning_of(number, asked), report),
+        Told::Row(number, cause) => {
+            let faulty = Faulty {
+                source: INPUT,
+                file: ended.input,
+                number,
+                cause,
+            };
+            tell_row(rt, asked, &faulty, report)
+        }
     }
 }
 
@@ -82,29 +91,23 @@ fn tell_store(rt: &HostRuntime, asked: Asked<'_>, report: &mut Report) -> Result
     }
 }
 
-// Tells of a record at fault.
+// Tells of a record at fault, by what was read of standard input, or by a file that is read again.
 fn tell_row(
     rt: &HostRuntime,
-    ended: &Ended<'_>,
-    number: u64,
-    cause: Cause,
+    asked: Asked<'_>,
+    faulty: &Faulty<'_>,
     report: &mut Report,
 ) -> Result<(), AllocError> {
-    let faulty = Faulty {
-        source: INPUT,
-        file: ended.input,
-        number,
-        cause,
-    };
-    match ended.asked {
-        Asked::Replay => tell_replay_row(rt.alloc(), &faulty, report),
-        Asked::Audit { .. } => tell_event(rt.alloc(), &faulty, report),
+    match asked {
+        Asked::Replay => tell_replay_row(rt.alloc(), faulty, report),
+        Asked::Audit { .. } => tell_event(rt.alloc(), faulty, report),
         Asked::Import { kind, path, .. } => match read_again(rt, path)? {
             Some(file) => {
                 let faulty = Faulty {
                     source: path,
                     file: &file,
-                    ..faulty
+                    number: faulty.number,
+                    cause: faulty.cause,
                 };
                 tell_imported_row(rt.alloc(), kind, &faulty, report)
             }
@@ -117,17 +120,18 @@ fn tell_row(
 // Tells of what is off its form as a whole.
 fn tell_off_form(
     rt: &HostRuntime,
+    asked: Asked<'_>,
     ended: &Ended<'_>,
     report: &mut Report,
 ) -> Result<(), AllocError> {
-    match ended.asked {
+    match asked {
         Asked::Replay => tell_replay_file(rt.alloc(), INPUT, ended.input, report),
         Asked::Audit { .. } if ended.input_was_read => tell_no_contest(report),
         Asked::Audit {
             against: Some(path),
-        } => tell_off_form_at(rt, path, ended.asked, report),
+        } => tell_off_form_at(rt, path, asked, report),
         Asked::Init { contest: path, .. } | Asked::Import { path, .. } => {
-            tell_off_form_at(rt, path, ended.asked, report)
+            tell_off_form_at(rt, path, asked, report)
         }
         Asked::Audit { against: None } | Asked::Kept { .. } => Ok(()),
     }

@@ -3,12 +3,13 @@
 use crate::asked::Asked;
 use crate::explanation::Ended;
 use crate::named_file::{fault_of, tell_of_file};
-use crate::report::Report;
+use contest_file_faults::Report;
 use std::alloc::AllocError;
 
 /// Tells which stream or which file failed.
 pub(crate) fn tell_file_fault(
     rt: &HostRuntime,
+    asked: Asked<'_>,
     ended: &Ended<'_>,
     report: &mut Report,
 ) -> Result<(), AllocError> {
@@ -20,7 +21,7 @@ pub(crate) fn tell_file_fault(
     if ended.input_failed {
         return report.line("Standard input can't be read to its end.");
     }
-    match path_of(ended.asked) {
+    match path_of(asked) {
         Some(path) => tell_path(rt, path, report),
         None => report.line("A stream failed."),
     }

@@ -27,7 +27,7 @@ impl<R> Kept<R> {
     }
 
     /// What was read and kept, from the first byte on.
-    pub fn bytes(&self) -> &[u8] {
+    pub fn so_far(&self) -> &[u8] {
         &self.bytes
     }
 

@@ -1,6 +1,6 @@
 //! A file that the words of a command name, read again.
 
-use crate::report::Report;
+use contest_file_faults::Report;
 use contest_streams::{Counted, InputFault, read_limited};
 use contest_types::limits::IMPORTED_FILE;
 use std::alloc::AllocError;

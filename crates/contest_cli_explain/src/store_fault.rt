@@ -1,8 +1,8 @@
 //! What is told of the file that keeps a contest, if it can't be had.
 
 use crate::named_file::{reason_of, tell_of_file};
-use crate::report::Report;
 use crate::store_tables::{TablesFound, tables_found};
+use contest_file_faults::Report;
 use contest_store_tables::TableName;
 use sqlite::{Connection, Error, ErrorCode, Unknown};
 use std::alloc::AllocError;
@@ -94,7 +94,9 @@ fn words_of(found: TablesFound) -> &'static str {
             "its tables aren't those of a desk. It is another program's, or somebody added or \
              took out a table, a column or an index"
         }
-        TablesFound::OldSchema => "it is of the first schema. desk upgrade moves it",
+        TablesFound::Lacking => {
+            "it lacks a table, or is a damaged one of the first schema. Go on from a copy"
+        }
         TablesFound::Celless => "its table cells was taken out, and the others can't be read so",
         TablesFound::Unread(_) => "it is damaged: a table can't be read. Go on from a copy",
         TablesFound::Damaged(table) => words_of_table(table),

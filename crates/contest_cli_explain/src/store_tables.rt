@@ -17,8 +17,8 @@ pub(crate) enum TablesFound {
     Bare,
     /// They are none of a desk's.
     Foreign,
-    /// They are those of the first schema.
-    OldSchema,
+    /// They are those that were made first.
+    Lacking,
     /// All are there but that of the cells.
     Celless,
     /// This one can't be read.
@@ -38,7 +38,7 @@ pub(crate) fn tables_found<S: Alter + Drop>(
     let found = match tables.standing() {
         Standing::Bare => Ok(TablesFound::Bare),
         Standing::Foreign => Ok(TablesFound::Foreign),
-        Standing::Lacking(_) => Ok(TablesFound::OldSchema),
+        Standing::Lacking(_) => Ok(TablesFound::Lacking),
         Standing::Celless => Ok(TablesFound::Celless),
         Standing::Desk => rows_found(alloc, &mut tables),
     };

@@ -17,19 +17,19 @@ use std::alloc::{AllocError, Global};
 
 /// A file with a record at fault.
 #[derive(Clone, Copy)]
-pub(crate) struct Faulty<'a> {
+pub struct Faulty<'a> {
     /// What the file is called.
-    pub(crate) source: &'a str,
+    pub source: &'a str,
     /// Its bytes.
-    pub(crate) file: &'a [u8],
+    pub file: &'a [u8],
     /// The number of the record, from 1.
-    pub(crate) number: u64,
+    pub number: u64,
     /// Why it is at fault.
-    pub(crate) cause: Cause,
+    pub cause: Cause,
 }
 
-/// Tells of the record of an imported file.
-pub(crate) fn tell_imported_row(
+/// Tells of the record of an imported file. The error is want of memory.
+pub fn tell_imported_row(
     alloc: Global,
     kind: ImportKind,
     faulty: &Faulty<'_>,
@@ -45,8 +45,8 @@ pub(crate) fn tell_imported_row(
     }
 }
 
-/// Tells of the record of a replay file.
-pub(crate) fn tell_replay_row(
+/// Tells of the record of a replay file. The error is want of memory.
+pub fn tell_replay_row(
     alloc: Global,
     faulty: &Faulty<'_>,
     report: &mut Report,
@@ -161,14 +161,8 @@ fn tell_width(
     report: &mut Report,
 ) -> Result<(), AllocError> {
     report.begin()?;
-    report.say(if width == 1 {
-        "It has 1 field"
-    } else {
-        "Its fields are "
-    })?;
-    if width != 1 {
-        report.number(width as u64)?;
-    }
+    report.say("The number of its fields is ")?;
+    report.number(width as u64)?;
     report.say(". Right would be: ")?;
     report.number(columns as u64)?;
     report.say(", as in ")?;

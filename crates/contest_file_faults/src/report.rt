@@ -3,49 +3,50 @@
 use crate::shown::{push_cut, push_path, push_quoted, push_shown};
 use std::alloc::{AllocError, Global};
 
-/// The lines of an explanation, each of which begins with two spaces.
+/// The lines of an explanation, each of which begins with two spaces. The error of each call is want
+/// of memory.
 #[derive(Drop)]
-pub(crate) struct Report {
+pub struct Report {
     text: String,
 }
 
 impl Report {
     /// No line.
-    pub(crate) fn new(alloc: Global) -> Report {
+    pub fn new(alloc: Global) -> Report {
         Report {
             text: String::new(alloc),
         }
     }
 
     /// The lines.
-    pub(crate) fn into_text(self) -> String {
+    pub fn into_text(self) -> String {
         self.text
     }
 
     /// A whole line.
-    pub(crate) fn line(&mut self, words: &str) -> Result<(), AllocError> {
+    pub fn line(&mut self, words: &str) -> Result<(), AllocError> {
         self.begin()?;
         self.say(words)?;
         self.end()
     }
 
     /// Begins a line.
-    pub(crate) fn begin(&mut self) -> Result<(), AllocError> {
+    pub fn begin(&mut self) -> Result<(), AllocError> {
         self.text.push_str("  ")
     }
 
     /// Ends a line.
-    pub(crate) fn end(&mut self) -> Result<(), AllocError> {
+    pub fn end(&mut self) -> Result<(), AllocError> {
         self.text.push_str("\n")
     }
 
     /// Words of this program in a line.
-    pub(crate) fn say(&mut self, words: &str) -> Result<(), AllocError> {
+    pub fn say(&mut self, words: &str) -> Result<(), AllocError> {
         self.text.push_str(words)
     }
 
     /// A number in a line.
-    pub(crate) fn number(&mut self, number: u64) -> Result<(), AllocError> {
+    pub fn number(&mut self, number: u64) -> Result<(), AllocError> {
         write!(self.text, "{number}")
     }
 
@@ -55,7 +56,7 @@ impl Report {
     }
 
     /// A path in a line.
-    pub(crate) fn path(&mut self, path: &str) -> Result<(), AllocError> {
+    pub fn path(&mut self, path: &str) -> Result<(), AllocError> {
         push_path(&mut self.text, path)
     }
 

@@ -49,8 +49,8 @@ static ROW: Form = Form {
     full: "",
 };
 
-/// Tells of a file with a scoreboard.
-pub(crate) fn tell_scoreboard(
+/// Tells of a file with a scoreboard. The error is want of memory.
+pub fn tell_scoreboard(
     alloc: Global,
     source: &str,
     file: &[u8],
@@ -60,7 +60,12 @@ pub(crate) fn tell_scoreboard(
         Parsed::Fault(fault) => tell_json_fault(source, fault, report),
         Parsed::Value(value) => match value.get("rows").and_then(Value::as_array) {
             Some(rows) => tell_rows(alloc, source, rows.as_slice(), report),
-            None => tell_kind(source, &value, "an object with rows, an array", report),
+            None => tell_kind(
+                source,
+                &value,
+                "an object whose member rows is an array",
+                report,
+            ),
         },
     }
 }

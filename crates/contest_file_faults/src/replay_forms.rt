@@ -246,15 +246,18 @@ static SUBMISSION: Form = Form {
     references: &[
         Reference {
             place: 1,
-            names: "team",
+            kind: Some("team"),
+            right: "the id of a team in a record before this one",
         },
         Reference {
             place: 2,
-            names: "problem",
+            kind: Some("problem"),
+            right: "the id of a problem in a record before this one",
         },
         Reference {
             place: 4,
-            names: "type",
+            kind: Some("type"),
+            right: "the id of a type in a record before this one",
         },
     ],
     keys: &[],

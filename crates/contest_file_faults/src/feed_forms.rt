@@ -54,7 +54,7 @@ pub(crate) static EVENT: Form = Form {
         },
         Field {
             name: "data",
-            samples: ["{}", "{}"],
+            samples: ["{}", "[]"],
             right: "an object, an array or null",
         },
         Field {
@@ -282,11 +282,13 @@ static SUBMISSIONS: Form = Form {
     references: &[
         Reference {
             place: 1,
-            names: "team",
+            kind: None,
+            right: "the id of a team that is there at the feed's end",
         },
         Reference {
             place: 2,
-            names: "problem",
+            kind: None,
+            right: "the id of a problem that is there at the feed's end",
         },
     ],
     keys: &[],
@@ -335,7 +337,8 @@ static JUDGEMENTS: Form = Form {
     together: OBJECT,
     references: &[Reference {
         place: 2,
-        names: "judgement type",
+        kind: None,
+        right: "the id of a judgement type that is there at the feed's end",
     }],
     keys: &[],
     full: "",

@@ -6,6 +6,7 @@ use crate::feed_forms::{EVENT, feed_form};
 use crate::field_faults::tell_field_faults;
 use crate::form::Form;
 use crate::json_file::{JsonFault, Parsed, kind_of, read_json};
+use crate::off_form::tell_json_fault;
 use crate::record::Record;
 use crate::report::Report;
 use crate::row_fault::tell_cause;
@@ -14,13 +15,13 @@ use contest_types::Cause;
 use serde_json::Value;
 use std::alloc::{AllocError, Global};
 
-/// Tells of a feed in which no contest stands at the end.
-pub(crate) fn tell_no_contest(report: &mut Report) -> Result<(), AllocError> {
+/// Tells of a feed in which no contest stands at the end. The error is want of memory.
+pub fn tell_no_contest(report: &mut Report) -> Result<(), AllocError> {
     report.line("At the feed's end there is no object of the type contest or contests.")
 }
 
-/// Tells of a line.
-pub(crate) fn tell_event(
+/// Tells of the line of a feed, whose bytes are as far as they were kept. The error is want of memory.
+pub fn tell_event(
     alloc: Global,
     faulty: &Faulty<'_>,
     report: &mut Report,
@@ -38,25 +39,27 @@ fn tell_line(
     faulty: &Faulty<'_>,
     report: &mut Report,
 ) -> Result<(), AllocError> {
-    report.begin()?;
-    report.say("It is line ")?;
-    report.number(faulty.number)?;
-    report.say(" of standard input.")?;
-    report.end()?;
     match read_json(alloc, line)? {
-        Parsed::Fault(fault) => tell_fault(fault, report),
-        Parsed::Value(value) => tell_value(alloc, &value, faulty.cause, report),
+        Parsed::Fault(fault) => {
+            let fault = JsonFault {
+                line: faulty.number,
+                ..fault
+            };
+            tell_json_fault(faulty.source, fault, report)
+        }
+        Parsed::Value(value) => {
+            tell_number(faulty, report)?;
+            tell_value(alloc, &value, faulty.cause, report)
+        }
     }
 }
 
-fn tell_fault(fault: JsonFault, report: &mut Report) -> Result<(), AllocError> {
+fn tell_number(faulty: &Faulty<'_>, report: &mut Report) -> Result<(), AllocError> {
     report.begin()?;
-    report.say(if fault.is_cut {
-        "It ends before its JSON does, at byte "
-    } else {
-        "It is no JSON (RFC 8259, in UTF-8) at byte "
-    })?;
-    report.number(fault.column)?;
+    report.say("It is line ")?;
+    report.number(faulty.number)?;
+    report.say(" of ")?;
+    report.path(faulty.source)?;
     report.say(".")?;
     report.end()
 }

@@ -36,7 +36,8 @@ pub(crate) static TEAMS_CSV: Form = Form {
     together: "",
     references: &[Reference {
         place: 2,
-        names: "group",
+        kind: None,
+        right: "ids of groups that are in the contest already",
     }],
     keys: &[0],
     full: TEAMS_FULL,
@@ -76,7 +77,8 @@ pub(crate) static ACCOUNTS_CSV: Form = Form {
      role team, and nothing for another role.",
     references: &[Reference {
         place: 2,
-        names: "team",
+        kind: None,
+        right: "the id of a team that is in the contest already",
     }],
     keys: &[0, 3],
     full: "There are 2,000 accounts already, which is as many as there may be.",
@@ -105,11 +107,13 @@ pub(crate) static VERDICTS_CSV: Form = Form {
     references: &[
         Reference {
             place: 0,
-            names: "submission",
+            kind: None,
+            right: "the id of a submission that is in the contest already",
         },
         Reference {
             place: 1,
-            names: "judgement type",
+            kind: None,
+            right: "the id of a judgement type that is in the contest already",
         },
     ],
     keys: &[0],

@@ -43,7 +43,11 @@ pub(crate) fn tell_form(
     if tell_field_faults(alloc, form, record, report)? {
         Ok(())
     } else {
-        report.line(form.together)
+        report.line(if form.together.is_empty() {
+            "Each of its fields is right. It was changed meanwhile."
+        } else {
+            form.together
+        })
     }
 }
 
@@ -66,8 +70,8 @@ fn tell_references(
         tell_reference(alloc, form, reference, record, earlier, report)?;
     }
     match form.reader {
-        FileReader::Replay => Ok(()),
-        _ => report.line("What a record names has to be in the contest already."),
+        FileReader::Verdicts => report.line("One of the two at least isn't there."),
+        _ => Ok(()),
     }
 }
 
@@ -82,16 +86,13 @@ fn tell_reference(
     let Some(value) = record.field(reference.place) else {
         return Ok(());
     };
-    if value.is_empty() || earlier.has_named(alloc, form, reference, value)? {
+    if value.is_empty() || earlier.has_named(alloc, reference, value)? {
         return Ok(());
     }
     report.begin()?;
     say_field(form, reference.place, Some(value), report)?;
-    report.say(match form.reader {
-        FileReader::Replay => ". No record before this one is such a ",
-        _ => ", which names a ",
-    })?;
-    report.say(reference.names)?;
+    report.say(". Right would be: ")?;
+    report.say(reference.right)?;
     report.say(".")?;
     report.end()
 }
@@ -163,5 +164,8 @@ fn tell_standing(form: &Form, record: &Record, report: &mut Report) -> Result<()
         report.say(".")?;
         report.end()?;
     }
-    report.line("In the contest this stands already, with other content.")
+    report.line(match form.reader {
+        FileReader::Feed => "At the feed's end another one that came first has the same.",
+        _ => "The contest has this already, with other content beside it.",
+    })
 }

@@ -71,7 +71,11 @@ fn say_value(
     report: &mut Report,
 ) -> Result<(), AllocError> {
     if may_be_token(form, place, value) {
-        return report.say(" isn't shown, since it may be a token");
+        return report.say(if place == TOKEN {
+            " isn't shown"
+        } else {
+            " isn't shown, since it may be a token"
+        });
     }
     report.say(" is ")?;
     match form.syntax {

@@ -14,8 +14,8 @@ use csv::ByteRecord;
 use serde_json::Value;
 use std::alloc::{AllocError, Global};
 
-/// Tells of an imported file.
-pub(crate) fn tell_imported_file(
+/// Tells of an imported file. The error is want of memory.
+pub fn tell_imported_file(
     alloc: Global,
     kind: ImportKind,
     source: &str,
@@ -34,8 +34,8 @@ pub(crate) fn tell_imported_file(
     }
 }
 
-/// Tells of a replay file.
-pub(crate) fn tell_replay_file(
+/// Tells of a replay file. The error is want of memory.
+pub fn tell_replay_file(
     alloc: Global,
     source: &str,
     file: &[u8],
@@ -50,8 +50,8 @@ pub(crate) fn tell_replay_file(
     }
 }
 
-/// Tells of a file with the contest that is to be set up.
-pub(crate) fn tell_contest(
+/// Tells of a file with the contest that is to be set up. The error is want of memory.
+pub fn tell_contest(
     alloc: Global,
     source: &str,
     file: &[u8],
@@ -91,15 +91,16 @@ pub(crate) fn tell_json_fault(
 ) -> Result<(), AllocError> {
     report.begin()?;
     report.path(source)?;
-    report.say(if fault.is_cut {
-        " ends before its JSON does, in line "
+    if fault.is_cut {
+        report.say(" has no whole JSON: it is cut off")?;
     } else {
-        " is no JSON (RFC 8259, in UTF-8 without a byte order mark) at line "
-    })?;
+        report.say(" is no JSON (RFC 8259, in UTF-8 without a byte order mark) from byte ")?;
+        report.number(fault.column)?;
+        report.say(" on")?;
+    }
+    report.say(" in line ")?;
     report.number(fault.line)?;
-    report.say(", byte ")?;
-    report.number(fault.column)?;
-    report.say(" of the line.")?;
+    report.say(".")?;
     report.end()
 }
 

@@ -28,8 +28,10 @@ pub(crate) struct Field {
 pub(crate) struct Reference {
     /// Its place among the fields.
     pub(crate) place: usize,
-    /// What it names. In a replay file that is also the kind of the record.
-    pub(crate) names: &'static str,
+    /// The kind of the records that it names, where they are in the same file.
+    pub(crate) kind: Option<&'static str>,
+    /// What would be right.
+    pub(crate) right: &'static str,
 }
 
 /// The records of a file.

@@ -175,7 +175,8 @@ static TEAMS: Form = Form {
     together: "",
     references: &[Reference {
         place: 2,
-        names: "group",
+        kind: None,
+        right: "ids of groups that are in the contest already",
     }],
     keys: &[0],
     full: TEAMS_FULL,

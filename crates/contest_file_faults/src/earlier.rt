@@ -53,20 +53,19 @@ impl Earlier<'_> {
     pub(crate) fn has_named(
         &self,
         alloc: Global,
-        form: &Form,
         reference: &Reference,
         value: &[u8],
     ) -> Result<bool, AllocError> {
-        match form.reader {
-            FileReader::Replay => {
+        match reference.kind {
+            Some(kind) => {
                 let sought = Sought {
-                    kind: Some(reference.names.as_bytes()),
+                    kind: Some(kind.as_bytes()),
                     place: 1,
                     value,
                 };
                 Ok(self.row(alloc, sought)?.is_some())
             }
-            _ => Ok(false),
+            None => Ok(false),
         }
     }
 
