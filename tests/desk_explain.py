@@ -185,14 +185,15 @@ def try_store(desk):
 
 
 def try_disk(desk):
-    """Disks that fail once the file is open, and from the first call on."""
+    """A disk that fails from the first call on, and one that fails at that call alone."""
     library = compiled("fail_disk", desk.folder)
     folder = desk.new_folder()
     desk.run(folder, "init", "cup.db", "contest.json")
-    env = {**os.environ, "LD_PRELOAD": library, "FAIL_EARLY": "1", "FAIL_LATER": "1"}
-    refused_at_once = "its disk failed, or the system refused to open it."
-    for call, words in (("1", refused_at_once),):
-        desk.explains(f"call {call} fails", said(FAULT, f"cup.db: {words}"), folder, "board", "cup.db", env={**env, "FAIL_CALL": call})
+    env = {**os.environ, "LD_PRELOAD": library, "FAIL_EARLY": "1", "FAIL_CALL": "1"}
+    words = "its disk failed, or the system refused to open it."
+    desk.explains("a disk that fails", said(FAULT, f"cup.db: {words}"), folder, "board", "cup.db", env={**env, "FAIL_LATER": "1"})
+    words = "it can be opened now. Another program had it open, or its disk failed for a moment. Try again."
+    desk.explains("a call that fails", said(FAULT, f"cup.db: {words}"), folder, "board", "cup.db", env=env)
 
 
 def try_spoiled(desk):
