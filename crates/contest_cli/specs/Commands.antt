@@ -56,7 +56,7 @@ invocation_of (name ∷ options) =
 
 -- what is shown of the version: the program's, and the kit and the logic that proved it
 abbrev pub version_text : List ℕ
-version_text = codes "desk 1.0.0, proved by rattle-kit-13f logic dac8208d650f15bf\n"
+version_text = codes "desk 1.1.0, proved by rattle-kit-13f logic dac8208d650f15bf\n"
 
 -- the words name no command
 abbrev pub NamesNone : List Text → Type 0

@@ -16,7 +16,7 @@ use std::alloc::{AllocError, Global};
 use std::io::Write;
 
 /// What `desk --version` shows: the version, and the kit and logic that prove it (`rt version`).
-pub(crate) const VERSION: &str = "desk 1.0.0, proved by rattle-kit-13f logic dac8208d650f15bf\n";
+pub(crate) const VERSION: &str = "desk 1.1.0, proved by rattle-kit-13f logic dac8208d650f15bf\n";
 
 /// What `desk help` shows.
 pub(crate) const HELP: &str = "\
