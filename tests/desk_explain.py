@@ -279,7 +279,7 @@ def try_words(desk):
     for words in (("--explain", "--explain", "cup.db"), ("--", "cup.db", "--explain"), ("cup.db", "--explained"), ("--explain=1", "cup.db")):
         status, out, err = desk.run(folder, "board", *words)
         desk.note((status, out) == (2, "") and err.startswith("error:"), f"board {words}: {(status, out, err)}")
-    for words in ((), ("nonsense",), ("cup.db", "--at", "x")):
+    for words in ((), ("cup.db", "more"), ("cup.db", "--at", "x")):
         desk.same(f"board {words}", desk.run(folder, "board", *words, "--explain"), desk.run(folder, "board", *words))
     status, out, err = desk.run(folder, "--explain")
     desk.note((status, out) == (2, "") and err.startswith("error: unknown command '--explain'"), f"--explain alone: {(status, out, err)}")
