@@ -1,12 +1,12 @@
 #!/usr/bin/env -S python3 -B
 """Holds what the commands of `desk` say of a refusal with `--explain` beside what is wanted.
 
-    desk_explain.py [--program PATH]
+    desk_explain.py [--program PATH] [--every N]
 
 tables/desk_explain.txt has calls with their files and answers. Then come bytes that no table can hold, a file that keeps a
-contest and can't be had, streams that fail, and accounts that are spoiled in each field, none of whose tokens may be shown. Each
-call is also made without the option: the status, standard output and the files are the same then, and standard error is
-the line of the refusal alone.
+contest and can't be had, streams that fail, accounts that are spoiled in each field, none of whose tokens may be shown, and
+calls for memory that are refused, of an import each Nth (40). Each call is also made without the option: the status,
+standard output and the files are the same then, and standard error is the line of the refusal alone.
 
 Takes cc, sqlite3, faketime and setpriv, and runs as root, which may be another user. Ends with the line `N passed, M
 failed`; the exit status is 0 if M is 0.
@@ -20,7 +20,7 @@ import sys
 from lib import clock, demo, program, sqlite
 from lib.command_cases import cases
 from lib.demo import CONTEST
-from lib.program import Program, compiled
+from lib.program import Program, compiled, ran_refused, refused_in_turn
 from lib.server import Server
 from lib.sqlite import opened
 
@@ -269,6 +269,34 @@ def try_tokens(desk):
             desk.note(status == 1 and err.count("\n") > 1 and not shown, f"{head}{fields}: {status}, {shown} in {err!r}")
 
 
+def try_memory(desk):
+    """Each call for memory, of an import each Nth, is refused in turn: the refusal is the same or want of memory, and what is said of it is whole or nothing."""
+    library, folder = compiled("refuse_call", desk.folder), desk.new_folder()
+    desk.run(folder, "init", "cup.db", "contest.json")
+    feed = b'{"type":"teams","data":[{"id":"a","name":"A"},{"id":"b","name":7}]}\n'
+    replay = b"kind,id,f1,f2,f3\ncontest,demo,Demo,5:00:00,\nteam,t1,Alpha,,\nteam,t1,Beta,,\n"
+    (folder / "problems.json").write_text('[{"id":"a","label":7,"name":"A","ordinal":0}]', encoding="utf-8")
+    memory = b"refused: E25 Memory\n"
+    importing = ("import", "cup.db", "problems", "problems.json")
+    for words, data, step in ((("replay",), replay, 1), (("audit",), feed, 1), (importing, b"", desk.options.every)):
+        whole = [desk.path, *words, "--explain"]
+        err = ran_refused(whole, library, 0, False, input=data, cwd=folder)[0][2]
+        line = err.partition(b"\n")[0] + b"\n"
+        right = [line, err, memory, memory + b"  The system gave no more memory. Nothing was changed. Try again with more.\n"]
+        seen = set()
+
+        def one(call):
+            own = desk.new_folder()
+            shutil.copytree(folder, own, dirs_exist_ok=True)
+            given, count = ran_refused(whole, library, call, False, input=data, cwd=own)
+            shutil.rmtree(own)
+            desk.note(given[:2] == (1, b"") and given[2] in right, f"{words}, call {call} refused: {given}, none of {right}")
+            seen.add(given[2])
+            return count, given[2].startswith(memory)
+
+        desk.note(refused_in_turn(one, step) > 0 and line in seen and line != err, f"{words}: {seen}")
+
+
 def try_words(desk):
     """Where the option may stand, how often, what is done with it, and that the help of each command has it."""
     folder = desk.new_folder()
@@ -294,7 +322,7 @@ def try_words(desk):
     desk.note(given[0][0] == 3 and given[0] == given[1], f"a board that differs: {given}")
 
 
-PARTS = (try_table, try_bytes, try_sizes, try_store, try_disk, try_spoiled, try_old, try_streams, try_tokens, try_words)
+PARTS = (try_table, try_bytes, try_sizes, try_store, try_disk, try_spoiled, try_old, try_streams, try_tokens, try_memory, try_words)
 
 if __name__ == "__main__":
-    sys.exit(program.main(__doc__, Desk, PARTS, program="desk"))
+    sys.exit(program.main(__doc__, Desk, PARTS, program="desk", every=40))

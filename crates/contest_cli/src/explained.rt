@@ -14,8 +14,8 @@ use std::io::Write;
 /// What a command read of standard input.
 #[derive(Clone, Copy)]
 pub(crate) struct Input<'s> {
-    /// The bytes, as far as they were kept.
-    pub(crate) bytes: &'s [u8],
+    /// The bytes, as far as they were kept; none if there was no memory for them.
+    pub(crate) bytes: Option<&'s [u8]>,
     /// Whether it asked for any.
     pub(crate) was_read: bool,
     /// Whether a read failed.

@@ -20,8 +20,8 @@ const INPUT: &str = "standard input";
 pub struct Ended<'s> {
     /// The line that tells of the refusal, without its end.
     pub line: &'s [u8],
-    /// What it read of standard input, as far as that was kept.
-    pub input: &'s [u8],
+    /// What it read of standard input, as far as that was kept; none if there was no memory for it.
+    pub input: Option<&'s [u8]>,
     /// Whether it asked for standard input.
     pub input_was_read: bool,
     /// Whether a read of standard input failed.
@@ -62,15 +62,18 @@ fn tell(
         Told::Refused(1) => tell_off_form(rt, asked, ended, report),
         Told::Refused(24) => tell_store(rt, asked, report),
         Told::Refused(number) => tell_lines(meaning_of(number, asked), report),
-        Told::Row(number, cause) => {
-            let faulty = Faulty {
-                source: INPUT,
-                file: ended.input,
-                number,
-                cause,
-            };
-            tell_row(rt, asked, &faulty, report)
-        }
+        Told::Row(number, cause) => match (asked, ended.input) {
+            (Asked::Replay | Asked::Audit { .. }, None) => Ok(()),
+            (_, input) => {
+                let faulty = Faulty {
+                    source: INPUT,
+                    file: input.unwrap_or(&[]),
+                    number,
+                    cause,
+                };
+                tell_row(rt, asked, &faulty, report)
+            }
+        },
     }
 }
 
@@ -125,7 +128,10 @@ fn tell_off_form(
     report: &mut Report,
 ) -> Result<(), AllocError> {
     match asked {
-        Asked::Replay => tell_replay_file(rt.alloc(), INPUT, ended.input, report),
+        Asked::Replay => match ended.input {
+            Some(file) => tell_replay_file(rt.alloc(), INPUT, file, report),
+            None => Ok(()),
+        },
         Asked::Audit { .. } if ended.input_was_read => tell_no_contest(report),
         Asked::Audit {
             against: Some(path),
