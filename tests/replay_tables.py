@@ -6,7 +6,8 @@
 refused.tsv has files that are refused, each with its line; same_board.tsv files that print the board of
 examples/first.csv; words.tsv words that are refused, and odd ones that aren't. What a file gives is also asked of
 lib/replay_opinion.py, and what `replay` answers of quick_replay, the small program of this command, by which `./desk` runs
-it until the whole is built. Ends with the line `N passed, M failed`; the exit status is 0 if M is 0.
+it until the whole is built. The help of the whole one has one line more: `./desk` gives `--explain` to no other. Ends with the
+line `N passed, M failed`; the exit status is 0 if M is 0.
 """
 
 import os
@@ -52,6 +53,7 @@ Rank  Team   Solved    Time          A          B
    2  Alpha       0       0       -500          .
    2  Gamma       0       0          .          .
 """
+EXPLAIN = b"      --explain       Says more of a refusal, in lines for people behind the one that tells of it\n"
 
 
 def rows(name):
@@ -81,12 +83,12 @@ class Replay(Tally):
         self.program, self.small = options.program, options.small
 
     def run(self, words, data=b"", **how):
-        """What the program answers; the small one has to answer the same."""
+        """What the program answers; the small one has to answer the same, but for the line of `--explain`."""
         how = how or {"input": data}
-        given = ran([self.program, *words], **how)
+        given = status, out, err = ran([self.program, *words], **how)
         if list(words[:1]) == ["replay"]:
             other = ran(words, executable=self.small, **how)
-            self.note(other == given, f"the small program, {words}: {other!r:.500}, and the whole one {given!r:.500}")
+            self.note(other == (status, out.replace(EXPLAIN, b""), err), f"the small program, {words}: {other!r:.500}, and the whole one {given!r:.500}")
         return given
 
     def file(self, data, wanted, words=("replay",)):
