@@ -12,6 +12,7 @@ pub mod ComparisonLaws
 pub mod CrashLaws
 pub mod AdminLaws
 pub mod GroupLaws
+pub mod GroupNameLaws
 pub mod Examples
 pub mod ExamplesRequests
 pub mod ExamplesReplays

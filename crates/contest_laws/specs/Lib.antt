@@ -3,6 +3,7 @@ pub mod Verdicts
 pub mod Finals
 pub mod Standing
 pub mod GroupBoards
+pub mod GroupsWon
 pub mod Ids
 pub mod Replays
 pub mod Comparing

@@ -4,6 +4,7 @@ ghost use Rattle.contest_laws.specs.Comparing.{DifferencesAreTold};
 ghost use Rattle.contest_laws.specs.Crashes.{NothingIsLost};
 ghost use Rattle.contest_laws.specs.Finals.{FinalResultsStay};
 ghost use Rattle.contest_laws.specs.GroupBoards.{GroupBoardsKeepTheOrder};
+ghost use Rattle.contest_laws.specs.GroupsWon.{FirstGroupIsNamed};
 ghost use Rattle.contest_laws.specs.Ids.{ClarificationsStay, JudgementIdsStay, RevisedJudgementsGo, ServedJudgementsStay, SubmissionIdsStay};
 ghost use Rattle.contest_laws.specs.JoinedFiles.{CsvRowsJoin, FaultsJoin, ImportsJoin, ImportsPart};
 ghost use Rattle.contest_laws.specs.Replays.{ReplaysAreDays};
@@ -137,4 +138,9 @@ pub fn faults_join()
 /// are, where these end in a line's end that is no part of a field.
 pub fn csv_rows_join()
     ensures { CsvRowsJoin }
+{}
+
+/// The results for the ICPC name of the groups that a team won the first, in the order of the awards.
+pub fn first_group_is_named()
+    ensures { FirstGroupIsNamed }
 {}
