@@ -4,7 +4,7 @@ walks of crates/walks go."""
 import re
 
 from . import clock
-from .program import TESTS
+from .program import DATA
 
 # The moment at which both start, 2024-03-02T09:00:00Z, in milliseconds, and one an hour before as faketime reads it.
 START = 1_709_370_000_000
@@ -26,7 +26,7 @@ FILES = {
     "a3,team,t3,token-a3\nadm,admin,,token-adm\n",
 }
 # The same rows and others, in each table, as SQL.
-ROWS = (TESTS / "tables/store_demo.sql").read_text(encoding="utf-8")
+ROWS = (DATA / "tables/store_demo.sql").read_text(encoding="utf-8")
 # And as they stood in the first schema, where a clarification went to a team or, if its number is 0, to all.
 FIRST_ROWS = re.sub(r"(?m)^  \((\d+), [01], (\d+, \d+, [01], ')", r"  (\1, \2", ROWS)
 FIRST_ROWS = FIRST_ROWS.replace("desk VALUES (1, 2)", "desk VALUES (1, 1)").replace("INTO notices", "INTO clarifications")

@@ -1,5 +1,5 @@
 /* Loaded into a program before its libraries (LD_PRELOAD), this fails the first FAIL_TIMES reads of the file at the path that
- * FAIL_PATH names, by the error whose number FAIL_ERROR says. */
+ * FAIL_PATH names, by the error whose number FAIL_ERROR says. With FAIL_AFTER set, so many reads are done before. */
 
 #define _GNU_SOURCE
 #include <dlfcn.h>
@@ -24,10 +24,11 @@ static bool is_named(int file)
 ssize_t read(int file, void *bytes, size_t size)
 {
     static ssize_t (*next)(int, void *, size_t);
-    static int failed;
+    static int done, failed;
     if (next == NULL)
         next = (ssize_t(*)(int, void *, size_t))dlsym(RTLD_NEXT, "read");
-    if (failed < atoi(getenv("FAIL_TIMES")) && is_named(file)) {
+    const char *after = getenv("FAIL_AFTER");
+    if (failed < atoi(getenv("FAIL_TIMES")) && is_named(file) && done++ >= (after ? atoi(after) : 0)) {
         failed++;
         errno = atoi(getenv("FAIL_ERROR"));
         return -1;

@@ -13,6 +13,7 @@ from .tally import Tally
 
 LIB = pathlib.Path(__file__).resolve().parent
 TESTS, ROOT = LIB.parent, LIB.parent.parent
+DATA = TESTS / "data"
 PIPES = {"stdout": subprocess.PIPE, "stderr": subprocess.PIPE, "timeout": 120}
 
 
@@ -26,13 +27,15 @@ DONE, FAULT, FILE = (0, "", ""), refused("E24 StoreFault"), refused("File")
 
 def options_of(about, usual):
     """What a script's words say of its options, of which each is as usual if no word names it: a number, numbers, a folder, a
-    flag, or a program, which the gate builds under its name. A program must be there."""
+    flag, one of some words, which is the first, or a program, which the gate builds under its name. A program must be there."""
     parser = argparse.ArgumentParser(description=about, formatter_class=argparse.RawDescriptionHelpFormatter)
     programs = [name for name, value in usual.items() if isinstance(value, str)]
     for name, value in usual.items():
         how = {"type": type(value), "default": value, "metavar": "N" if isinstance(value, int) else "PATH"}
         if isinstance(value, bool):
             how = {"action": "store_true"}
+        elif isinstance(value, tuple):
+            how = {"choices": value, "default": value[0]}
         elif isinstance(value, list):
             how = {"type": int, "nargs": "+", "default": value, "metavar": "N"}
         elif isinstance(value, str):

@@ -1,5 +1,6 @@
 """A relay before a server, which keeps what each connection sent."""
 
+import contextlib
 import socket
 import threading
 
@@ -22,7 +23,8 @@ class Relay:
             threading.Thread(target=self.relay, args=(client,), daemon=True).start()
 
     def relay(self, client):
-        with client, socket.create_connection(("127.0.0.1", self.target), timeout=60) as server:
+        refused = contextlib.suppress(OSError)
+        with client, refused, socket.create_connection(("127.0.0.1", self.target), timeout=60) as server:
             back = threading.Thread(target=carry, args=(server, client, bytearray()), daemon=True)
             back.start()
             kept = bytearray()

@@ -50,6 +50,25 @@ def dump(path, with_log=True):
         return asked(pathlib.Path(folder, path.name), ".dump")
 
 
+def shown(folder):
+    """What each file in a folder shows: a database all that sqlite3 reads of it and of its log together, or why it
+    doesn't; of a log that it is there; another file its bytes."""
+    return {path.name: shown_of(path) for path in sorted(folder.iterdir()) if path.is_file()}
+
+
+def shown_of(path):
+    if path.name.endswith(".db-wal"):
+        return None
+    if path.suffix != ".db":
+        return path.read_bytes()
+    with tempfile.TemporaryDirectory() as folder:
+        for name in (path.name, f"{path.name}-wal"):
+            if (path.parent / name).is_file():
+                shutil.copy(path.parent / name, folder)
+        asked_for = ("PRAGMA integrity_check", "SELECT * FROM sqlite_schema", ".dump")
+        return ran(["sqlite3", f"{folder}/{path.name}", *asked_for])
+
+
 @contextlib.contextmanager
 def opened(path):
     """A database, in which all that is changed is committed together."""

@@ -1,6 +1,7 @@
 """How many of a script's cases held, how many didn't, and how many couldn't be tried here."""
 
 import threading
+import traceback
 
 
 class Tally:
@@ -18,17 +19,24 @@ class Tally:
     def same(self, what, given, wanted):
         self.note(given == wanted, f"{what}: {given!r}, wanted {wanted!r}")
 
-    def skip(self, why):
-        """Counts a case that can't be tried on this machine, and says why."""
-        self.skipped += 1
+    def skip(self, why, count=1):
+        """Counts a case, or so many, that can't be tried on this machine, and says why, which .ci/run hands on."""
+        self.skipped += count
         print(f"skipped: {why}", flush=True)
 
     def run_parts(self, parts):
-        """Runs the parts of a script, each named try_ and what it tries, and tells of each how much held."""
+        """Runs the parts of a script, each named try_ and what it tries, and tells of each how much held. What ends a
+        thread of theirs is a failure."""
+        threading.excepthook = self.lost
         for part in parts:
             before = self.passed
             part(self)
             print(f"{part.__name__.removeprefix('try_').replace('_', ' ')}: {self.passed - before} held", flush=True)
+
+    def lost(self, ended):
+        """Counts an exception that ended a thread."""
+        text = "".join(traceback.format_exception(ended.exc_type, ended.exc_value, ended.exc_traceback))
+        self.note(False, f"a thread ended: {text}")
 
     def end(self):
         """Prints the last line, and gives the exit status."""
