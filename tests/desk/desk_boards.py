@@ -3,10 +3,11 @@
 
     desk_boards.py [--program PATH] [--made N] [--seed N]
 
-The worked boards of tests/replay are asked of a file with the same contest, and then N made contests (300), for anyone, for
-the jury and for a team, of all teams and of groups, as text and as CSV; these are lib/replay_opinion.py's. A contest is set up by `desk init` and `desk
-import`, and its submissions, with their verdicts released, are written by sqlite3: those up to the moment that is asked for,
-since a board counts all that stand. Then the first example's CSV, a worked board of a group, and what is refused.
+The worked boards of tests/data/replay are asked of a file with the same contest, and then N made contests (300), for
+anyone, for the jury and for a team, of all teams and of groups, as text and as CSV; these are lib/replay_opinion.py's.
+A contest is set up by `desk init` and `desk import`, and its submissions, with their verdicts released, are written by
+sqlite3: those up to the moment that is asked for, since a board counts all that stand. Then the first example's CSV, a
+worked board of a group, and what is refused.
 
 Takes faketime. Ends with the line `N passed, M failed`; the exit status is 0 if M is 0.
 """
@@ -15,65 +16,15 @@ import concurrent.futures
 import os
 import sys
 
-from lib import clock, demo, program, replay_files
+from lib import clock, demo, program
 from lib.demo import START
 from lib.desk_opinion import moment
-from lib.import_opinion import compact
-from lib.program import FAULT, FILE, ROOT, Program, refused
-from lib.replay_opinion import Refused, Shown, WrongWords, board_csv, board_text, read_replay, read_words, reltime_text
+from lib.kept_contests import groups_of, kept, made_case
+from lib.program import DATA, FAULT, FILE, ROOT, Program, refused
+from lib.replay_opinion import Shown, board_csv, board_text, read_replay, read_words
 from lib.sqlite import insert, opened
 
-LANGUAGES = '[{"id":"cpp","name":"C++","entry_point_required":false}]'
 FIRST_CSV = "rank,team_id,team,solved,time,last,A\n1,t1,Alpha,1,30,10,+3/10\n2,t2,Beta,1,30,30,+1/30\n"
-
-
-def groups_of(contest):
-    """The groups that a contest is given, by their ids: the name and the teams of each. One has each second team, one the hidden
-    ones, one all, and one none."""
-    teams = list(contest.teams)
-    hidden = [key for key in teams if contest.teams[key][1]]
-    return {"second": ("Zoë, 東京", teams[1::2]), "hidden": ("Hidden", hidden), "all": ("All \"of\" them", teams), "none": ("No team", [])}
-
-
-def files_of(contest):
-    """The contest's files for `desk init` and `desk import`, by their names."""
-    head = {"id": "c", "name": contest.name, "duration": reltime_text(contest.duration), "start_time": moment(START)}
-    if contest.freeze is not None:
-        head["scoreboard_freeze_duration"] = reltime_text(contest.duration - contest.freeze)
-    types = [{"id": key, "name": row[0], "solved": row[1], "penalty": row[2]} for key, row in contest.types.items()]
-    problems = [{"id": key, "label": row[0], "name": row[1], "ordinal": row[2]} for key, row in contest.problems.items()]
-    groups = groups_of(contest)
-    in_groups = {key: [group for group, (_, members) in groups.items() if key in members] for key in contest.teams}
-    teams = [{"id": key, "name": row[0], "hidden": row[1], "group_ids": in_groups[key]} for key, row in contest.teams.items()]
-    files = {"judgement-types": compact(types), "languages": LANGUAGES, "problems": compact(problems)}
-    named = [{"id": group, "name": name} for group, (name, _) in groups.items()]
-    return {"init": compact(head), **files, "groups": compact(named), "teams": compact(teams)}
-
-
-def submissions_of(contest, until):
-    """Each submission up to a moment: its time, its team's number, its own number, its problem and its verdict, if it has one."""
-    rows = []
-    for place, team in enumerate(contest.teams, 1):
-        for number, (problem, time, verdict) in enumerate(contest.submissions.get(team, []), 1):
-            if time <= until:
-                rows.append((time, place, number, problem, verdict))
-    return sorted(rows, key=lambda row: row[:3])
-
-
-def kept(desk, contest, shown, thawed):
-    """A folder in which cup.db keeps the contest, with its submissions and their verdicts, and the thaw at the end."""
-    folder = demo.made(desk, files_of(contest))
-    with opened(folder / "cup.db") as database:
-        released = 0
-        for seq, (time, team, number, problem, verdict) in enumerate(submissions_of(contest, shown.now), 1):
-            insert(database, "submissions", (seq, team, number, START + time, problem, "cpp", None, b"x", None))
-            if verdict is not None:
-                released += 1
-                insert(database, "proposals", (released, team, number, verdict, "import", START + time))
-                insert(database, "releases", (released, team, number, 1, verdict, START + time))
-        if thawed and contest.freeze is not None:
-            database.execute("UPDATE contest SET thaw = ?", (START + contest.duration,))
-    return folder
 
 
 def same(desk, what, folder, contest, shown, wanted=None):
@@ -88,22 +39,12 @@ def same(desk, what, folder, contest, shown, wanted=None):
 
 def try_worked(desk):
     """The worked boards of replay, of contests in files."""
-    for file in sorted((ROOT / "tests/replay").glob("*/*.csv")):
+    for file in sorted((DATA / "replay").glob("*/*.csv")):
         options = file.with_suffix(".options").read_text(encoding="utf-8").splitlines()[1:]
         jury, thawed, at = read_words(["replay", *options])
         contest, wanted = read_replay(file.read_bytes()), file.with_suffix(".txt").read_text(encoding="utf-8")
         shown = Shown(contest, jury, thawed, at)
         same(desk, file.stem, kept(desk, contest, shown, thawed), contest, shown, wanted)
-
-
-def made_case(seed, index):
-    """A contest without a fault, and the words that were made with it."""
-    while True:
-        words, data = replay_files.case(seed, index)
-        try:
-            return read_words(words), read_replay(data)
-        except (Refused, WrongWords):
-            seed += 1_000_000
 
 
 def try_made(desk):

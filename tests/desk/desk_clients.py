@@ -24,7 +24,7 @@ import time
 
 from lib import demo, program, sqlite
 from lib.program import Program, compiled
-from lib.server import Server, read_all
+from lib.server import Server
 
 STATE = b"GET /contests/demo/state HTTP/1.1\r\nHost: x\r\n\r\n"
 LIST = b"GET /contests/demo/submissions HTTP/1.1\r\nHost: x\r\n\r\n"

@@ -149,7 +149,7 @@ def try_made(desk):
     with concurrent.futures.ThreadPoolExecutor(os.cpu_count() or 1) as pool:
         made = list(pool.map(one, range(desk.options.made)))
     for what in ("submissions", "releases", "clarifications", "rejudgings", "thaw", "finalized"):
-        desk.note(any(contest[what] for contest in made) or len(made) < 40, f"no contest has {what}")
+        desk.note(any(contest[what] for contest in made) or len(made) < 8, f"no contest has {what}")
 
 
 def packed(desk, folder, server, token, contest="rehearsal"):

@@ -3,12 +3,12 @@
 
     desk_files.py [--program PATH] [--probe PATH] [--kills N]
 
-tables/desk_commands.txt has calls with their files and answers. Then come the help, files that are too large, another's, no
-files or not there, reads that are interrupted or fail, a clock that is set back or shows no moment, the demo contest, whose rows are held beside those of
-tables/store_demo.sql, the calls of README.md, and N imports of 500 teams (200) that are killed at a random moment:
-whoever opens the file next finds all of them or none. What is in a file afterwards is asked of sqlite3, and of probe,
-which opens a file as the desk does. A call that is refused leaves what the file shows as it was, and one that is done
-leaves all of it in the file alone, without its log.
+data/tables/desk_commands.txt has calls with their files and answers. Then come the help, files that are too large,
+another's, no files or not there, reads that are interrupted or fail, a clock that is set back or shows no moment, the
+demo contest, whose rows are held beside those of data/tables/store_demo.sql, the calls of README.md, and N imports of
+500 teams (200) that are killed at a random moment: whoever opens the file next finds all of them or none. What is in a
+file afterwards is asked of sqlite3, and of probe, which opens a file as the desk does. A call that is refused leaves
+what the file shows as it was, and one that is done leaves all of it in the file alone, without its log.
 
 Takes cc, sqlite3, faketime and setpriv, and runs as root, which may be another user. Ends with the line `N passed, M
 failed`; the exit status is 0 if M is 0.
@@ -251,8 +251,8 @@ def try_clock(desk):
 
 
 def try_rows(desk):
-    """Imported rows stand in their tables as in tables/store_demo.sql, token digests and all; without groups they are those
-    of the demo contest that the library makes."""
+    """Imported rows stand in their tables as in data/tables/store_demo.sql, token digests and all; without groups they
+    are those of the demo contest that the library makes."""
     folder = demo.made(desk, demo.FILES)
     sqlite.asked(folder / "demo.db", sqlite.TABLES + demo.ROWS)
     same_rows(desk, folder)

@@ -3,13 +3,14 @@
 
     store_files.py [--program PATH] [--every N] [--no-memory]
 
-The program is probe, which opens a file as the store does, sets the thaw or walks through calls of a store. What is in a
-file afterwards is asked of sqlite3. tables/store_demo.sql is a contest. Each row of tables/store_rows.tsv changes it: most
-break one rule of what a contest is, and the others go up to a limit or look odd and are valid. tables/store_files.tsv has
-other databases: tables like those of a contest, but for a column, a key or a word, and a contest's tables made in other ways.
-Then come files that are no database, damaged ones, paths, links, and a file that sqlite3 is writing. What is refused is E24,
-or E26 if the first schema stands in it, and keeps its bytes; a thaw changes one cell or nothing. The table of cells has no row at first: the first open fills it, with
-the cells that lib/cells_opinion.py counts.
+The program is probe, which opens a file as the store does, sets the thaw or walks through calls of a store. What is in
+a file afterwards is asked of sqlite3. data/tables/store_demo.sql is a contest. Each row of data/tables/store_rows.tsv
+changes it: most break one rule of what a contest is, and the others go up to a limit or look odd and are valid.
+data/tables/store_files.tsv has other databases: tables like those of a contest, but for a column, a key or a word, and
+a contest's tables made in other ways. Then come files that are no database, damaged ones, paths, links, and a file that
+sqlite3 is writing. What is refused is E24, or E26 if the first schema stands in it, and keeps its bytes; a thaw changes
+one cell or nothing. The table of cells has no row at first: the first open fills it, with the cells that
+lib/cells_opinion.py counts.
 
 Then probe walks through loads, appends, commits and reads of a file while one of its calls on the files fails, each in turn,
 alone and with all after it (lib/fail_disk.c): what fails is E24 and counted, and what comes after works on the last commit,
@@ -31,7 +32,7 @@ import sys
 import tempfile
 
 from lib import cells_opinion, demo, program, sqlite
-from lib.program import TESTS, Program, compiled, ran, ran_refused
+from lib.program import DATA, Program, compiled, ran, ran_refused
 from lib.sqlite import FIRST_TABLES, TABLES, dump
 
 COUNTS = "3 2 3 2 4 7 5 4 4 3 4"
@@ -72,7 +73,7 @@ LARGE = 250_000
 
 def rows(name):
     """The rows of a table of cases, each a list of its columns."""
-    lines = (TESTS / "tables" / name).read_text(encoding="utf-8").splitlines()
+    lines = (DATA / "tables" / name).read_text(encoding="utf-8").splitlines()
     return [line.split("\t") for line in lines if not line.startswith("#")]
 
 

@@ -6,7 +6,8 @@
 #
 # Prints each request with its reply. Ends with the line `N passed, M failed`; the exit status is 0 if M is 0.
 set -u
-top=$(cd "$(dirname "$(readlink -f "${BASH_SOURCE[0]}")")/.." && pwd) || exit 1
+top=$(dirname "$(readlink -f "${BASH_SOURCE[0]}")")
+while [ ! -e "$top/crates.txt" ]; do top=$(dirname "$top"); done
 desk=$top/crates/desk/out/desk
 [ "${1-}" = --program ] && desk=$(readlink -f "$2")
 [ -x "$desk" ] || { echo "there is no program $desk: build it, or name one by --program" >&2; exit 2; }
@@ -49,18 +50,20 @@ wait_until() {
     [ "$left" -le 0 ] || sleep "$((left / 1000)).$(printf %03d $((left % 1000)))"
 }
 
-# Whether a command prints this.
+# Whether a command ends well and prints this, which may begin and end with the brackets of the whole.
 runs() {
-    local wanted=$1 said
+    local wanted=$1 said status
     shift
     said=$("$desk" "$@" 2>&1)
+    status=$?
     echo "desk $*"
     echo "    $said"
-    has "$said" "$wanted"
+    has "[$said]" "$wanted"
+    has "status $status." "status 0."
 }
 
 sed 's/"2030-06-01T09:00:00.000+00:00"/null/; s/"5:00:00"/"0:00:08"/; s/"1:00:00"/"0:00:04"/' "$cup/contest.json" >contest.json
-runs '' init cup.db contest.json
+runs '[]' init cup.db contest.json
 runs 'added 5' import cup.db judgement-types "$cup/judgement-types.json"
 runs 'added 3' import cup.db languages "$cup/languages.json"
 runs 'added 3' import cup.db groups "$cup/groups.json"

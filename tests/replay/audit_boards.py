@@ -3,16 +3,17 @@
 
     audit_boards.py [--program PATH] [--seed N] [--cases N] [--boards N] [--changed N] [--keep FOLDER] [--jobs N]
 
-First come the feeds in tests/audit, each NAME.VERSION.ndjson, whose boards are those of tests/replay that were worked out by hand:
-NAME begins their names. Then each contest of tests/replay as lib/feed_maker.py writes it in each version and in all by turns, with
-its board. Then N feeds (4,000) of made contests: every second one has a fault, and the kinds of faults come in turn. Then N boards
-(1,500) beside one of another system, which is the same, has differences or is none. At last N times (3,000) a feed of tests/audit with
-one to three changes of its bytes, about which nobody knows anything. Status, standard output and standard error must be equal byte
-for byte; if the words are refused (status 2) standard error is the program's own, and must only say something.
+First come the feeds in tests/data/audit, each NAME.VERSION.ndjson, whose boards are those of tests/data/replay that
+were worked out by hand: NAME begins their names. Then each contest of tests/data/replay as lib/feed_maker.py writes it
+in each version and in all by turns, with its board. Then N feeds (4,000) of made contests: every second one has a
+fault, and the kinds of faults come in turn. Then N boards (1,500) beside one of another system, which is the same, has
+differences or is none. At last N times (3,000) a feed of tests/data/audit with one to three changes of its bytes, about
+which nobody knows anything. Status, standard output and standard error must be equal byte for byte; if the words are
+refused (status 2) standard error is the program's own, and must only say something.
 
-Prints how often each answer came, and at which lines. Prints the first cases that differ, keeps their files in FOLDER (one of its own
-for each case: `file`, `board`, `words`, and what each side gave), and ends with the line `N passed, M failed`. The exit status is 0 if
-M is 0.
+Prints how often each answer came, and at which lines. Prints the first cases that differ, keeps their files in FOLDER
+(one of its own for each case: `file`, `board`, `words`, and what each side gave), and ends with the line `N passed, M
+failed`. The exit status is 0 if M is 0.
 """
 
 import random
@@ -24,7 +25,7 @@ from lib.beside import Beside, told
 from lib.board_maker import BoardMaker
 from lib.changed_bytes import changed_once
 from lib.feed_maker import VERSIONS, FeedMaker, joined
-from lib.program import ROOT
+from lib.program import DATA, ROOT
 from lib.replay_opinion import Refused, Shown, WrongWords, read_replay
 
 ATTEMPTS = 400  # feeds that are made until one has the fault that is wanted
@@ -63,8 +64,8 @@ def compare_worked(tally, title, feed, file):
 
 def try_written(tally):
     """The feeds that stand in files."""
-    for feed in sorted((ROOT / "tests/audit").glob("*.ndjson")):
-        boards = sorted((ROOT / "tests/replay").rglob(f"{feed.name.partition('.')[0]}*.csv"))
+    for feed in sorted((DATA / "audit").glob("*.ndjson")):
+        boards = sorted((DATA / "replay").rglob(f"{feed.name.partition('.')[0]}*.csv"))
         tally.note(bool(boards), f"{feed.name} has no board")
         for file in boards:
             compare_worked(tally, f"written {feed.stem} {file.stem}", feed.read_bytes(), file)
@@ -72,7 +73,7 @@ def try_written(tally):
 
 def try_worked(tally):
     """The contests that were worked out by hand, in each version and by turns in all."""
-    for file in sorted((ROOT / "tests/replay").rglob("*.csv")):
+    for file in sorted((DATA / "replay").rglob("*.csv")):
         for version in (*VERSIONS, None):
             maker = FeedMaker(f"{tally.options.seed}/{file.stem}/{version}", read_replay(file.read_bytes()), version)
             compare_worked(tally, f"worked {file.stem} {version}", joined(maker, maker.write()), file)
@@ -170,7 +171,7 @@ def try_compared(tally):
 
 def try_changed(tally):
     """Feeds whose bytes were changed."""
-    rng, files = random.Random(tally.options.seed), [file.read_bytes() for file in sorted((ROOT / "tests/audit").glob("*.ndjson"))]
+    rng, files = random.Random(tally.options.seed), [file.read_bytes() for file in sorted((DATA / "audit").glob("*.ndjson"))]
     for index in range(tally.options.changed):
         words, data = ["audit", *rng.choice(WORDS)], rng.choice(files)
         for _ in range(rng.choice([1, 1, 2, 3])):

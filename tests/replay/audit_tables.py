@@ -1,13 +1,13 @@
 #!/usr/bin/env -S python3 -B
-"""Runs `desk audit` on the tables under tests/tables, on every member that is off its form, and at the limits.
+"""Runs `desk audit` on the tables under tests/data/tables, on every member that is off its form, and at the limits.
 
     audit_tables.py [--program PATH] [--large]
 
 audit.txt has feeds with what is answered, some of them beside another system's board, and audit_words.tsv words that are refused.
 Then come lines that are no events and ones that change nothing, each member of each object with each value that it may not have,
-alone and in an array, as many objects of each kind as there may be and one more, lines of 16 MiB, boards that are none, and streams
-that fail. What a feed gives is also asked of lib/audit_opinion.py. With --large feeds of 1 GiB and of one byte more come through a
-pipe, and the program takes 100 MB at most for them.
+alone and in an array, as many objects of each kind as there may be and one more, a thousand in an array, lines of 16 MiB, boards
+that are none, and streams that fail. What a feed gives is also asked of lib/audit_opinion.py. With --large feeds of 1 GiB and of
+one byte more come through a pipe, and the program takes 100 MB at most for them.
 
 Ends with the line `N passed, M failed`; the exit status is 0 if M is 0.
 """
@@ -19,10 +19,10 @@ import threading
 
 from lib import audit_opinion, board_maker, feed_spoiler, program
 from lib.feed_spoiler import FORMS, MEMBERS, WHOLE, event, with_member
-from lib.program import TESTS, ran
+from lib.program import DATA, ran
 from lib.tally import Tally
 
-TABLES = TESTS / "tables"
+TABLES = DATA / "tables"
 LINE_LIMIT, FEED_LIMIT, BOARD_LIMIT = 16_777_216, 1_073_741_824, 16_777_216
 BASE = [event(kind, row) for kind, row in WHOLE.items()]
 BOARD = b"X\nPublic board, contest time 5:00:00.000, frozen\nRank  Team   Solved    Time          A\n   1  Alpha       1      10      +1/10\n"
@@ -186,6 +186,21 @@ def try_submissions(test):
                feed(*BASE, *others, *most, submission(600, "0:20:00"), *beta, BASE[5]))  # fmt: skip
 
 
+def try_arrays(test):
+    """A thousand objects in an array and one more, and as many events with one object each."""
+    team_of = [f"t{number % 3 + 1}" for number in range(1_001)]
+    teams = [event("teams", {"id": name, "name": f"Team {name}"}) for name in ("t2", "t3")]
+    runs = [{**WHOLE["submissions"], "id": f"n{number}", "team_id": team} for number, team in enumerate(team_of)]
+    verdicts = [{**WHOLE["judgements"], "id": f"v{number}", "submission_id": run["id"]} for number, run in enumerate(runs)]
+    events = [event("submissions", None, id="s1"), *(event("submissions", run) for run in runs)]
+    events += [event("judgements", None, id="j1"), *(event("judgements", verdict) for verdict in verdicts)]
+    wanted = audit_opinion.audit(["audit"], feed(*BASE, *teams, *events))
+    test.note(wanted[0] == 0 and wanted[1].count(b"+1/10") == 3, f"1,001 submissions: the second opinion gives {wanted}")
+    test.audit("1,001 submissions and verdicts one by one", wanted, feed(*BASE, *teams, *events))
+    arrays = [event("submissions", runs), event("judgements", verdicts)]
+    test.audit("1,001 submissions and verdicts at once", wanted, feed(*BASE, *teams, *arrays))
+
+
 def try_sizes(test):
     """A line may have so many bytes and none more, and that is told before its form."""
     last = BASE[-1]
@@ -287,5 +302,6 @@ def try_streams(test):
 
 
 if __name__ == "__main__":
-    PARTS = try_large, try_worked, try_words, try_lines, try_members, try_limits, try_submissions, try_sizes, try_boards, try_streams
+    PARTS = (try_large, try_worked, try_words, try_lines, try_members, try_limits, try_submissions, try_arrays, try_sizes,
+             try_boards, try_streams)  # fmt: skip
     sys.exit(program.main(__doc__, Audit, PARTS, program="desk", large=False))

@@ -3,16 +3,16 @@
 
     replay_boards.py [--program PATH] [--seed N] [--cases N] [--keep FOLDER] [--jobs N] [--no-large]
 
-The boards in examples/ and the worked ones under tests/replay/ come first: both sides must print them. Of the latter
-NAME.csv is the file, NAME.options has the options, one a line below a comment that says what the board shows, and NAME.txt
-is the board, worked out by hand. Then come the files of the seed, N programs side by side (2), and at last a few of up to
-16 MiB, unless --no-large leaves these out. Every second file of the seed has a fault, and the kinds of faults come in
-turn. Status, standard output and standard error must be equal byte for byte; if the words are refused (status 2)
-standard error is the program's own, and must only say something.
+The boards in examples/ and the worked ones under tests/data/replay/ come first: both sides must print them. Of the
+latter NAME.csv is the file, NAME.options has the options, one a line below a comment that says what the board shows,
+and NAME.txt is the board, worked out by hand. Then come the files of the seed, N programs side by side (2), and at last
+a few of up to 16 MiB, unless --no-large leaves these out. Every second file of the seed has a fault, and the kinds of
+faults come in turn. Status, standard output and standard error must be equal byte for byte; if the words are refused
+(status 2) standard error is the program's own, and must only say something.
 
-Prints how often each answer came, and at which records. Prints the first cases that differ, keeps their files in FOLDER (one
-of its own for each case: `file`, `words`, and what each side gave), and ends with the line `N passed, M failed`. The exit
-status is 0 if M is 0.
+Prints how often each answer came, and at which records. Prints the first cases that differ, keeps their files in FOLDER
+(one of its own for each case: `file`, `words`, and what each side gave), and ends with the line `N passed, M failed`.
+The exit status is 0 if M is 0.
 """
 
 import sys
@@ -20,7 +20,7 @@ from concurrent.futures import ThreadPoolExecutor
 
 from lib import program, replay_files, replay_opinion
 from lib.beside import Beside, told
-from lib.program import ROOT
+from lib.program import DATA, ROOT
 
 ATTEMPTS = 200  # files that are made until one has the fault that is wanted
 CAUSES = ["Malformed", "UnknownReference", "KeyReused", "TableFull", "NotOpen"]
@@ -47,7 +47,7 @@ def try_examples(tally):
 
 def try_worked(tally):
     """The boards that were worked out by hand."""
-    for file in sorted((ROOT / "tests/replay").rglob("*.csv")):
+    for file in sorted((DATA / "replay").rglob("*.csv")):
         given = file.with_suffix(".options").read_text().splitlines()
         words = ["replay"] + [word for word in given if not word.startswith("#")]
         compare_board(tally, f"worked {file.stem}", words, file, file.with_suffix(".txt"))

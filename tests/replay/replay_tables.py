@@ -1,5 +1,5 @@
 #!/usr/bin/env -S python3 -B
-"""Runs the program on the tables under tests/tables, on other spellings of the first example, and at the limits.
+"""Runs the program on the tables under tests/data/tables, on other spellings of the first example, and at the limits.
 
     replay_tables.py [--program PATH] [--small PATH]
 
@@ -14,10 +14,10 @@ import os
 import sys
 
 from lib import program, replay_opinion
-from lib.program import ROOT, TESTS, ran
+from lib.program import DATA, ROOT, ran
 from lib.tally import Tally
 
-TABLES = TESTS / "tables"
+TABLES = DATA / "tables"
 FIRST, _, LAST = (ROOT / "examples/first.csv").read_bytes().rpartition(b"submission,t2")
 LAST = b"submission,t2" + LAST
 FIRST_BOARD = (ROOT / "examples/first.public.txt").read_bytes()
