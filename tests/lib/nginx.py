@@ -7,6 +7,7 @@ import collections
 import getpass
 import http.client
 import os
+import pathlib
 import re
 import resource
 import signal
@@ -27,6 +28,7 @@ pid {folder}/nginx.pid;
 error_log {folder}/error.log;
 daemon off;
 include files.conf;
+load_module /usr/lib/nginx/modules/ngx_http_js_module.so;
 events {{ worker_connections {connections}; }}
 http {{
     include /etc/nginx/mime.types;
@@ -44,6 +46,8 @@ http {{
 GUIDE = (ROOT / "docs/GUIDE.md").read_text(encoding="utf-8")
 CERTIFICATE = re.search(r"^openssl req .*?certificate\.pem$", GUIDE, re.M | re.S)[0]
 CONNECTIONS = re.search(r"s/worker_connections \.\*/worker_connections (\d+);/", GUIDE)[1]
+# What desk.conf and the files of the contests include.
+OWN_FILES = ("ask.conf", "public.conf", "long.conf", "replies.conf", "refusals.conf", "account.conf", "account.js", "pages.conf")
 # The files that a worker may have open if nothing is said of them.
 FILES_OF_DEBIAN = 1_024
 FIRST_PORT, ALL_PORTS, OWN_PORTS = 10_000, 20_000, 20
@@ -77,7 +81,7 @@ def with_texts(name, texts):
 
 def without_limits(text):
     """A text of examples/nginx/ with limits that nothing reaches."""
-    return re.sub(r"(limit_conn \w+) \d+", r"\1 65535", re.sub(r"rate=\d+r/s", "rate=1000000r/s", text))
+    return re.sub(r"(limit_conn \w+) \d+", r"\1 65535", re.sub(r"rate=\d+r/[sm]", "rate=1000000r/s", text))
 
 
 def few_files():
@@ -130,13 +134,32 @@ class Started:
         """How many requests were answered by each status since this or `answered` was called last."""
         return collections.Counter(status for status, _, _ in self.answered())
 
+    def workers(self):
+        """The folders of /proc of its workers."""
+        children = pathlib.Path(f"/proc/{self.process.pid}/task/{self.process.pid}/children").read_text(encoding="utf-8")
+        return [pathlib.Path("/proc", child) for child in children.split()]
+
+    def memory(self):
+        """Megabytes that its workers hold, but for what they share."""
+        lines = [line for worker in self.workers() for line in (worker / "status").read_text(encoding="utf-8").splitlines()]
+        return sum(int(line.split()[1]) for line in lines if line.startswith("RssAnon:")) / 1024
+
+    def open_files(self, name):
+        """How many files of one of its folders are open, those that are gone from it too."""
+        links = [os.readlink(link) for worker in self.workers() for link in (worker / "fd").iterdir()]
+        return sum(link.startswith(f"{self.folder}/{name}/") for link in links)
+
     def stop(self):
         self.process.terminate()
         self.process.wait(20)
 
-    def connected(self):
-        """A client's end of a new connection, for bytes."""
-        return TRUSTING.wrap_socket(socket.create_connection(("127.0.0.1", self.port), timeout=60))
+    def connected_plainly(self):
+        """A client's end of a new connection without TLS."""
+        return socket.create_connection(("127.0.0.1", self.plain_port), timeout=60)
+
+    def connected(self, address="127.0.0.1"):
+        """A client's end of a new connection, for bytes, of an address of this machine."""
+        return TRUSTING.wrap_socket(socket.create_connection(("127.0.0.1", self.port), 60, (address, 0)))
 
 
 class Nginx(Started):
@@ -151,10 +174,11 @@ class Nginx(Started):
             "listen 80": f"listen 127.0.0.1:{self.plain_port}",
             "listen 127.0.0.1:8079": f"listen 127.0.0.1:{self.account_port}",
         }
-        caches = {"/var/lib/nginx/desk": f"{folder}/cache", "/run/nginx-accounts": f"{folder}/accounts"}
+        places = {"/var/lib/nginx/desk": "cache", "/run/nginx-accounts": "accounts", "/run/nginx-replies": "replies"}
         shown = (lambda text: text) if is_limited else without_limits
-        self.write("desk.conf", shown(with_texts("desk.conf", {**listens, **caches})))
-        for name in ("ask.conf", "account.conf", "pages.conf"):
+        own = {place: f"{folder}/{name}" for place, name in places.items()}
+        self.write("desk.conf", shown(with_texts("desk.conf", {**listens, **own})))
+        for name in OWN_FILES:
             self.write(f"desk/{name}", shown(with_texts(name, {})))
         for contest, port in desks.items():
             self.lead(contest, port)
@@ -163,6 +187,7 @@ class Nginx(Started):
     def lead(self, contest, port):
         """Leads a contest's paths to a port; if nginx runs it takes that up by `reload`."""
         own = {"riverside": contest, "8081": str(port), "8079": str(self.account_port), "/srv/desk/web/": f"{ROOT}/web/"}
+        own["/run/desk-copied/"] = f"{self.folder}/"
         self.write(f"desk/contests/{contest}.conf", with_texts("riverside.conf", own))
 
     def reload(self):

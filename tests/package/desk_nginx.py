@@ -8,15 +8,17 @@ clocks are stopped by faketime. 200 clients ask at once by wrk, N seconds each (
 for one that may not. Dozens of clients send and read slowly while others are answered. Bodies of every size and form
 reach the desk whole. Requests that two servers could read differently reach it as one request or not at all. N
 requests (2,000) of callers of every kind, side by side, are each answered as the desk answers that caller. Posts
-whose desk is killed and started underneath come once. Two contests stand side by side. The guide's
-certificate holds for the machine's name. The pages are served. All this asks more than people do, so nginx has no limits
-here: desk_nginx_limits.py tries those.
+whose desk is killed and started underneath come once. No file that nginx keeps has a token, and what a slow client
+hasn't read of a large reply lies in memory. Two contests stand side by side. The guide's certificate holds for the
+machine's name. The pages are served. All this asks more than people do, so nginx has no limits here: desk_nginx_limits.py
+tries those.
 
 Takes nginx, openssl, wrk, curl and faketime. Ends with the line `N passed, M failed`; the exit status is 0 if M is 0.
 """
 
 import base64
 import concurrent.futures
+import hashlib
 import json
 import random
 import re
@@ -35,13 +37,16 @@ from lib.relay import Relay
 from lib.server import Server, read_all
 from lib.wire_opinion import asked
 
-CALLERS = [None, "token-a1", "token-a2", "token-a9", "token-j1", "token-adm", "token-nobody"]
+NOBODY = "token-nobody"
+CALLERS = [None, "token-a1", "token-a2", "token-a9", "token-j1", "token-adm", NOBODY]
 PATHS = [f"/contests/demo{rest}" for rest in (
     "", "/state", "/scoreboard", "/submissions", "/submissions/s1-1", "/submissions/s1-1/files", "/submissions/s9-9",
     "/judgements", "/judgements/s1-1.1", "/clarifications", "/clarifications/c1-1", "/awards", "/event-feed", "/teams/t9", "/nothing",
 )] + ["/contests", "/jury/proposals", "/jury/rejudgings", "/jury/verifications"]  # fmt: skip
 FIELDS = ("Content-Type", "Allow", "WWW-Authenticate")
 SLOW, QUICK = 48, 40
+# A reply that is larger than all buffers on its way, and whether a desk is done with it.
+LARGE, LARGE_DONE = 30_000_000, threading.Event()
 HOST = b"Host: x\r\nAuthorization: Bearer token-a1\r\n"
 TEAMS = b"GET /demo/contests/demo/teams"
 SMUGGLED = (
@@ -255,6 +260,12 @@ def try_callers(desk):
     fill_contest(server)
     cases = [(who, method, path) for who in CALLERS for method in ("GET", "HEAD") for path in PATHS]
     wanted = {case: outline(Client(server.port, case[0], True).ask(*case[1:])) for case in cases}
+    # Whose token no account has nginx tells so, whatever the path; and the public that nothing of the jury's is for it.
+    for who, method, path in cases:
+        if who == NOBODY:
+            wanted[who, method, path] = wanted[who, method, "/contests"]
+        elif who is None and path.startswith("/jury/"):
+            wanted[who, method, path] = wanted[who, method, "/jury/proposals"]
     boards = {wanted[who, "GET", "/contests/demo/scoreboard"][2] for who in CALLERS}
     desk.note(len(boards) >= 4, f"callers see {len(boards)} different boards")
     relay.take()
@@ -299,7 +310,7 @@ def try_cache(desk):
         {"authorization": "Bearer token-no"},
     ):
         desk.same(f"a credential {fields}", public.ask("GET", path, **fields)[0], 401)
-    desk.same("requests of these four", len(taken(relay)), 4)
+    desk.same("requests of these four", len(taken(relay)), 0)
     given = public.ask("GET", path, Authorization="")
     desk.note(given[0] == 401 or given[2] == public.ask("GET", path)[2], f"an empty credential: {given}")
     missing = [public.ask("GET", f"{HERE}/teams/t7")[0] for _ in range(3)]
@@ -314,6 +325,56 @@ def try_cache(desk):
         f"a board after two seconds: {pending}",
     )
     stop(server, nginx, relay)
+
+
+def try_kept_files(desk):
+    """nginx keeps replies, and whose token it knows, in files. None has a token: they have digests of those that were taken."""
+    server, relay, nginx = front(desk)
+    tokens = [who for who in CALLERS if who is not None]
+    for who in CALLERS:
+        for path in PATHS:
+            Client(nginx.port, who).ask("GET", f"/demo{path}")
+    files = [file for name in ("accounts", "cache", "replies") for file in (nginx.folder / name).rglob("*") if file.is_file()]
+    texts = [file.read_bytes() for file in files]
+    desk.same("tokens in nginx's files", [who for who in tokens if any(who.encode() in text for text in texts)], [])
+    digests = [hashlib.sha256(who.encode()).hexdigest().encode() for who in tokens]
+    kept = [who for who, digest in zip(tokens, digests) if any(digest in text for text in texts)]
+    desk.same("the digests in them", kept, [who for who in tokens if who != NOBODY])
+    desk.note(any(b"/scoreboard" in text for text in texts), "no file has a board of the public")
+    stop(server, nginx, relay)
+
+
+def try_large_replies(desk):
+    """What a slow client doesn't take of a large reply lies in /run, which is in memory, and in no other folder. The desk is
+    free meanwhile, and the file is gone once the client is."""
+    conf = (ROOT / "examples/nginx/desk.conf").read_text(encoding="utf-8")
+    desk.note("proxy_temp_path /run/" in conf, "desk.conf keeps what a slow client doesn't take elsewhere")
+    with socket.create_server(("127.0.0.1", 0)) as large:
+        threading.Thread(target=answer_largely, args=(large,), daemon=True).start()
+        nginx = Nginx(desk.new_folder(), {"demo": large.getsockname()[1]})
+        with nginx.connected() as client:
+            client.sendall(b"GET /demo/contests/demo/submissions HTTP/1.1\r\n" + HOST + b"\r\n")
+            desk.same("the desk's own part of it", LARGE_DONE.wait(20), True)
+            desk.same("where the rest lies", [nginx.open_files(name) > 0 for name in ("replies", "proxy")], [True, False])
+        time.sleep(0.5)
+        desk.same("and afterwards", [nginx.open_files(name) for name in ("replies", "proxy")], [0, 0])
+        nginx.stop()
+
+
+def answer_largely(listener):
+    """Answers each connection by so many bytes that no buffer has them all."""
+    while True:
+        try:
+            client, _ = listener.accept()
+        except OSError:
+            return
+        with client:
+            is_lookup = client.recv(65536).startswith(b"GET /contests HTTP/1.0")
+            body = b"[]" if is_lookup else b"x" * LARGE
+            head = b"HTTP/1.1 200 OK\r\nContent-Type: application/json\r\nContent-Length: %d\r\n\r\n" % len(body)
+            client.sendall(head + body)
+        if not is_lookup:
+            LARGE_DONE.set()
 
 
 def try_restarts(desk):
@@ -351,7 +412,7 @@ def contest_cases():
         is_own, token = mine == other, tokens[mine]
         named = f'"id":"{mine}"' if is_own else ""
         cases.append((token, f"/{other}/jury/proposals", 200 if is_own else 401, "[]" if is_own else "UnknownToken"))
-        cases.append((token, f"/{other}/contests/{mine}", 200 if is_own else 404, named))
+        cases.append((token, f"/{other}/contests/{mine}", 200 if is_own else 401, named))
         cases.append((token, f"/{other}/contests", 200 if is_own else 401, named))
         cases.append((token, f"/contests/{other}", 200 if is_own else 401, named))
     return cases
@@ -391,10 +452,12 @@ def try_pages(desk):
     """The pages and what they load, each with the fields that hold them to it; and nothing else of the machine."""
     server, relay, nginx = front(desk)
     public = Client(nginx.port)
-    for file in sorted((ROOT / "web").iterdir()):
-        status, fields, body = public.ask("GET", f"/demo/{file.name}")
-        desk.same(file.name, (status, body), (200, file.read_bytes()))
-        desk.note("script-src 'self'" in fields["Content-Security-Policy"], f"{file.name}: {fields}")
+    for file in sorted(it for it in (ROOT / "web").rglob("*") if it.is_file()):
+        name = file.relative_to(ROOT / "web")
+        status, fields, body = public.ask("GET", f"/demo/{name}")
+        desk.same(name, (status, body), (200, file.read_bytes()))
+        policy = fields["Content-Security-Policy"]
+        desk.note(all(f"{what}-src 'self'" in policy for what in ("script", "img")), f"{name}: {fields}")
     desk.same("without a name", public.ask("GET", "/demo/")[2], (ROOT / "web/scoreboard.html").read_bytes())
     for path in (
         "/demo/../README.md",
@@ -415,6 +478,8 @@ PARTS = [
     try_smuggling,
     try_callers,
     try_cache,
+    try_kept_files,
+    try_large_replies,
     try_restarts,
     try_two_contests,
     try_certificate,

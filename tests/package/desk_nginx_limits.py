@@ -4,11 +4,11 @@
     desk_nginx_limits.py [--program PATH] [--submissions N] [--seconds N]
 
 1,100 clients that say nothing leave room for others. One token that asks for the longest list on 150 connections keeps
-another team's post waiting for no more than a moment; a token has 30 requests at one time, and an address 2,000.
-Credentials that no account has, the same one again and again or ever new ones, are limited by their address, and who is
-signed in behind that address notices nothing; so it is of the public. 30 pages of one account, and a hall of 120 teams
-that all sign in at once behind one address, are refused nothing. The contest has N submissions (1,200); floods last N
-seconds each (3).
+another team's post waiting for no more than a moment. A token has 30 requests at one time. Of what isn't kept for the
+public an address has 20 at one time, and all addresses 60. Credentials that no account has, the same one again and again
+or ever new ones, wait for their turn among those of their address, and who is signed in behind that address notices
+nothing; so it is of the public. 30 pages of one account, and a hall of 120 teams that all sign in at once behind one
+address, are refused nothing. The contest has N submissions (1,200); floods last N seconds each (3).
 
 Takes nginx, openssl, wrk and faketime. Ends with the line `N passed, M failed`; the exit status is 0 if M is 0.
 """
@@ -24,20 +24,24 @@ import threading
 import time
 
 from lib import demo, program
-from lib.asked import asked, path_of
+from lib.floods import Flood
 from lib.import_opinion import compact
 from lib.nginx import Client, Nginx
 from lib.program import Program, ran
 from lib.server import Server, read_all
+from lib.timetable import path_of, timetable
 
 HERE, POSTED = "/demo/contests/demo", {"problem_id": "a", "language_id": "cpp", "files": [{"data": "YWJj"}]}
 HALL, IDLE, FLOODING = 120, 1_100, 150
-# What a team's page asks for at once when it is loaded, and here every so many seconds.
-PAGE = [f"/demo{path_of('demo', path)}" for beat in asked()["team"] for path in beat["paths"]]
-PAGES, PAGE_SECONDS, ROUNDS = 30, 5, 2
-# The limits of examples/nginx/: at one time; and in a second, with how many more that may come at once.
-AT_ONCE, ADDRESS_AT_ONCE = 30, 2_000
-TOKEN, STRANGERS, PUBLIC = (40, 20), (50, 1_000), (1_000, 2_000)
+# What a team's page asks for at once when it is loaded, and what of that every so many seconds.
+PAGE = [f"/demo{path_of('demo', path)}" for beat in timetable()["team"] for path in beat["paths"]]
+QUICK, (PAGE_SECONDS, *_) = PAGE[: len(timetable()["team"][0]["paths"])], [beat["seconds"] for beat in timetable()["team"]]
+# A page gives up what isn't answered in so many seconds, and asks again.
+PAGES, ROUNDS, PATIENCE = 30, 3, 20
+# The limits of examples/nginx/: at one time, of a token, and of what isn't kept for the public, of an address and of all;
+# and in a second, with how many more that go on at once.
+AT_ONCE, ADDRESS_AT_ONCE, PUBLIC_AT_ONCE = 30, 20, 60
+TOKEN, STRANGERS, PUBLIC = (40, 20), (1_000, 0), (1_000, 1_000)
 
 
 def hall_files():
@@ -55,7 +59,7 @@ class Hall(Program):
     def __init__(self, options, folder):
         super().__init__(options, folder)
         soft, hard = resource.getrlimit(resource.RLIMIT_NOFILE)
-        resource.setrlimit(resource.RLIMIT_NOFILE, (min(hard, 3 * ADDRESS_AT_ONCE), hard))
+        resource.setrlimit(resource.RLIMIT_NOFILE, (min(hard, 4_096), hard))
         self.tokens = [f"token-h{number}" for number in range(HALL)]
         self.server = Server(self, demo.made(self, hall_files()))
         for number in range(options.submissions):
@@ -121,22 +125,20 @@ def try_idle_clients(desk):
 def try_one_token(desk):
     """150 connections of one token, each of which asks for the longest list again and again."""
     nginx = desk.nginx()
-    clients = [Client(nginx.port, desk.tokens[0]) for _ in range(FLOODING)]
-    with concurrent.futures.ThreadPoolExecutor(1) as pool:
-        posts = pool.submit(quick_ones, Client(nginx.port, desk.tokens[1]), desk.options.seconds)
-        ask = lambda number: clients[number].ask("GET", f"{HERE}/submissions")[0]
-        statuses = repeated(FLOODING, desk.options.seconds, ask)
-        note_served(desk, f"beside {FLOODING} connections of one token", posts.result(), 0.3)
-    print(f"  its statuses: {dict(statuses)}")
+    with Flood(nginx, f"{HERE}/submissions", 1, FLOODING, "tokens.lua"):
+        posts = quick_ones(Client(nginx.port, desk.tokens[2]), desk.options.seconds)
+    note_served(desk, f"beside {FLOODING} connections of one token", posts, 0.3)
+    print(f"  its statuses: {dict(nginx.statuses())}")
     nginx.stop()
 
 
 def refused_of(nginx, requests):
-    """How many of these requests, each a path and its fields, are refused as over a limit while no desk answers any."""
+    """How many of these requests, each a path, its fields and the address that sends it, are refused as over a limit while no
+    desk answers any."""
     nginx.statuses()
     clients = []
-    for path, fields in requests:
-        clients.append(nginx.connected())
+    for path, fields, address in requests:
+        clients.append(nginx.connected(address))
         clients[-1].sendall(f"GET {HERE}/{path} HTTP/1.1\r\nHost: x\r\nConnection: close\r\n{fields}\r\n".encode())
     time.sleep(1.5)
     statuses = nginx.statuses()
@@ -146,29 +148,29 @@ def refused_of(nginx, requests):
 
 
 def try_at_once(desk):
-    """Requests that wait for a desk: 30 of a token and 2,000 of an address, and no more."""
+    """Requests that wait for a desk: 30 of a token; of the public 20 of an address and 60 of all; and no more."""
     nginx = desk.nginx()
     Client(nginx.port, desk.tokens[0]).ask("GET", f"{HERE}/state")
     desk.server.process.send_signal(signal.SIGSTOP)
-    asked = [("state", f"Authorization: Bearer {desk.tokens[0]}\r\n")] * (AT_ONCE + 10)
+    asked = [("state", f"Authorization: Bearer {desk.tokens[0]}\r\n", "127.0.0.1")] * (AT_ONCE + 10)
     desk.same("of a token", refused_of(nginx, asked), {429: 10})
     desk.server.process.send_signal(signal.SIGCONT)
     nginx.stop()
     with socket.create_server(("127.0.0.1", 0), backlog=4_096) as silent:
-        nginx = Nginx(desk.new_folder(), {"demo": silent.getsockname()[1]})
-        asked = [(f"teams/{number}", "") for number in range(ADDRESS_AT_ONCE + 50)]
-        desk.same("of an address", refused_of(nginx, asked), {429: 50})
-        nginx.stop()
+        for addresses, most in ((1, ADDRESS_AT_ONCE), (4, PUBLIC_AT_ONCE)):
+            nginx = Nginx(desk.new_folder(), {"demo": silent.getsockname()[1]})
+            numbers = range(addresses * (ADDRESS_AT_ONCE + 10))
+            asked = [(f"teams/{number}", "", f"127.0.0.{1 + number % addresses}") for number in numbers]
+            desk.same(f"of {addresses} addresses", refused_of(nginx, asked), {429: len(asked) - most})
+            nginx.stop()
 
 
 def note_limited(desk, what, statuses, limit, seconds):
-    """Notes whether no more passed than a limit gives, and whether the rest was refused as over it. Over a token's own limit
-    20 clients wait instead."""
-    rate, burst = limit
+    """Notes whether no more passed than a limit gives. The others wait."""
+    rate, more = limit
     passed = sum(count for status, count in statuses.items() if status != 429)
-    most = burst + rate * (seconds + 1)
-    is_right = passed <= most and (statuses[429] > 0 or limit == TOKEN)
-    desk.note(is_right, f"{what}: {dict(statuses)}, and {most:.0f} may pass")
+    most = more + rate * (seconds + 1)
+    desk.note(passed <= most, f"{what}: {dict(statuses)}, and {most:.0f} may pass")
     print(f"  {what}: {dict(statuses)}")
 
 
@@ -214,17 +216,28 @@ def try_public(desk):
     nginx.stop()
 
 
+def page_asks(client, path, start):
+    """What a page is answered to a path: when it is loaded, and if that is a quick one each few seconds after it. The
+    statuses, and how long the longest took."""
+    found = []
+    for number in range(ROUNDS if path in QUICK else 1):
+        time.sleep(max(0, start + number * PAGE_SECONDS - time.monotonic()))
+        asked = time.monotonic()
+        found.append((client.ask("GET", path)[0], time.monotonic() - asked))
+    return [status for status, _ in found], max(took for _, took in found)
+
+
 def try_pages(desk):
     """30 pages of one account, which all ask at the same moments; and a hall that signs in."""
-    nginx = desk.nginx()
+    nginx, start = desk.nginx(), time.monotonic() + 1
     with concurrent.futures.ThreadPoolExecutor(PAGES * len(PAGE)) as pool:
         clients = [(Client(nginx.port, desk.tokens[0]), path) for path in PAGE for _ in range(PAGES)]
-        statuses, start = collections.Counter(), time.monotonic()
-        for number in range(ROUNDS):
-            time.sleep(max(0, start + number * PAGE_SECONDS - time.monotonic()))
-            asked = [pool.submit(client.ask, "GET", path) for client, path in clients]
-            statuses.update(one.result()[0] for one in asked)
-    desk.same(f"{PAGES} pages of one account", statuses, {200: ROUNDS * PAGES * len(PAGE)})
+        asked = [one.result() for one in [pool.submit(page_asks, *each, start) for each in clients]]
+    statuses = collections.Counter(status for each, _ in asked for status in each)
+    desk.same(f"{PAGES} pages of one account", statuses, {200: PAGES * (len(PAGE) + (ROUNDS - 1) * len(QUICK))})
+    longest = max(took for _, took in asked)
+    desk.note(longest < PATIENCE, f"{PAGES} pages of one account wait for {longest:.1f} s")
+    print(f"  {PAGES} pages of one account wait for {longest:.1f} s at most")
     nginx.stop()
     nginx = desk.nginx()
     with concurrent.futures.ThreadPoolExecutor(HALL) as pool:

@@ -9,9 +9,11 @@ frozen hour, a judge accepts what they sent, and the jury and a team ask for the
 requests of the public than the time lets it for which a reply is kept. Each body that came is one that the desk itself
 gave the public, with no verdict of the freeze, and is soon another once the board is. Who has a token is answered by
 the desk each time. What a machine for spectators doesn't hand on never comes to the desk: credentials, posts, other
-paths. While the desk is away it shows the last board.
+paths, a path with a line's end. While the desk is away it shows the last board. A browser that loads the page of the
+scoreboard from there gets each file that the page loads, and shows the board.
 
-Takes nginx, openssl, wrk and faketime. Ends with the line `N passed, M failed`; the exit status is 0 if M is 0.
+Takes nginx, openssl, wrk, chromium, chromium-driver and faketime. Ends with the line `N passed, M failed`; the exit
+status is 0 if M is 0.
 """
 
 import gzip
@@ -23,9 +25,10 @@ import sys
 import time
 
 from lib import demo, program
+from lib.browsers import BACKS
 from lib.import_opinion import compact
 from lib.nginx import HERE, POSTED, Client, Front, Nginx
-from lib.program import TESTS, Program
+from lib.program import ROOT, TESTS, Program
 from lib.relay import Relay
 from lib.server import Server
 
@@ -34,6 +37,12 @@ FREEZE = "2024-03-02 13:10:00"
 # A reply is kept for a second, which may be nearly two; a busy machine may be so many seconds late.
 KEPT, LATE = 2, 2
 STEP = 0.2
+# Paths that end in what would end a line of a request, or that have something behind it.
+OURS = (f"{HERE}/scoreboard", "/demo/scoreboard.html", "/demo/", HERE)
+ENDED = [f"{path}{end}" for path in OURS for end in ("%0a", "%0aX", "%0d%0a")]
+# What a page has loaded, but for what the desk answers: each with its status.
+LOADED = """return performance.getEntriesByType("resource").filter(({ name }) => /\\.(js|css)$/.test(name))
+  .map(({ name, responseStatus }) => [new URL(name).pathname, responseStatus]);"""
 # So many teams that nginx compresses their board.
 FILES = {**demo.FILES, "teams-csv": demo.FILES["teams-csv"] + "".join(f"h{number},Team {number},,\n" for number in range(20))}
 
@@ -157,12 +166,13 @@ def try_front_machine(desk):
     desk.same("a credential of another form", Client(front.port).ask("GET", f"{HERE}/scoreboard", Authorization="x")[0], 403)
     for path in (f"{HERE}/submissions", f"{HERE}/scoreboard", "/demo/jury/proposals"):
         desk.note(Client(front.port).ask("POST", path, compact(POSTED))[0] in (403, 404), f"a post to {path}")
-    others = ("/demo/jury/proposals", "/demo/contests/other/scoreboard", "/demo/team.html", "/contests/demo")
-    for path in (f"{HERE}/submissions", f"{HERE}/event-feed", *others):
+    pages = ("/demo/team.html", "/demo/team/team.js", "/demo/judges/jury.js", "/demo/README.md")
+    others = ("/demo/jury/proposals", "/demo/contests/other/scoreboard", "/contests/demo", *pages)
+    for path in (f"{HERE}/clarifications", f"{HERE}/event-feed", *others, *ENDED):
         desk.same(path, Client(front.port).ask("GET", path)[0], 404)
     desk.same("what came to the desk of these", contest.taken(), ([], []))
     page = Client(front.port).ask("GET", "/demo/scoreboard.html")
-    desk.same("the page", (page[0], page[2]), (200, (TESTS.parent / "web/scoreboard.html").read_bytes()))
+    desk.same("the page", (page[0], page[2]), (200, (ROOT / "web/scoreboard.html").read_bytes()))
     last = Client(front.port).ask("GET", f"{HERE}/scoreboard")[2]
     contest.stop()
     time.sleep(KEPT + 0.1)
@@ -170,5 +180,34 @@ def try_front_machine(desk):
     front.stop()
 
 
+def files_of(page):
+    """The files of web/ that a page loads, by their paths there: its styles and scripts, and all that these import."""
+    found, left = set(), re.findall(r'(?:href|src)="([^"]+)"', (ROOT / "web" / page).read_text(encoding="utf-8"))
+    while left:
+        file = left.pop()
+        if file not in found:
+            found.add(file)
+            named = re.findall(r'^(?:import|\}).* from "([^"]+)";$', (ROOT / "web" / file).read_text(encoding="utf-8"), re.M)
+            left += [os.path.normpath(f"{os.path.dirname(file)}/{name}") for name in named]
+    return found
+
+
+def try_front_page(desk):
+    """The page of the scoreboard from a machine before the contest's, in a browser: each file that it loads comes."""
+    contest = Contest(desk)
+    front = Front(desk.new_folder(), contest.nginx, NAME, is_limited=False)
+    browser = BACKS["chromium"](desk.new_folder(), front)
+    browser.look_at("spectator", f"https://127.0.0.1:{front.port}/demo/scoreboard.html")
+    desk.note(browser.shows("#board", "Team 19"), f"the board shows {browser.text('#board')!r}")
+    wanted = {f"/demo/{file}": 200 for file in files_of("scoreboard.html")}
+    desk.note(len(wanted) > 10, f"the page loads {sorted(wanted)}")
+    desk.same("what the page has loaded", dict(browser.run(LOADED)), wanted)
+    browser.end()
+    front.stop()
+    contest.stop()
+
+
+PARTS = [try_contest_machine, try_front_machine, try_front_page]
+
 if __name__ == "__main__":
-    sys.exit(program.main(__doc__, Program, (try_contest_machine, try_front_machine), program="desk", clients=100, seconds=6))
+    sys.exit(program.main(__doc__, Program, PARTS, program="desk", clients=100, seconds=6))
