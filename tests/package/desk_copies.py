@@ -10,9 +10,10 @@ is the last one, or the next. The older copies that stay are in order.
 
 Then two moments that are made to come: the log is moved into the file between the copies of the two, and TO has an old log. A
 desk-copy that does one thing wrong has to be noticed there, as a control: it copies no log, it doesn't look whether the file was
-written, it leaves the old log. Then four copies at once. At last what it refuses, each with its status and its words, which leaves all copies as they were.
+written, it leaves the old log. Then four copies at once, and copies of another user between which root makes one. At last
+what it refuses, each with its status and its words, which leaves all copies as they were.
 
-Takes faketime. Ends with the line `N passed, M failed`; the exit status is 0 if M is 0.
+Takes faketime and setpriv. Ends with the line `N passed, M failed`; the exit status is 0 if M is 0.
 """
 
 import base64
@@ -32,11 +33,11 @@ import time
 
 from lib import demo, program
 from lib.clock import text_of
-from lib.copier import bytes_in, copied, edited, lacking, rows_of, words_of
+from lib.copier import TOOL, bytes_in, copied, edited, lacking, rows_of, words_of
 from lib.demo import START
 from lib.import_opinion import compact
 from lib.nginx import Client, free_port
-from lib.program import Program, limited_to
+from lib.program import Program, limited_to, ran
 from lib.server import Server
 
 TEAMS, CLIENTS, KEPT = 32, 4, 4
@@ -47,6 +48,9 @@ FILES = {
     "accounts-csv": demo.FILES["accounts-csv"] + "".join(f"{name},team,{name},token-{name}\n" for name in NAMES),
 }
 POSTS = "/contests/demo/submissions"
+# Another user, whose the copies are.
+USER = 64_002
+AS_USER = ["setpriv", f"--reuid={USER}", f"--regid={USER}", "--clear-groups"]
 # A day, in minutes after nine: from the first post into the freeze.
 BEGIN, END = 5, 290
 # A copier that stops between its two copies until it is told to go on.
@@ -190,11 +194,14 @@ def try_a_day(desk):
     day.is_over = True
     for one in running:
         one.join(120)
+    desk.same("clients that go on once the day is over", [one.name for one in running if one.is_alive()], [])
     day.end()
     hold_older(day)
     rows = day.holds("the contest", "cup.db", day.so_far())
     verdicts = sum(1 for _, verdict in rows.values() if verdict)
-    print(f"  {desk.options.copies} copies of {len(rows)} submissions and {verdicts} verdicts, {kills[0]} kills")
+    told = f"{desk.options.copies} copies of {len(rows)} submissions and {verdicts} verdicts, {sum(kills)} kills"
+    desk.note(rows and verdicts and sum(kills), f"a day with too little in it: {told}")
+    print(f"  {told}")
 
 
 def hold_older(day):
@@ -288,6 +295,22 @@ def try_side_by_side(desk):
     day.end()
 
 
+def try_root(desk):
+    """Copies of a user, between which root makes one: all are the user's, and the next one goes on."""
+    if os.geteuid():
+        return desk.skip("copies as root and as another user: this isn't root")
+    desk.folder.chmod(0o755)
+    place, folder = desk.new_folder(), demo.made(desk, FILES)
+    words = [shutil.copy(TOOL, place), "--desk", shutil.copy(desk.path, place / "desk"), "cup.db", "copy.db"]
+    for path in (folder, *folder.iterdir()):
+        os.chown(path, USER, USER)
+    for before in (AS_USER, [], AS_USER, []):
+        desk.same(f"a copy by {before or 'root'}", ran([*before, *words], cwd=folder), (0, b"", b""))
+        owners = {(about.st_uid, about.st_gid, about.st_mode & 0o777) for about in map(os.stat, folder.glob("copy.db*"))}
+        desk.same("whose the copies are", owners, {(USER, USER, 0o600)})
+    desk.same("their number", len(bytes_in(folder, "copy.db")), 4)
+
+
 def refusals(desk, day, other):
     """What is refused: the words, more of how it is run, the status, and what is printed."""
     size = (day.folder / "cup.db").stat().st_size
@@ -345,5 +368,7 @@ def keep_fewer(desk, day):
     day.holds("it", "copy.db", day.so_far())
 
 
+PARTS = (try_a_day, try_moments, try_side_by_side, try_root, try_refusals)
+
 if __name__ == "__main__":
-    sys.exit(program.main(__doc__, Program, (try_a_day, try_moments, try_side_by_side, try_refusals), program="desk", copies=200, seed=1))
+    sys.exit(program.main(__doc__, Program, PARTS, program="desk", copies=200, seed=1))

@@ -8,23 +8,28 @@ verdicts, tools/desk-copy copies the contest to the second, and they go on. Then
 away, while teams post. The copy is put in its place, the second desk starts, and nginx leads there. Who had no reply is answered.
 Who posts again by key what the copy has gets the first reply, byte for byte; what the copy lacks is taken anew, once, and may
 get an id that another program had. What was lost is what tools/posts-since reads from nginx's log. Then that tool by itself.
+Last the guide's commands give the second machine the first one's address, in a network of three machines that are made for it:
+a machine of the teams, which knew the first one, sends to the second at once. By the address alone it doesn't, as a control.
 
-Takes nginx, openssl and faketime. Ends with the line `N passed, M failed`; the exit status is 0 if M is 0.
+Takes nginx, openssl, faketime, unshare, nsenter, ip and arping. Ends with the line `N passed, M failed` and, if no network
+could be made, `, K skipped`; the exit status is 0 if M is 0.
 """
 
 import concurrent.futures
 import hashlib
 import json
 import os
+import re
 import shutil
 import signal
+import subprocess
 import sys
 import time
 
 from lib import demo, program
 from lib.copier import copied, rows_of
 from lib.import_opinion import compact
-from lib.nginx import HERE, Client, Nginx, post_until_taken
+from lib.nginx import GUIDE, HERE, Client, Nginx, post_until_taken
 from lib.program import ROOT, Program, ran
 from lib.server import Server
 
@@ -43,6 +48,11 @@ LOG = """\
 \xff no line
 """
 COUNTS = "1 /spring/contests/spring\n2 /spring/contests/spring/submissions\n1 /spring/jury/proposals\n"
+
+
+# How the guide gives the second machine the first one's address, and which that is.
+ADD, TELL = re.search(r"(?m)^   (ip address add 10\.1\.2\.3/24 dev eth0)\n   (.*)$", GUIDE).groups()
+ADDRESS = "10.1.2.3"
 
 
 def replies_of(answers):
@@ -168,5 +178,59 @@ def try_posts_since(desk):
         desk.same(f"posts-since {words}", ran([SINCE, *words], input=b"")[:2], (2, b""))
 
 
+class Machine:
+    """A machine that has nothing but a network of its own."""
+
+    def __init__(self):
+        words = ["unshare", "--net", "sh", "-c", "echo; exec sleep 60"]
+        self.process = subprocess.Popen(words, stdout=subprocess.PIPE, stderr=subprocess.DEVNULL)
+        self.works = self.process.stdout.readline() == b"\n"
+
+    def does(self, command):
+        """What a command prints there."""
+        words = ["nsenter", f"--target={self.process.pid}", "--net", "bash", "-c", command]
+        return ran(words)[1].decode()
+
+    def link(self, other):
+        """A cable to another machine, where it is the device eth0. Answers that device's own address, or nothing if no cable
+        can be made here."""
+        at = f"to{other.process.pid}"
+        self.does(f"ip link add {at} type veth peer name eth0 netns {other.process.pid}; ip link set {at} master br0 up")
+        found = re.search(r"(?:[0-9a-f]{2}:){5}[0-9a-f]{2}", other.does("ip link set eth0 up; ip -brief link show eth0"))
+        return found[0] if found else None
+
+    def knows(self):
+        """Where this machine sends what is for the address."""
+        self.does(f"echo > /dev/udp/{ADDRESS}/9; sleep 0.3")
+        return (re.findall(r"lladdr (\S+)", self.does(f"ip neighbour show {ADDRESS}")) + [""])[0]
+
+    def end(self):
+        self.process.kill()
+        self.process.communicate()
+
+
+def try_address(desk):
+    """Step 4 of the take-over. A machine of the teams knows the first machine; that one is off, and the second has its
+    address."""
+    teams, first, second = machines = [Machine() for _ in range(3)]
+    teams.does("ip link add br0 type bridge && ip link set br0 up && ip address add 10.1.2.1/24 dev br0")
+    old, new = (teams.link(other) if other.works else None for other in (first, second))
+    if old and new:
+        first.does(f"ip address add {ADDRESS}/24 dev eth0")
+        second.does("ip address add 10.1.2.9/24 dev eth0")
+        desk.same("before", teams.knows(), old)
+        first.does("ip link set eth0 down")
+        second.does(ADD)
+        desk.same("by the address alone", teams.knows(), old)
+        second.does(TELL)
+        desk.same("once it is told", teams.knows(), new)
+    else:
+        desk.skip("the address: no network can be made here")
+    for machine in machines:
+        machine.end()
+
+
+PARTS = (try_take_over, try_posts_since, try_address)
+
 if __name__ == "__main__":
-    sys.exit(program.main(__doc__, Program, (try_take_over, try_posts_since), program="desk"))
+    sys.exit(program.main(__doc__, Program, PARTS, program="desk"))
