@@ -7,9 +7,9 @@
 ADDRESS is what stands before /contests in the contest's paths, as https://desk.example/spring or 127.0.0.1:8081, and
 CONTEST the contest's id. The token is a judge's: the first line of FILE, or of the variable DESK_TOKEN. README.md beside
 this file says what COMMAND is given and what it prints. Each type that it prints is proposed; with --verify it confirms
-a proposal of another account. N commands run at once (1), the oldest submission first. One that takes longer than
---limit (300 seconds) is ended. The desk is asked every --pause (5 seconds) what waits. --trust names a certificate
-that is trusted beside those of the machine.
+a proposal of another account. N commands run at once (1). The next is for the team for which the fewest began lately,
+and for its oldest submission. One that takes longer than --limit (300 seconds) is ended. The desk is asked every
+--pause (5 seconds) what waits. --trust names a certificate that is trusted beside those of the machine.
 
 Nothing is kept: it may be ended at any moment and started elsewhere. While the desk is away it asks again. What is left
 for people is told on standard error, and isn't tried again until the next start. It ends by a signal, or with status 1
@@ -17,7 +17,9 @@ if the desk refuses its account.
 """
 
 import argparse
+import collections
 import contextlib
+import ctypes
 import dataclasses
 import http.client
 import json
@@ -39,8 +41,11 @@ import time
 # Seconds: how long a reply is waited for, the first and the longest pause while the desk is away, and the longest that
 # the desk may ask for by Retry-After.
 PATIENCE, FIRST_PAUSE, LONGEST_PAUSE, LONGEST_RETRY_AFTER = 70, 0.5, 10, 60
-# A judgement type's id and the end of its line have at most so many bytes.
-LONGEST_ID = 36
+# Seconds: how long a command counts for its team once it began; and how long one may wait for its turn before the desk is
+# asked anew what waits.
+LATELY, LONG_WAIT = 600, 1
+# A judgement type's id and the end of its line have at most so many bytes; and more than a token and its own.
+LONGEST_ID, LONGEST_TOKEN = 36, 1_000
 TOKEN = re.compile(r"[-A-Za-z0-9._~+/]+=*")
 # Somebody else has done what was to be done.
 STANDS_ALREADY = {"AlreadyReleased", "NothingToVerify"}
@@ -233,6 +238,7 @@ class Bridge:
         self.desk, self.command, self.options, self.folder = desk, command, options, folder
         self.slots, self.lock, self.has_failed = threading.Semaphore(options.jobs), threading.Lock(), threading.Event()
         self.busy, self.verdicts, self.left, self.fault = set(), {}, set(), None
+        self.starts = collections.deque()
         account = desk.served(f"{desk.contest}/account")
         if account.get("type") not in ("judge", "admin"):
             raise Fault(f"the account {account.get('id')} is of the type {account.get('type')}, and no judge's")
@@ -245,15 +251,31 @@ class Bridge:
                 busy = set(self.busy)
             queue = [one for one in self.waiting() if one.id not in busy]
             asked = time.monotonic()
-            for waiting in queue:
-                self.slots.acquire()
-                if self.fault is not None or time.monotonic() - asked > self.options.pause:
-                    self.slots.release()
-                    break
-                self.begin(waiting)
-            self.has_failed.wait(max(0, asked + self.options.pause - time.monotonic()))
+            while queue and self.has_place(asked):
+                self.begin(queue.pop(self.next_of(queue)))
+            if not queue:
+                self.has_failed.wait(max(0, asked + self.options.pause - time.monotonic()))
             if self.fault is not None:
                 raise self.fault
+
+    def has_place(self, asked):
+        """Waits until one more command may run. Answers whether the desk needn't be asked anew what waits: if that was
+        long ago, or this wait was long, somebody may have come who goes first."""
+        start = time.monotonic()
+        self.slots.acquire()
+        now = time.monotonic()
+        if self.fault is None and now - asked <= self.options.pause and now - start <= LONG_WAIT:
+            return True
+        self.slots.release()
+        return False
+
+    def next_of(self, queue):
+        """The place in the queue of what comes next: the oldest of the team for which the fewest commands began lately.
+        So slow programs of one team keep another waiting for one of them at most."""
+        while self.starts and self.starts[0][0] < time.monotonic() - LATELY:
+            self.starts.popleft()
+        counts = collections.Counter(team for _, team in self.starts)
+        return min(range(len(queue)), key=lambda at: counts[queue[at].submission["team_id"]])
 
     def proposals(self):
         """The last proposal for each submission without a verdict."""
@@ -272,6 +294,7 @@ class Bridge:
             return [one for one in found if one.key not in self.left]
 
     def begin(self, waiting):
+        self.starts.append((time.monotonic(), waiting.submission["team_id"]))
         with self.lock:
             self.busy.add(waiting.id)
         threading.Thread(target=self.work, args=(waiting,), daemon=True).start()
@@ -355,9 +378,26 @@ class Bridge:
             raise Fault(f"{status} {name} for a post")
 
 
+def hide_token():
+    """Begins anew with a token that stood in the environment, where a command could read it: now it comes by a pipe. No
+    other process of this user may look into the memory of this one (PR_SET_DUMPABLE)."""
+    token = os.environ.pop("DESK_TOKEN", None)
+    if token is not None:
+        reader, writer = os.pipe()
+        os.write(writer, token.encode()[:LONGEST_TOKEN])
+        os.close(writer)
+        os.set_inheritable(reader, True)
+        os.environ["DESK_TOKEN_PIPE"] = str(reader)
+        os.execv(sys.executable, [sys.executable, *sys.orig_argv[1:]])
+    ctypes.CDLL(None).prctl(4, 0, 0, 0, 0)
+
+
 def token_of(path):
-    """The token in a file or in the environment, from which it is taken away: no command finds it there."""
-    text = os.environ.pop("DESK_TOKEN", "")
+    """The token in a file, or the one that `hide_token` left in a pipe."""
+    pipe, text = os.environ.pop("DESK_TOKEN_PIPE", None), ""
+    if pipe is not None:
+        with os.fdopen(int(pipe), encoding="utf-8") as file:
+            text = file.read()
     if path is not None:
         text = path.read_text(encoding="utf-8")
     first = text.partition("\n")[0].strip()
@@ -393,6 +433,7 @@ def options_of_words():
 
 
 def main():
+    hide_token()
     options = options_of_words()
     try:
         token, trust = token_of(options.token), ssl.create_default_context()

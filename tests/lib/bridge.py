@@ -22,7 +22,11 @@ NOTHING) ;;
 TWO) echo AC WA ;;
 ODD) echo XYZ ;;
 LATER) mkdir "@FOLDER@/seen-$id" 2> /dev/null && exit 4; echo AC ;;
-ENVIRONMENT) env > @FOLDER@/environment; tr '\\0' ' ' < /proc/$PPID/cmdline > @FOLDER@/words; echo AC ;;
+ENVIRONMENT)
+    env > @FOLDER@/environment
+    tr '\\0' '\\n' < /proc/$PPID/environ > @FOLDER@/environment-of-bridge
+    tr '\\0' ' ' < /proc/$PPID/cmdline > @FOLDER@/words
+    echo AC ;;
 *) sleep 0.3; echo "$word" ;;
 esac
 echo "ends $id $(date +%s.%N)" >> @FOLDER@/calls

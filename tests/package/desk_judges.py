@@ -7,9 +7,10 @@ The command judges by the word that a program holds (lib/bridge.py): it names a 
 prints without end or what is no type. N submissions (36) are judged by one bridge that proposes and one that verifies,
 while both and the desk are killed and started again, and by two that propose beside a verifier and beside a judge: in the
 end each has one verdict, the right one, and what the command can't say has none. Files are fetched as often as is said. A
-bridge takes the oldest first and so many at once, gives the command its words and no token, and tells once what it leaves.
-It goes on with a proposal that is mended, and beside a desk that goes on from an older copy. A made-up desk asks for
-patience by 429 and 503, and breaks off.
+bridge runs so many at once, and takes the oldest of the team that had the fewest turns of late: slow programs of one team
+hold up another's by one of them. It gives the command its words and no token, and tells once what it leaves. It goes on
+with a proposal that is mended, and beside a desk that goes on from an older copy. A made-up desk asks for patience by 429
+and 503, and breaks off.
 
 Takes nginx, openssl and faketime. Ends with the line `N passed, M failed`; the exit status is 0 if M is 0.
 """
@@ -190,29 +191,51 @@ def most_at_once(calls):
     return most
 
 
+# The turns of the submissions of `try_command`: first one of each team, then the next of each.
+TURNS = [0, 1, 2, 6, 3, 4, 5, 7, 8, 9]
+
+
 def try_command(desk):
-    """The command has the oldest first, so many at once, each submission's words, and no token."""
+    """The command has the oldest first of the team that had the fewest, so many at once, each submission's words, and no
+    token."""
     for jobs in (1, 4):
         place = Place(desk, demo.STARTED)
         order = [place.submit("AC", team=team, minute=minute) for minute, team in enumerate([3, 1, 2, 1, 3, 2, 9, 1], 5)]
         order.append(place.submit("WA", team=2, minute=30, language_id="java", entry_point="-x 'é\" $(id)"))
         order.append(place.submit("ENVIRONMENT", team=2, minute=31))
         place.words[order[-1]] = "AC"
+        turns = [order[at] for at in TURNS]
         bridge = place.bridge("--jobs", str(jobs), in_file=jobs == 1)
         place.comes("the last verdict", lambda: place.verdicts() == place.wanted())
         began = [line[1] for line in place.calls.lines()]
-        desk.same(f"the first calls, by {jobs}", sorted(began[:jobs]), sorted(order[:jobs]))
-        desk.same(f"the calls, by {jobs}", began if jobs == 1 else sorted(began), order if jobs == 1 else sorted(order))
+        desk.same(f"the first calls, by {jobs}", sorted(began[:jobs]), sorted(turns[:jobs]))
+        desk.same(f"the calls, by {jobs}", began if jobs == 1 else sorted(began), turns if jobs == 1 else sorted(turns))
         desk.same(f"the most at once, by {jobs}", most_at_once(place.calls), jobs)
         words = {line[1]: " ".join(line[3:]) for line in place.calls.lines()}
         desk.same("the words of a submission", words[order[0]], "a cpp <> 0")
         desk.same("the words of one with an entry point", words[order[8]], "a java <-x 'é\" $(id)> 8")
-        seen = (place.calls.folder / "environment").read_text(encoding="utf-8")
-        desk.note("token-j1" not in seen, f"the command sees the token: {seen}")
+        for name in ("environment", "environment-of-bridge"):
+            seen = (place.calls.folder / name).read_text(encoding="utf-8")
+            desk.note("PATH=" in seen and "token-j1" not in seen, f"the command sees the token in the {name}: {seen}")
         listed = (place.calls.folder / "words").read_text(encoding="utf-8")
         desk.note("judge.py" in listed and " token-j1" not in listed, f"the words of the bridge: {listed}")
         desk.same("files that were fetched", place.fetched(), collections.Counter(order))
         place.stop([bridge])
+
+
+def try_slow_team(desk):
+    """Slow programs of one team hold up another team's right one by the one that runs, also between two moments at which
+    the bridge asks by itself."""
+    place = Place(desk, demo.STARTED)
+    slow = [place.submit("LONG", minute=minute) for minute in (5, 6)]
+    for which in slow:
+        place.words[which] = "WA"
+    bridge = place.bridge("--pause", "30", limit="20")
+    place.comes("the first call", lambda: len(place.calls.lines()) == 1)
+    right = place.submit("AC", team=2, minute=7)
+    place.comes("the last verdict", lambda: place.verdicts() == place.wanted())
+    desk.same("the calls", [line[1] for line in place.calls.lines()], [slow[0], right, slow[1]])
+    place.stop([bridge])
 
 
 def try_left(desk):
@@ -333,7 +356,7 @@ def try_patience(desk):
     server.shutdown()
 
 
-PARTS = (try_kills, try_two_that_propose, try_command, try_left, try_older_copy, try_ends, try_patience)
+PARTS = (try_kills, try_two_that_propose, try_command, try_slow_team, try_left, try_older_copy, try_ends, try_patience)
 
 if __name__ == "__main__":
     sys.exit(program.main(__doc__, Program, PARTS, program="desk", submissions=36))

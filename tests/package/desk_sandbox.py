@@ -4,15 +4,15 @@
     desk_sandbox.py [--program PATH]
 
 The programs are those of sandbox/, each named by its verdict: right and wrong ones, ones that don't compile or fail, and
-ones that fork, fill memory and the disk, read other files, open the network or never end. Another user runs them, several
-side by side. Afterwards no process of it is left and no file, the tests are as they were, and nobody was reached. What is
-right only outside of the sandbox is run there too: the harm can be seen. Then come the forms of a problem package, what
-can't be judged, and a contest that examples/judge/judge.py has judged by the same command, which it also ends in the middle
-of a test.
+ones that fork, share their time among children, fill memory and the disk, read other files, open the network or never end.
+Another user runs them, several side by side. Afterwards no process of it is left and no file, the tests are as they were,
+and nobody was reached. What is right only outside of the sandbox is run there too: the harm can be seen. Then come the
+forms of a problem package, what can't be judged, and a contest that examples/judge/judge.py has judged by the same
+command, which it also ends in the middle of a test. Last a command looks for the bridge's token.
 
-Takes bwrap, g++, faketime and setpriv, and runs as root. Where the machine allows no namespaces, what needs them is
-skipped. Ends with the line `N passed, M failed`, with `, K skipped` behind it if something was; the exit status is 0 if M
-is 0.
+Takes bwrap, g++, faketime and setpriv, and runs as root. Where bwrap itself can run nothing, since the machine allows
+no namespaces, what needs them is skipped. Ends with the line `N passed, M failed`, with `, K skipped` behind it if
+something was; the exit status is 0 if M is 0.
 """
 
 import base64
@@ -31,12 +31,14 @@ import time
 from lib import demo, program
 from lib.import_opinion import compact
 from lib.nginx import Client
-from lib.program import ROOT, TESTS, Program, ran
+from lib.program import DATA, ROOT, Program, ran
 from lib.server import Server
 
 # A user who runs nothing else, as the guide has it.
 USER = 64_001
 AS_USER = ["setpriv", f"--reuid={USER}", f"--regid={USER}", "--clear-groups"]
+# Whether the machine allows a sandbox at all: run_tests has no say in that.
+BARE = [*AS_USER, "bwrap", "--unshare-all", "--ro-bind", "/", "/", "true"]
 VERDICTS = ("AC", "WA", "TLE", "RTE", "CE")
 TYPES = [{"id": name, "name": name, "solved": name == "AC", "penalty": name not in ("AC", "CE")} for name in VERDICTS]
 LANGUAGES = [{"id": "cpp", "name": "C++"}, {"id": "python3", "name": "Python 3"}]
@@ -53,7 +55,7 @@ class Sandbox(Program):
     def __init__(self, options, folder):
         super().__init__(options, folder)
         folder.chmod(0o755)
-        self.skipped, self.reached = 0, []
+        self.reached = []
         self.listener = socket.create_server(("127.0.0.1", 0))
         threading.Thread(target=self.accept, daemon=True).start()
         for name in ("run_tests", "judge.py"):
@@ -65,10 +67,8 @@ class Sandbox(Program):
         self.package("a", TESTS_OF_SUM)
         for path in (self.problems, *self.problems.rglob("*"), self.place):
             os.chown(path, USER, USER)
-        status, _, err = self.judge("a", "cpp", TESTS / "sandbox/AC.sum.cpp")
-        self.works = status == 0
-        if not self.works:
-            print(f"no sandbox can be made here, so what needs one is skipped: {err}", flush=True)
+        status, _, err = ran(BARE)
+        self.works, self.why = status == 0, err.decode().strip()
 
     def accept(self):
         while True:
@@ -83,7 +83,7 @@ class Sandbox(Program):
 
     def program(self, name):
         """A program of sandbox/, which knows where harm could be done."""
-        text = (TESTS / "sandbox" / name).read_text(encoding="utf-8")
+        text = (DATA / "sandbox" / name).read_text(encoding="utf-8")
         answer = self.problems / "a/data/secret/01-small.ans"
         known = {"@SECRET@": self.secret, "@ANSWER@": answer, "@PLACE@": self.place, "@PORT@": self.listener.getsockname()[1]}
         for word, value in known.items():
@@ -99,14 +99,9 @@ class Sandbox(Program):
 
     def needs_sandbox(self, count):
         """Whether cases that need one can be tried; else so many are skipped."""
-        self.skipped += 0 if self.works else count
+        if not self.works:
+            self.skip(f"{count} cases, since no sandbox can be made here: {self.why}", count)
         return self.works
-
-    def end(self):
-        if not self.skipped:
-            return super().end()
-        print(f"{self.passed} passed, {self.failed} failed, {self.skipped} skipped")
-        return 1 if self.failed else 0
 
 
 def processes_of(user):
@@ -128,7 +123,7 @@ def left_in_tmp():
 
 def try_programs(desk):
     """Each program has its verdict, and leaves nothing."""
-    names = sorted(file.name for file in (TESTS / "sandbox").iterdir())
+    names = sorted(file.name for file in (DATA / "sandbox").iterdir())
     if not desk.needs_sandbox(len(names)):
         return
     before = {file: file.read_bytes() for file in desk.problems.rglob("*") if file.is_file()}
@@ -170,6 +165,7 @@ def try_harm(desk):
 
 # A file of a problem, and the verdict on a program that sleeps for 3.2 seconds.
 TIMES = [("none", "", "TLE"), (".timelimit", "2\n", "AC"), ("problem.yaml", "limits:\n  time_limit: 2.0\n", "AC")]
+BY_ONE = "float_tolerance 1"
 # Files of a problem beside its tests, its answer, what a program prints, and the verdict.
 PACKAGES = [
     ("letters of either case", {}, "Yes", "YES", "AC"),
@@ -179,12 +175,20 @@ PACKAGES = [
     ("a number that is near", {"problem.yaml": "validator_flags: float_tolerance 1e-6\n"}, "0.3333333333", "0.33333335", "AC"),
     ("a number that isn't", {"problem.yaml": "validator_flags: float_tolerance 1e-6\n"}, "0.3333333333", "0.3334", "WA"),
     ("no number", {"problem.yaml": "validator_flags: float_absolute_tolerance 1\n"}, "0.5", "nan", "WA"),
+    ("no end of a number", {"problem.yaml": f"validator_flags: {BY_ONE}\n"}, "inf", "7", "WA"),
+    ("the same word of it", {"problem.yaml": f"validator_flags: {BY_ONE}\n"}, "inf", "Inf", "AC"),
+    ("an answer that is too large", {"problem.yaml": f"validator_flags: {BY_ONE}\n"}, "1e400", "7", "WA"),
+    ("one that is as large", {"problem.yaml": f"validator_flags: {BY_ONE}\n"}, "1e300", "1e400", "WA"),
+    ("a number as Python alone spells it", {"problem.yaml": f"validator_flags: {BY_ONE}\n"}, "10", "1_0", "WA"),
+    ("a number of other digits", {"problem.yaml": f"validator_flags: {BY_ONE}\n"}, "10", "१०", "WA"),
+    ("numbers as people spell them", {"problem.yaml": f"validator_flags: {BY_ONE}\n"}, "10 10 .5", "+10. 1.0e+01 0.5", "AC"),
     ("numbers without a tolerance", {}, "0.5", "0.50", "WA"),
     ("a word too few", {}, "1 2 3", "1 2", "WA"),
 ]  # fmt: skip
 FAILING = [
     ("a validator of its own", {"output_validators/check.py": ""}, {"secret/1.in": "", "secret/1.ans": ""}, "has a validator of its own"),
     ("a custom validation", {"problem.yaml": "validation: custom\n"}, {"secret/1.in": "", "secret/1.ans": ""}, "has a validator of its own"),
+    ("no tolerance", {"problem.yaml": "validator_flags: float_tolerance inf\n"}, {"secret/1.in": "", "secret/1.ans": ""}, "no tolerance"),
     ("no tests", {}, {"secret/none": ""}, "has no tests"),
     ("no answer", {}, {"secret/1.in": ""}, "no answer to ['1.in']"),
 ]  # fmt: skip
@@ -236,9 +240,9 @@ def try_failing(desk):
         desk.note((status, out) == (1, "") and "the sandbox " in err, f"{what}: {status} {out} {err}")
 
 
-def bridge_to(desk, server, *options):
-    """The bridge, which judges the demo contest by the sandbox."""
-    command = f"{desk.folder}/run_tests --problems {desk.problems} --seconds 1 --memory 256"
+def bridge_to(desk, server, *options, command=None):
+    """The bridge, which judges the demo contest by the sandbox, or by another command."""
+    command = command or f"{desk.folder}/run_tests --problems {desk.problems} --seconds 1 --memory 256"
     words = [desk.folder / "judge.py", f"127.0.0.1:{server.port}", "demo", "--run", command, "--pause", "0.2", *options]
     how = {"stdout": subprocess.PIPE, "stderr": subprocess.STDOUT, "env": {**os.environ, "DESK_TOKEN": "token-j1"}}
     return subprocess.Popen([*AS_USER, *words], **how)
@@ -290,7 +294,38 @@ def try_too_long(desk):
     server.stop()
 
 
-PARTS = (try_programs, try_harm, try_packages, try_failing, try_contest, try_too_long)
+# A command that looks for a token in the process that called it, and says where it found one.
+LOOKS = """#!/usr/bin/python3
+import os, re
+found, parent = [], f"/proc/{os.getppid()}"
+try:
+    found.append(b"token-j1" in open(f"{parent}/environ", "rb").read())
+    areas, memory = re.findall("(?m)^([0-9a-f]+)-([0-9a-f]+) rw", open(f"{parent}/maps").read()), open(f"{parent}/mem", "rb", 0)
+    for first, last in areas:
+        memory.seek(int(first, 16))
+        found.append(b"token-j1" in memory.read(int(last, 16) - int(first, 16)))
+except OSError as error:
+    found.append(type(error).__name__)
+print("AC" if found == ["PermissionError"] else f"found:{','.join(map(str, found))}")
+"""
+
+
+def try_token(desk):
+    """A command, which is of the same user, reads neither the environment nor the memory of the bridge."""
+    server = Server(desk, demo.made(desk, demo.FILES))
+    body = compact({"problem_id": "a", "language_id": "cpp", "files": [{"data": "YWJj"}]})
+    Client(server.port, "token-a1", True).ask("POST", "/contests/demo/submissions", body)
+    command = desk.new_folder() / "looks"
+    command.write_text(LOOKS, encoding="utf-8")
+    command.chmod(0o755)
+    bridge = bridge_to(desk, server, command=str(command))
+    desk.same("what a command finds", bridge.stdout.readline(), b"s1-1 AC\n")
+    bridge.terminate()
+    bridge.communicate(timeout=20)
+    server.stop()
+
+
+PARTS = (try_programs, try_harm, try_packages, try_failing, try_contest, try_too_long, try_token)
 
 if __name__ == "__main__":
     sys.exit(program.main(__doc__, Sandbox, PARTS, program="desk"))
