@@ -10,8 +10,9 @@ are marked so and by the commands of sections 2 to 4, up to a board that nginx a
 place, and this one again, while the desk serves; then the package is purged. No systemd runs there: a script stands in for
 `systemctl`, which starts what the unit says as its user.
 
-Where no root can be made, as without root's rights or without a mirror, the package is only unpacked, and the last line
-counts that as skipped. With --no-root none is tried: it takes some 50 seconds.
+Where no root can be made, since there are no root's rights, no namespaces or no mirror that answers, the package is
+only unpacked, and the last line counts that as skipped; whatever else fails is a failure. With --no-root none is tried:
+it takes some 50 seconds.
 
 Takes dpkg-deb, lintian, systemd-analyze, groff, strace, mmdebstrap, unshare, curl and sqlite3. Ends with the line `N passed, M failed`
 and, if something couldn't be tried, `, K skipped`; the exit status is 0 if M is 0.
@@ -38,18 +39,15 @@ from follow_guide import commands_in
 GUIDE = (ROOT / "docs/GUIDE.md").read_text(encoding="utf-8")
 BY_PACKAGE = re.compile(r"(?ms)^<!-- by the package -->\n```sh\n(.*?)^```$")
 CONSOLE = re.compile(r"(?ms)^```console\n(.*?)^```$")
-CONFIGURED = [
-    "/etc/nginx/desk/account.conf",
-    "/etc/nginx/desk/ask.conf",
-    "/etc/nginx/desk/files.conf",
-    "/etc/nginx/desk/pages.conf",
-    "/etc/nginx/sites-available/desk",
-]
+IN_NGINX = [f"{name}.conf" for name in ("account", "ask", "files", "long", "pages", "public", "refusals", "replies")]
+IN_NGINX.insert(1, "account.js")
+CONFIGURED = [*(f"/etc/nginx/desk/{name}" for name in IN_NGINX), "/etc/nginx/sites-available/desk"]
 UNIT, COPY_UNIT = (f"usr/lib/systemd/system/{name}@.service" for name in ("desk", "desk-copy"))
 # The name of the machine in the fresh root.
 NAME = "desk.example"
 # What stands in a fresh root beside what every machine has: what the package names, and what the guide calls.
-BESIDE = "nginx,curl,jq,openssl,sqlite3,systemd,python3"
+BESIDE = "nginx,libnginx-mod-http-js,curl,jq,openssl,sqlite3,systemd,python3"
+DEBIAN = ["--quiet", "--variant=minbase", "bookworm"]
 # What isn't the package's, and changes by itself.
 PASSING = ("proc", "sys", "dev", "run", "tmp", "var/log", "var/cache", "var/lib/dpkg", "var/lib/apt", "var/lib/systemd")
 SYSTEMCTL = """#!/bin/sh
@@ -140,6 +138,11 @@ class Package(Program):
         self.note(self.read(path) == (ROOT / source).read_bytes(), f"{path} isn't {source}")
 
 
+def files_below(folder):
+    """The files of a folder and of the folders in it, by their paths there."""
+    return sorted(str(it.relative_to(folder)) for it in folder.rglob("*") if it.is_file())
+
+
 def try_files(package):
     """Who owns what, with which modes; what is a copy of what."""
     package.same("its name", package.file.name, f"desk_{package.version}_amd64.deb")
@@ -150,14 +153,14 @@ def try_files(package):
         if kind[0] == "-" and (path.startswith("./usr/bin/") or example.is_file() and os.access(example, os.X_OK)):
             kind = "-rwxr-xr-x"
         package.same(path, (mode, owner), (kind, "root/root"))
-    pages = sorted(it.name for it in (ROOT / "web").iterdir())
-    package.same("pages", sorted(it.name for it in (package.inside / "usr/share/desk/web").iterdir()), pages)
+    pages = files_below(ROOT / "web")
+    package.same("pages", files_below(package.inside / "usr/share/desk/web"), pages)
     for name in pages:
         package.is_from(f"usr/share/desk/web/{name}", f"web/{name}")
     for name in ("README.md", "docs/GUIDE.md", "docs/FORMATS.md", "docs/SHEET.md"):
         package.is_from(f"usr/share/doc/desk/{name}", name)
-    for name in ("ask", "account", "pages", "files"):
-        package.is_from(f"etc/nginx/desk/{name}.conf", f"examples/nginx/{name}.conf")
+    for name in IN_NGINX:
+        package.is_from(f"etc/nginx/desk/{name}", f"examples/nginx/{name}")
     for name in ("front", "through"):
         package.is_from(f"usr/share/desk/examples/nginx/{name}.conf", f"examples/nginx/{name}.conf")
     package.is_from("usr/bin/contest-package", "examples/package/contest-package")
@@ -192,6 +195,10 @@ def try_papers(package):
     log = said("gzip", "-dc", package.inside / "usr/share/doc/desk/changelog.gz")[1]
     package.same("changelog", log, (ROOT / "CHANGELOG").read_text(encoding="utf-8"))
     package.note(log.startswith(f"desk ({package.version}) "), f"CHANGELOG doesn't begin with {package.version}")
+    described = said("dpkg-deb", "-f", package.file, "Description")[1]
+    for what, text in (("the description", described), ("README.md", (ROOT / "README.md").read_text(encoding="utf-8"))):
+        is_told = "It runs no submitted program: judges give the verdicts" in " ".join(text.split())
+        package.note(is_told, f"{what} doesn't say that no submitted program is run")
 
 
 def try_same_bytes(package):
@@ -292,16 +299,21 @@ def try_unit(package):
 
 def fresh_root(package):
     """A root of Debian with what the package stands on, in which systemctl is a script; None if none can be made here."""
-    root = package.folder / "root"
-    words = ["mmdebstrap", "--quiet", "--variant=minbase", "--skip=cleanup/apt/lists", f"--include={BESIDE}", "bookworm", root]
+    root, why = package.folder / "root", ""
     if os.geteuid() or package.options.no_root:
-        package.skip("no fresh root: it takes root's rights, and no --no-root")
-        return None
-    for tool, call in ("unshare", ["unshare", "--mount", "--net", "--pid", "--fork", "true"]), ("mmdebstrap", words):
-        status, text = said(*call)
-        if status:
-            package.skip(f"no fresh root: {tool} says {text[-300:]}")
+        why = "it takes root's rights, and no --no-root"
+    elif said("unshare", "--mount", "--net", "--pid", "--fork", "true")[0]:
+        why = "no namespaces can be made"
+    else:
+        status, text = said("mmdebstrap", "--skip=cleanup/apt/lists", f"--include={BESIDE}", *DEBIAN, root)
+        if status and said("mmdebstrap", "--simulate", *DEBIAN, "/dev/null")[0]:
+            why = f"no mirror answers: {' '.join(text.split())[-300:]}"
+        elif status:
+            package.note(False, f"no fresh root: mmdebstrap says {text[-1500:]}")
             return None
+    if why:
+        package.skip(f"a fresh root of Debian, since {why}")
+        return None
     tool = root / "usr/local/sbin/systemctl"
     tool.write_text(SYSTEMCTL, encoding="utf-8")
     tool.chmod(0o755)
@@ -431,6 +443,9 @@ def try_fresh_root(package):
     done(package, inside, "purged", "apt-get purge desk && nginx -t")
     left = {path for path in listed(root) - before if not path.startswith("var/lib/desk")}
     package.same("what a purge leaves beside the contests", left, set())
+    kept_lines = (root / "etc/nginx/nginx.conf").read_text(encoding="utf-8").count("worker_connections 8192;")
+    package.same("lines of nginx that a purge leaves as the guide has them", kept_lines, 1)
+    package.same("what a purge doesn't bring back", before - listed(root), {"etc/nginx/sites-enabled/default"})
     package.note(contest.read_bytes() == kept, "a purge changes the contest")
     text = done(package, inside, "the user", "id -un desk; stat -c '%a %U' /var/lib/desk")
     package.same("the contests' user", text.split(), ["desk", "700", "desk"])
