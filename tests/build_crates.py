@@ -231,6 +231,9 @@ def try_failure(builds):
     status, told = made.build(processors=None)
     said = made.said()
     log = made.top / "crates/files/out/build.log"
+    # On a busy machine words is stopped too, or hasn't begun.
+    stopped = sorted(set(begun_in(said)) - {crate for word, crate, _ in said if word == "end"})
+    builds.note({"files", "score"} <= set(stopped) <= {"files", "score", "words"}, f"what was stopped: {stopped}")
     builds.same("a crate that fails: status", status, 1)
     builds.note(f"files isn't proved and built (status 1); what rt said is in {log}" in told, told)
     builds.same("its log", log.read_text(encoding="utf-8"), "so far: 3 of 7 functions checked\n")
@@ -241,7 +244,7 @@ def try_failure(builds):
     made.takes("score", 0.1)
     builds.same("mended", made.build()[0], 0)
     said = made.said()
-    builds.same("what goes on", sorted(crate for word, crate, _ in said if word == "goes on"), ["files", "score"])
+    builds.same("what goes on", sorted(crate for word, crate, _ in said if word == "goes on"), stopped)
     builds.same("what isn't proved again", {"base", "streams"} & set(begun_in(said)), set())
     made.fails("quick_replay")
     made.write("quick_replay", "// Other code.\n")

@@ -5,8 +5,8 @@ says what they try, beside each other.
     gate_scripts.py
 
 Each is in all three, its head names each option that it is run with, and the words of .ci/run are those of the table. Also,
-the kit and the logic that `desk --version` and README.md name are those that `rt version` does. Ends with the line 'N passed,
-N failed'.
+the kit and the logic that `desk --version` and README.md name are those that `rt version` does, and nothing of the
+repository is a symbolic link: `rt ci` refuses those wherever they stand. Ends with the line 'N passed, N failed'.
 """
 
 import re
@@ -35,7 +35,9 @@ def told():
 
 
 def try_names(tally):
-    there = {f"tests/{path.name}" for path in TESTS.iterdir() if path.is_file() and path.stat().st_mode & 0o111} | BESIDE
+    files = [path for path in [*TESTS.iterdir(), *TESTS.glob("*/*.py"), *TESTS.glob("*/*.sh")] if path.is_file()]
+    files = [path for path in files if path.stat().st_mode & 0o111 and path.parent.name != "lib"]
+    there = {str(path.relative_to(ROOT)) for path in files} | BESIDE
     run = {command.split()[0] for _, command in rows()}
     tally.same("scripts that the table doesn't run, or that aren't there", there ^ (run | GATE), set())
     tally.same("scripts of which the page doesn't tell, or that aren't there", there ^ told(), set())
@@ -60,7 +62,12 @@ def try_kit(tally):
         tally.note(kit in (ROOT / name).read_text(encoding="utf-8"), f"{name}: names another kit than {kit}")
 
 
+def try_links(tally):
+    kept = subprocess.run(["git", "ls-files"], cwd=ROOT, stdout=subprocess.PIPE, text=True, check=True).stdout.splitlines()
+    tally.same("symbolic links", [name for name in kept if (ROOT / name).is_symlink()], [])
+
+
 if __name__ == "__main__":
     counts = Tally()
-    counts.run_parts((try_names, try_options, try_words, try_kit))
+    counts.run_parts((try_names, try_options, try_words, try_kit, try_links))
     sys.exit(counts.end())

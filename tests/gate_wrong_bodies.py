@@ -65,12 +65,13 @@ pub fn smaller(a: u8, b: u8) -> u8
 }
 """
 
+# It holds where the branch is taken for `a < b`.
 ANSWERS = """\
-use Rattle.std.proofs.Common.{rules}
+use Rattle.std.proofs.Math.Nat.{le_of_lt}
 use Rattle.toy.proofs.smaller.Goals as goal
 
 pub returns-then-a-b-clause-second : goal.returns-then-a-b-clause-second
-returns-then-a-b-clause-second c = search rules
+returns-then-a-b-clause-second c = le_of_lt c.if-a-b.true
 """
 
 # Each edit with its old and its new text, and how what is said of it begins.
@@ -80,7 +81,7 @@ EDITS = {
     "larger_is_smaller": ("if a >= b { a }", "if a >= b { b }", "refused: toy::larger, `returns-then-a-b-clause-first`"),
     "not_to_be_read": ("{ number + 1 }", "{ numbre + 1 }", "NOT READABLE: it came to no verdict: src/lib.rt"),
     "of_two_lines": ("a < b\n    {", "b < a", "NOT READABLE: a line of it is no 'goal:'"),
-    "goal_is_gone": ("a < b", "b > a", "NOT REFUSED: it is proved with it, without the answers that name a goal that is gone"),
+    "goal_is_gone": ("a < b", "b > a", "NOT REFUSED: it is proved with it, without its hand-written answers"),
     "wrong_and_gone": ("if a < b { a }", "if b > a { b }", "refused: toy::smaller, `returns-then-b-a-clause-first`"),
 }
 
@@ -168,6 +169,20 @@ def try_verdicts(judge):
     judge.see("two bodies of one function are in two rounds", "round 2: 2 edits" in said, said)
     judge.see("the status and the last line", status == 1 and said.endswith("\n3 passed, 4 failed, 0 skipped\n"), said)
     judge.see("no digest is kept", not (judge.root / "tests/wrong_bodies.digests").exists(), said)
+
+
+def try_answers(judge):
+    """A body that only a hand-written answer refuses is found not refused, in a round and alone; a wrong one stays refused."""
+    told_otherwise = ("a < b", "a <= b", "NOT REFUSED: it is proved with it, without its hand-written answers")
+    wrong = ("if a < b { a }", "if a < b { b }", "refused: toy::smaller, ")
+    for beside in ({"wrong": wrong}, {"not_to_be_read": EDITS["not_to_be_read"]}):
+        edits = {"told_otherwise": told_otherwise, **beside}
+        put(judge.root, edits)
+        _, said = wrong_bodies(judge.root)
+        told = dict(re.findall(r"(?m)^  toy/(\w+): (.*)$", said))
+        for name, (_, _, wanted) in edits.items():
+            judge.see(f"{name} of {sorted(edits)}", told.get(name, "").startswith(wanted), said)
+    judge.see("a round that can't be read isn't believed", "round 1 isn't believed" in said, said)
 
 
 def try_digests(judge):
@@ -326,7 +341,7 @@ def report_of(functions):
     return "".join(f"fn {name}: {status}\n" for name, status in functions.items()) + "logic=not-proved\n"
 
 
-PARTS = (try_verdicts, try_digests, try_tenth, try_goals, try_gone, try_lost, try_disbelief, try_waiting)
+PARTS = (try_verdicts, try_answers, try_digests, try_tenth, try_goals, try_gone, try_lost, try_disbelief, try_waiting)
 
 if __name__ == "__main__":
     sys.exit(program.main(__doc__, Judge, PARTS))

@@ -5,9 +5,10 @@ and an edit changes no contract. Should the check refuse a function for itself t
 is not so, and each edit of the round is tried alone. For the same reason only what is edited is checked, and what
 that calls; that the crate is proved as it stands is the gate's to say.
 
-A hand-written answer that names a goal which is gone refuses nothing: it only fits no more. Such an edit is tried once
-more without the answers of its function. Then the search alone has to do: the edit isn't refused if that proves it, is
-refused if a goal is shown to be false, and says nothing else.
+A hand-written answer refuses nothing by itself: it is a proof of another body. So an edit of a function that has such
+answers is tried once more without them, and isn't refused if the search proves it then. If it was refused only because an
+answer names a goal that is gone, the search alone has to do: it is refused if a goal is shown to be false, and else the
+edit says nothing.
 """
 
 import dataclasses
@@ -49,7 +50,7 @@ class Verdict:
 
 
 PROVED = Verdict(Kind.PASSED, "it is proved with it")
-PROVED_ANEW = Verdict(Kind.PASSED, "it is proved with it, without the answers that name a goal that is gone")
+PROVED_BARE = Verdict(Kind.PASSED, "it is proved with it, without its hand-written answers")
 
 
 @dataclasses.dataclass(frozen=True)
@@ -184,13 +185,16 @@ def judged(crate, texts, places, jobs, kept):
 def try_alone(crate, edit, places, jobs, kept):
     texts = applied(crate, edit, {})
     verdict, report = judged(crate, texts, places, jobs, kept)
-    if verdict.kind is not Kind.GONE:
+    emptied = without_answers(crate, report, places)
+    if verdict.kind not in (Kind.REFUSED, Kind.GONE) or not emptied:
         return verdict
-    anew, said = judged(crate, {**texts, **without_answers(crate, report, places)}, places, jobs, kept)
-    if anew.kind is Kind.PASSED:
-        return PROVED_ANEW
+    bare, said = judged(crate, {**texts, **emptied}, places, jobs, kept)
+    if bare.kind is Kind.PASSED:
+        return PROVED_BARE
+    if verdict.kind is Kind.REFUSED:
+        return verdict if bare.kind in (Kind.REFUSED, Kind.GONE) else bare
     refuted = tuple(goal for place in sorted(places) for goal in said.false_in(place))
-    return dataclasses.replace(anew, goals=refuted) if anew.kind is Kind.REFUSED and refuted else verdict
+    return dataclasses.replace(bare, goals=refuted) if bare.kind is Kind.REFUSED and refuted else verdict
 
 
 def not_believed(crate, report, said, texts, places):
@@ -203,6 +207,26 @@ def not_believed(crate, report, said, texts, places):
     return f"{', '.join(sorted(beside))} is refused for itself, but not edited" if beside else None
 
 
+def try_bare(crate, edits, report, places, jobs, kept):
+    """Those of a round's refused edits that aren't refused without the hand-written answers of their functions, by their
+    labels. They are tried in one check, and each alone if that isn't believed."""
+    emptied = {edit: without_answers(crate, report, places[edit]) for edit in edits}
+    edits = [edit for edit in edits if emptied[edit]]
+    if not edits:
+        return {}
+    texts = {}
+    for edit in edits:
+        texts.update(applied(crate, edit, texts))
+        texts.update(emptied[edit])
+    status, said = checked(crate, texts, set().union(*(places[edit] for edit in edits)), jobs, kept)
+    bare = Report.of(status, said)
+    if status != 0 and not_believed(crate, bare, said, texts, {it for edit in edits for it in places[edit]}):
+        verdicts = {edit: try_alone(crate, edit, places[edit], jobs, kept) for edit in edits}
+        return {edit.label: it for edit, it in verdicts.items() if it.kind is not Kind.REFUSED}
+    proved = [edit for edit in edits if status == 0 or verdict_of(crate, bare, places[edit]).kind is Kind.PASSED]
+    return {edit.label: PROVED_BARE for edit in proved}
+
+
 def try_round(crate, made: Round, places, jobs, kept):
     """The verdict on each edit of the round, by its label, and why the round as a whole was not believed, if so."""
     status, said = checked(crate, made.texts, made.places, jobs, kept)
@@ -210,10 +234,12 @@ def try_round(crate, made: Round, places, jobs, kept):
         return {edit.label: PROVED for edit in made.edits}, None
     report = Report.of(status, said)
     why = not_believed(crate, report, said, made.texts, made.places)
-    verdicts = {}
+    verdicts, refused_here = {}, []
     for edit in made.edits:
         verdict = None if why else compared(edit, verdict_of(crate, report, places[edit]))
-        if verdict is None or verdict.kind is not Kind.REFUSED:
+        if verdict and verdict.kind is Kind.REFUSED:
+            refused_here.append(edit)
+        else:
             verdict = compared(edit, try_alone(crate, edit, places[edit], jobs, kept))
         verdicts[edit.label] = verdict
-    return verdicts, why
+    return {**verdicts, **try_bare(crate, refused_here, report, places, jobs, kept)}, why
