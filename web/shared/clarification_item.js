@@ -1,33 +1,8 @@
-// What a team and the jury are both shown: submissions, verdicts and clarifications, in words.
+// A clarification, as a team and the jury are shown it.
 
 import { element, freeText } from "./elements.js";
 import { labelIn, nameIn } from "./settings.js";
-import { cell } from "./tables.js";
-
-// A time without its milliseconds.
-const shortTime = (time) => time.replace(/\.\d+$/, "");
-
-export function verdictWords(settings, typeId) {
-  const type = settings.types.get(typeId);
-  return type ? `${type.id}: ${type.name}` : typeId;
-}
-
-// A verdict; none is a submission that waits.
-export function verdictCell(settings, typeId) {
-  if (typeId === undefined || typeId === null) return cell({ class: "pending" }, freeText("waits"));
-  const kind = settings.types.get(typeId)?.solved ? "solved" : "tried";
-  return cell({ class: kind }, freeText(verdictWords(settings, typeId)));
-}
-
-// A submission's cells, with its team if the table has that.
-export function submissionCells(settings, submission, hasTeam) {
-  const team = cell({ class: "name" }, freeText(nameIn(settings.teams, submission.team_id)));
-  return [
-    cell({}, submission.id), cell({}, shortTime(submission.contest_time)), ...(hasTeam ? [team] : []),
-    cell({}, freeText(labelIn(settings.problems, submission.problem_id))),
-    cell({}, freeText(nameIn(settings.languages, submission.language_id))),
-  ];
-}
+import { shortTime } from "./times.js";
 
 // To whom the jury writes.
 function heardText(settings, { to_team_id: team, to_group_id: group }) {

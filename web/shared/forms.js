@@ -1,7 +1,7 @@
 // Forms: what may be chosen, how long a text may be, and that each is sent once at a time.
 
 import { at, element, fill } from "./elements.js";
-import { tell } from "./telling.js";
+import { tell } from "./messages.js";
 
 // A row as a choice. What is chosen is its id.
 export const choice = (row, text) => element("option", { value: row.id }, text(row));
@@ -19,12 +19,18 @@ export function isWithin(text, most) {
   return bytes <= most;
 }
 
+const BUSY = "The last one is still on its way: this one isn't sent yet. Press again once it is answered.";
+
 // Does what a form asks for, once at a time, whenever somebody sends it off. What was told before is told no more.
-export function onSubmit(form, action) {
+// Whoever sends it off meanwhile is told that, in whatever way the form says.
+export function onSubmit(form, action, tellBusy = (text) => tell(text, true)) {
   let isBusy = false;
   at(form).addEventListener("submit", async (event) => {
     event.preventDefault();
-    if (isBusy) return;
+    if (isBusy) {
+      tellBusy(BUSY);
+      return;
+    }
     isBusy = true;
     tell("");
     try {

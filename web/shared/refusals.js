@@ -7,7 +7,8 @@ const WORDS = {
   AddressForbids: "This isn't taken from the network that you are in. Go to the jury's room.",
   AlreadyReleased: "This submission has its verdict already. A rejudging changes it.",
   Away: "The desk doesn't answer at the moment. This page goes on asking.",
-  BodyTooLarge: "The file is too large: at most 1,048,576 bytes. Send a smaller one.",
+  BodyTooLarge: "This is too large: a file may have 1,048,576 bytes, and all that is sent at once 2,097,152. Send " +
+    "less.",
   ClockRefused: "The desk doesn't set the clock so, at this moment. Look at what has come already, at what " +
     "waits for a verdict, and at open rejudgings.",
   Encoding: `The desk can't read what was sent. Load the page anew. ${TELL}`,
@@ -24,6 +25,12 @@ const WORDS = {
   NothingToVerify: "Nothing was proposed for this submission. Propose a verdict.",
   NotFound: "There is no such thing, or it isn't shown to you. Load the page anew.",
   NotOpen: "The contest doesn't take this at this moment. The clock says when it begins and ends.",
+  NotTheDesk: "Another server answers in the desk's place, or a portal of the network. This page goes on asking. " +
+    TELL,
+  OtherContest: "Another contest is served here now, or this one was made anew. This wasn't sent to it. Load the " +
+    "page anew.",
+  OtherRecord: "Under this id there is something else now than what you were shown. Nothing was sent. Look at it " +
+    "again.",
   RejudgingClosed: "This rejudging is applied or cancelled. Open another one.",
   RejudgingIncomplete: "A verdict is missing, or waits for a second judge. Give that first.",
   RoleForbids: "Your account may not do this. Sign in by the account that may.",
@@ -36,20 +43,24 @@ const WORDS = {
   UnknownToken: "No account has this token. Type the one on your slip, or ask the director whether it was replaced.",
 };
 
+// What a page says by itself is in no reply.
+const OF_PAGES = ["NoReply", "NoTeam", "NotTheDesk", "OtherContest", "OtherRecord"];
+// By these nobody has said that what was asked isn't done: the same has to be asked again.
+const WAITS = ["Away", "Memory", "NoReply", "NotTheDesk", "StoreFault", "TooManyRequests"];
+// By these nothing that was posted is refused: its account may come by another token, from another place, or find its
+// contest again.
+const STANDS = [...WAITS, "AddressForbids", "OtherContest", "UnknownToken"];
 const TOO_MANY = 429;
 
-// A reply that isn't the desk's has no name that is known: nginx says so while the desk is away, or is asked too much.
-function nameOf(status, name) {
-  if (Object.hasOwn(WORDS, name)) return name;
+// The name of a reply that refuses. The desk's own is JSON which says the status once more; so says nginx in its place.
+// All else is of another server, but for what any nginx says while it gets no answer, or too many requests.
+export function nameOf(status, reply) {
+  const name = reply?.code === status ? reply.message : null;
+  if (Object.hasOwn(WORDS, name) && !OF_PAGES.includes(name)) return name;
   if (status === TOO_MANY) return "TooManyRequests";
-  return status >= 500 ? "Away" : null;
+  return status >= 500 ? "Away" : "NotTheDesk";
 }
 
-export function wordsOf(status, name) {
-  const known = nameOf(status, name);
-  if (known === null) return `The desk answered ${status} ${name}`.trim() + `. Load the page anew. ${TELL}`;
-  return `${WORDS[known]} (${status} ${known})`;
-}
-
-// Whether the desk hasn't said that what was asked isn't done, so that it has to be asked again.
-export const isAway = (status) => status >= 500 || status === TOO_MANY;
+export const wordsOf = (status, name) => `${WORDS[name]} (${status} ${name})`;
+export const isAway = (name) => WAITS.includes(name);
+export const isFinal = (name) => !STANDS.includes(name);

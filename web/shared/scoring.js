@@ -2,18 +2,9 @@
 // the rows. The rules are the desk's (docs/FORMATS.md, section 2). A page asks it only for what lies between two boards
 // that the desk serves; tests hold it beside the desk's.
 
-const RELTIME = /^(-?)(\d+):(\d\d):(\d\d)(?:\.(\d\d\d))?$/;
-const USUAL_PENALTY = 20;
-const MINUTE = 60_000;
+import { millisecondsOf, MINUTE } from "./times.js";
 
-// The milliseconds of a relative time, such as `3:02:45.000`.
-export function millisecondsOf(text) {
-  const found = RELTIME.exec(text);
-  if (found === null) throw new Error(`"${text}" is no time of a contest`);
-  const [, sign, hours, minutes, seconds, more = "0"] = found;
-  const time = ((Number(hours) * 60 + Number(minutes)) * 60 + Number(seconds)) * 1000 + Number(more);
-  return sign === "-" ? -time : time;
-}
+const USUAL_PENALTY = 20;
 
 // Texts in the order of their UTF-8 bytes, which is that of their characters.
 export function byBytes(one, other) {
@@ -105,15 +96,6 @@ export function cellOf({ attempts, penalty }, team, problem, isHeld) {
 // The attempts of a team that are seen to solve a problem, the one that counts first.
 export const solvingOf = ({ attempts }, team, problem, isHeld) =>
   attempts(team, problem).filter((one) => one.type !== null && !isHeld(one) && one.type.solved);
-
-// Which teams solved a problem first, to the millisecond; and whether that is certain: no earlier attempt waits.
-export function firstOf(scored, problem, isHeld) {
-  const solves = scored.teams.flatMap(({ id }) => solvingOf(scored, id, problem, isHeld).slice(0, 1));
-  const least = Math.min(...solves.map(({ time }) => time));
-  const isOpen = (one) => one.time < least && (one.type === null || isHeld(one));
-  const isCertain = !scored.teams.some(({ id }) => scored.attempts(id, problem).some(isOpen));
-  return { teams: solves.filter(({ time }) => time === least).map(({ team }) => team), isCertain };
-}
 
 // Problems solved, total and last minute of a row's cells.
 function scoreOf(cells) {
