@@ -1,11 +1,11 @@
 // What an administrator sets: the start, how long the contest lasts, the thaw and final results.
 
-import { clockText, secondsOf } from "./board.js";
-import { ask } from "./desk.js";
-import { at, element, fill } from "./elements.js";
-import { onSubmit } from "./forms.js";
-import { post } from "./posts.js";
-import { doing, isSure } from "./telling.js";
+import { isSure } from "../shared/confirmation.js";
+import { ask } from "../shared/desk.js";
+import { at, element, fill } from "../shared/elements.js";
+import { onSubmit } from "../shared/forms.js";
+import { doing } from "../shared/messages.js";
+import { clockText, secondsOf } from "../shared/times.js";
 
 export const CLOCK = {
   name: "clock", buttons: "#times button",
@@ -42,8 +42,15 @@ export function showMoments(contest, state) {
 }
 
 async function set(jury, member, field) {
-  await post(CLOCK, jury.path, { [member]: new Date(at(field).value).toISOString() }, "PATCH");
+  const value = { [member]: new Date(at(field).value).toISOString() };
+  await jury.outbox.post(CLOCK, jury.path, value, { method: "PATCH" });
   jury.renew();
+}
+
+async function start(jury) {
+  const question = `Let the contest begin at ${timeText(at("start-time").value)}? Once it has begun, that can't be ` +
+    "taken back.";
+  if (await isSure("Set the start", question)) await set(jury, "start_time", "start-time");
 }
 
 // Hours and minutes get their seconds: all else goes to the desk as it stands.
@@ -57,7 +64,7 @@ async function extend(jury) {
   const stays = frozen === null ? "" : ` The freeze stays at ${timeText(frozen)}.`;
   const question = `Extend the contest? It ${endText(contest, duration)} then.${stays} ${SHORTER}`;
   if (!(await isSure("Extend it", question))) return;
-  if ((await post(EXTENSION, "jury/extension", { duration })) !== null) at("extension").reset();
+  if ((await jury.outbox.post(EXTENSION, "jury/extension", { duration })) !== null) at("extension").reset();
   jury.renew();
 }
 
@@ -69,13 +76,13 @@ async function thaw(jury) {
 
 async function finalize(jury) {
   if (!(await isSure("Make them final", FINAL))) return;
-  await post(CLOCK, "jury/finalize");
+  await jury.outbox.post(CLOCK, "jury/finalize");
   jury.renew();
 }
 
 export function beginClock(jury) {
   at("zone").textContent = Intl.DateTimeFormat().resolvedOptions().timeZone;
-  onSubmit("start", () => set(jury, "start_time", "start-time"));
+  onSubmit("start", () => start(jury));
   onSubmit("extension", () => extend(jury));
   onSubmit("thaw", () => thaw(jury));
   onSubmit("finalize", () => finalize(jury));

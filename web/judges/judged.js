@@ -1,23 +1,16 @@
 // The submissions that are judged, each of which can be put into a rejudging. They may be ten thousand, so the list is
 // made only while somebody looks at it.
 
-import { at, button, byId, fill } from "./elements.js";
-import { submissionCells, verdictCell } from "./rows.js";
-import { cell, listParts, row } from "./tables.js";
+import { at, button, byId, fill } from "../shared/elements.js";
+import { submissionCells, verdictCell } from "../shared/submission_cells.js";
+import { cell, listParts, row } from "../shared/tables.js";
 
 const HEADS = ["Id", "Time", "Team", "Problem", "Language", "Verdict", ""];
 
-// The long lists, as they came last.
-let lists = null;
-
-export function takeJudged(submissions, judgements) {
-  lists = { submissions, judgements };
-}
-
-// The last verdict first.
+// Shows the long lists as they came last, the last verdict first.
 export function showJudged(jury) {
-  if (lists === null || at("judged").hidden) return;
-  const { submissions, judgements } = lists;
+  if (jury.lists === null || at("judged").hidden) return;
+  const { submissions, judgements } = jury.lists;
   const known = byId(submissions);
   const visible = judgements.filter((judgement) => known.has(judgement.submission_id)).reverse();
   const rows = visible.map(({ submission_id: id, judgement_type_id: type }) => {
