@@ -1,8 +1,8 @@
 // The colours of balloons: each problem has one of a palette, by its place among the problems, until somebody takes
 // another one in this browser.
 
-import { element } from "./elements.js";
-import { keepHere, recallHere } from "./browser.js";
+import { element } from "../shared/elements.js";
+import { keepHere, recallHere } from "./browser_storage.js";
 
 const PALETTE = [
   ["red", "#d32f2f"], ["blue", "#1e63d0"], ["yellow", "#f6d32d"], ["green", "#2e8b3d"], ["orange", "#f08a24"],

@@ -1,12 +1,13 @@
 // A balloon as a row of the list, and as a sheet of paper.
 
+import { button, element, freeText } from "../shared/elements.js";
+import { nameIn } from "../shared/settings.js";
+import { cell, row } from "../shared/tables.js";
+import { clockText } from "../shared/times.js";
 import { patch } from "./balloon_colours.js";
-import { clockText } from "./board.js";
-import { button, element, freeText } from "./elements.js";
-import { nameIn } from "./settings.js";
-import { cell, row } from "./tables.js";
 
-export const TAKEN = "taken", DELIVERED = "delivered";
+const TAKEN = "taken";
+export const DELIVERED = "delivered";
 
 const labelOf = (problems, id) => problems.find((problem) => problem.id === id)?.label ?? id;
 

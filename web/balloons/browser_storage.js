@@ -1,19 +1,21 @@
-// What this browser keeps also after a tab is closed, for all its tabs. Each contest has a folder of its own. No token
-// is kept here.
+// What this browser keeps also after a tab is closed, for all its tabs. Each contest has a folder of its own. Nothing
+// is kept here that not everybody may know, and no token.
 
-import { FOLDER } from "./tab.js";
+import { FOLDER } from "../shared/tab_storage.js";
 
 const START = `${FOLDER} `;
 
 export const recallHere = (name) => localStorage.getItem(START + name);
 export const forgetHere = (name) => localStorage.removeItem(START + name);
 
-// Keeps a text if there is room for it.
+// Whether a text is kept: a browser has room for some millions of letters.
 export function keepHere(name, text) {
   try {
     localStorage.setItem(START + name, text);
+    return true;
   } catch (fault) {
     if (fault.name !== "QuotaExceededError") throw fault;
+    return false;
   }
 }
 

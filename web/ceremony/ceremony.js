@@ -1,18 +1,20 @@
 // The ceremony's page. It reads the whole contest once, as the event feed of the desk or of a file, and asks for
 // nothing afterwards: a desk that is away in the middle of it stops nothing.
 
-import { showState } from "./board.js";
-import { ask, askBytes, persistently, Refusal } from "./desk.js";
-import { at, element, fill } from "./elements.js";
+import { beginBanner } from "../shared/banner.js";
+import { contestHere } from "../shared/contest.js";
+import { ask, askBytes, persistently, Refusal } from "../shared/desk.js";
+import { at, element, fill } from "../shared/elements.js";
+import { onSubmit } from "../shared/forms.js";
+import { makeHead } from "../shared/head.js";
+import { followHeadHeight } from "../shared/head_height.js";
+import { tell } from "../shared/messages.js";
+import { scoredOf } from "../shared/scoring.js";
+import { signIn } from "../shared/sign_in.js";
+import { keep, recall } from "../shared/tab_storage.js";
 import { FeedFault, listsOf } from "./feed.js";
-import { onSubmit } from "./forms.js";
-import { contestPath } from "./renewing.js";
 import { BEGINNING, ceremonyOf, heldCount, nextOf, pendingCount } from "./resolving.js";
-import { scoredOf } from "./scoring.js";
-import { signIn } from "./sign_in.js";
 import { showStep } from "./stage.js";
-import { keep, recall } from "./tab.js";
-import { tell } from "./telling.js";
 
 const KEPT = "ceremony";
 const NEXT = [" ", "Enter", "ArrowRight", "PageDown"], BACK = ["Backspace", "ArrowLeft", "PageUp"];
@@ -22,22 +24,26 @@ const NO_AWARDS = "It has no awards: the jury is shown them once the results are
 // What is known of a contest whose feed doesn't say where it is.
 const ENDED = { started: "", ended: "", frozen: null, thawed: null, end_of_updates: null };
 
-let contest = null;
-let ceremony = null;
-// All steps up to the one that is shown.
-let steps = [];
+makeHead("clock", "sign-out", "banner", "away", "told");
+followHeadHeight();
+const showState = beginBanner();
+// The state of the page: the path of the contest at the desk, once it was asked; the contest and its ceremony, once a
+// feed was read; and all steps up to the one that is shown.
+const page = { path: null, contest: null, ceremony: null, steps: [] };
 
 function keepPlace() {
-  keep(KEPT, JSON.stringify({ id: contest.id, count: steps.length - 1 }));
+  const { contest, steps } = page;
+  keep(KEPT, JSON.stringify({ id: contest.id, start: contest.start_time, count: steps.length - 1 }));
 }
 
 // How many steps this tab had shown of the same contest.
 function keptCount() {
+  const { contest } = page;
   const kept = JSON.parse(recall(KEPT) ?? "null");
-  return kept?.id === contest.id ? kept.count : 0;
+  return kept?.id === contest.id && kept.start === contest.start_time ? kept.count : 0;
 }
 
-function readyLines() {
+function readyLines(ceremony) {
   const { teams, problems } = ceremony.scored, held = heldCount(ceremony), pending = pendingCount(ceremony);
   const size = `Teams: ${teams.length}. Problems: ${problems.length}.`;
   const lines = [[`${size} Results that the freeze holds back: ${held}.`, ""]];
@@ -49,12 +55,13 @@ function readyLines() {
 // Shows what a feed has, and whether to begin.
 function makeReady(text) {
   const lists = listsOf(text);
-  contest = { ...lists.contest, name: lists.contest.formal_name ?? lists.contest.name };
+  const contest = { ...lists.contest, name: lists.contest.formal_name ?? lists.contest.name };
   const state = lists.state ?? ENDED;
   showState(contest, { state, contest_time: contest.duration });
   if ((state.ended ?? null) === null) throw new FeedFault(NOT_ENDED);
-  ceremony = ceremonyOf(scoredOf(lists), lists.awards);
-  fill(at("facts"), readyLines());
+  const ceremony = ceremonyOf(scoredOf(lists), lists.awards);
+  Object.assign(page, { contest, ceremony });
+  fill(at("facts"), readyLines(ceremony));
   const count = keptCount();
   at("go-on").hidden = count === 0;
   at("go-on").textContent = `Go on after step ${count}`;
@@ -82,6 +89,7 @@ async function takeFile() {
 
 // Goes on or back to so many steps, at once.
 function goTo(isEnough) {
+  const { ceremony, steps } = page;
   let next = nextOf(ceremony, steps.at(-1));
   while (next !== null && !isEnough()) {
     steps.push(next);
@@ -90,23 +98,24 @@ function goTo(isEnough) {
 }
 
 function begin(isEnough) {
-  steps = [BEGINNING];
+  page.steps = [BEGINNING];
   goTo(isEnough);
   tell("");
   document.body.classList.add("on-stage");
   at("ready").hidden = true;
   at("stage").hidden = false;
-  showStep(ceremony, steps.at(-1), null);
+  showStep(page.ceremony, page.steps.at(-1), null);
   keepPlace();
 }
 
 // Whether all places but the first so many are certain, and nothing is held back of them.
 function isDownTo(place) {
-  const { certain } = steps.at(-1);
+  const { ceremony, steps } = page, { certain } = steps.at(-1);
   return ceremony.scored.teams.length - certain <= place;
 }
 
 function goOn() {
+  const { ceremony, steps } = page;
   const next = nextOf(ceremony, steps.at(-1));
   if (next === null) return;
   steps.push(next);
@@ -115,6 +124,7 @@ function goOn() {
 }
 
 function goBack() {
+  const { ceremony, steps } = page;
   if (steps.length === 1) return;
   const left = steps.pop();
   showStep(ceremony, steps.at(-1), left);
@@ -137,17 +147,15 @@ function beginAsAsked() {
   begin(() => !(place >= 0) || isDownTo(place));
 }
 
-let path = null;
-
 // This page is for the accounts of the jury, and for analysts.
 async function check() {
-  path = await contestPath();
-  const account = await ask(`${path}/account`);
+  page.path = (await contestHere()).path;
+  const account = await ask(`${page.path}/account`);
   if (account.type === "team") throw new Refusal(403, "RoleForbids");
 }
 
 async function readDesk() {
-  const bytes = await persistently(() => askBytes(`${path}/event-feed`), (refusal) => tell(refusal.message, true));
+  const bytes = await persistently(() => askBytes(`${page.path}/event-feed`), (refusal) => tell(refusal.message, true));
   tell("");
   takeFeed(new TextDecoder().decode(bytes));
 }
@@ -155,7 +163,7 @@ async function readDesk() {
 at("feed").addEventListener("change", takeFile);
 at("next").addEventListener("click", goOn);
 at("back").addEventListener("click", goBack);
-at("go-on").addEventListener("click", () => begin(() => steps.length > keptCount()));
+at("go-on").addEventListener("click", () => begin(() => page.steps.length > keptCount()));
 document.addEventListener("keydown", onKey);
 onSubmit("begin", beginAsAsked);
 signIn(check, readDesk);

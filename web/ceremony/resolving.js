@@ -2,7 +2,7 @@
 // team with something held back has its next problem revealed, and moves to its place. A place is certain once nothing
 // of the team, nor of those that share its rank, is held back: whoever stands above can only rise.
 
-import { cellOf, heldInFreeze, heldNever, rowsOf } from "./scoring.js";
+import { cellOf, heldInFreeze, heldNever, rowsOf } from "../shared/scoring.js";
 
 const isSame = (one, other) => JSON.stringify(one) === JSON.stringify(other);
 const nameOf = (team, problem) => `${team} ${problem}`;
@@ -31,6 +31,12 @@ export const heldCount = ({ cells }) => [...cells.values()].flat().filter((cell)
 // How many attempts have no verdict at the end either.
 export function pendingCount({ cells }) {
   return [...cells.values()].flat().reduce((sum, { full }) => sum + full.num_pending, 0);
+}
+
+// Which verdicts are held back still at a step.
+export function heldAt({ scored }, { revealed }) {
+  const inFreeze = heldInFreeze(scored);
+  return (attempt) => inFreeze(attempt) && !revealed.has(nameOf(attempt.team, attempt.problem));
 }
 
 // The rows of the board at a step.

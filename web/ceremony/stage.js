@@ -1,9 +1,10 @@
 // What a ceremony shows of a step: the board, whose rows move to their places, and a line on what happened.
 
-import { showBoard } from "./board.js";
-import { at, byId, element, fill, freeText } from "./elements.js";
-import { awardsOf, nextOf, rowsAt } from "./resolving.js";
-import { labelIn, nameIn } from "./settings.js";
+import { showBoard } from "../shared/board.js";
+import { at, byId, element, fill, freeText } from "../shared/elements.js";
+import { firstsScored } from "../shared/firsts.js";
+import { labelIn, nameIn } from "../shared/settings.js";
+import { awardsOf, heldAt, nextOf, rowsAt } from "./resolving.js";
 
 const MOVE = { duration: 900, easing: "ease-in-out" };
 const FLASH = [{ filter: "brightness(2.5)" }, { filter: "none" }];
@@ -84,7 +85,8 @@ export function showStep(ceremony, state, earlier) {
   const places = earlier === null ? new Map() : placesOf(rowsAt(ceremony, earlier));
   // What still moves is where it goes to.
   for (const one of document.getAnimations()) one.finish();
-  showBoard(at("board"), settings, { board: { rows }, awards, team: state.last?.team ?? null });
+  const isSure = ({ problem }) => firstsScored(scored, problem, heldAt(ceremony, state)).isCertain;
+  showBoard(at("board"), settings, { board: { rows }, awards, isSure, team: state.last?.team ?? null });
   for (const row of tableRows().slice(rows.length - state.certain)) row.classList.add("certain");
   markCells(ceremony, rows, state);
   showLine(ceremony, settings, rows, state.last);

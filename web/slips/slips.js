@@ -1,11 +1,12 @@
 // Slips for the teams: the file of accounts is read on this machine, and nothing of it is sent or kept. The names of
 // the teams come from the desk.
 
-import { askAsPublic, persistently } from "./desk.js";
-import { at, byId, element, fill, freeText } from "./elements.js";
-import { recordsOf } from "./records.js";
-import { contestPath } from "./renewing.js";
-import { tell } from "./telling.js";
+import { contestHere } from "../shared/contest.js";
+import { askAsPublic, persistently } from "../shared/desk.js";
+import { at, byId, element, fill, freeText } from "../shared/elements.js";
+import { makeHead } from "../shared/head.js";
+import { tell } from "../shared/messages.js";
+import { recordsOf } from "./csv.js";
 
 const HEADER = "id,role,team_id,token";
 const UNREADABLE = "This file can't be read: it has changed since you chose it, or it is gone. Choose it again.";
@@ -58,11 +59,13 @@ function notesOf(accounts, teams) {
   ];
 }
 
-// The file that was chosen, as it was read last.
-let accounts = [];
-const path = await contestPath();
+makeHead("away", "told");
+// The state of the page: the contest, once the desk has said which it keeps, and the accounts of the file that was read
+// last. A file may be chosen before that.
+const page = { contest: contestHere(), accounts: [] };
 
 async function show() {
+  const { accounts } = page, { path } = await page.contest;
   const teams = byId(await persistently(() => askAsPublic(`${path}/teams`), (refusal) => tell(refusal.message, true)));
   const slips = accounts.filter(({ isWhole, role, team }) => isWhole && role === "team" && teams.has(team));
   fill(at("notes"), notesOf(accounts, teams).map(([text, kind]) => element("li", { class: kind }, freeText(text))));
@@ -89,12 +92,12 @@ async function takeFile() {
   at("print").disabled = true;
   const text = await chosenText();
   if (text === null) return;
-  accounts = accountsIn(text) ?? [];
-  if (accounts.length === 0) tell(NO_ACCOUNTS, true);
+  page.accounts = accountsIn(text) ?? [];
+  if (page.accounts.length === 0) tell(NO_ACCOUNTS, true);
   else await show();
 }
 
 at("address").value = new URL("team.html", location.href).href;
 at("accounts").addEventListener("change", takeFile);
-at("address").addEventListener("change", () => { if (accounts.length > 0) show(); });
+at("address").addEventListener("change", () => { if (page.accounts.length > 0) show(); });
 at("print").addEventListener("click", () => window.print());
