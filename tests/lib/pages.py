@@ -1,11 +1,14 @@
 """The pages of web/ before the demo contest, in a browser with a tab for each person."""
 
+import contextlib
 import json
 import pathlib
 
 from . import demo
-from .browser import Browser, BrowserError
-from .nginx import Client, Nginx, free_port
+from .browsers import BACKS, BrowserError, CantDo
+from .cutter import Breaker
+from .led_nginx import LedNginx
+from .nginx import Client, free_port
 from .program import Program
 from .server import Server
 
@@ -18,14 +21,15 @@ class Pages(Program):
     that is told and the rest isn't tried."""
 
     FILES = demo.FILES
+    BROWSERS = tuple(BACKS)
     MOMENT = "2024-03-02 09:05:00"
 
     def __init__(self, options, folder):
         super().__init__(options, folder)
         self.place, self.port = demo.made(self, self.FILES), free_port()
         self.begin(self.MOMENT)
-        self.nginx = Nginx(self.new_folder(), {"demo": self.port})
-        self.browser = Browser(self.new_folder())
+        self.nginx = LedNginx(self.new_folder(), {"demo": self.port})
+        self.browser = BACKS[options.browser](self.new_folder(), self.nginx)
         self.program_file = folder / "main.cpp"
         self.program_file.write_text("int main() { /* é <b>bold</b> */ }\n", encoding="utf-8")
 
@@ -38,10 +42,30 @@ class Pages(Program):
         finally:
             self.browser.end()
 
+    @contextlib.contextmanager
+    def if_it_can(self, what, count=1):
+        """Checks, or so many, that count as left out where the browser has no way to do what they take."""
+        try:
+            yield
+        except CantDo as error:
+            self.skip(f"{what}: {error}", count)
+
     def begin(self, moment):
         """Starts the desk at a moment."""
         self.server = Server(self, self.place, port=str(self.port))
         self.at(moment)
+
+    @contextlib.contextmanager
+    def breaking(self, **how):
+        """The desk goes on behind a server that answers posts by other bytes, such as replies that break off. Then it is away."""
+        self.server.stop()
+        port = free_port()
+        self.server = Server(self, self.place, port=str(port))
+        self.at(self.moment)
+        breaker = Breaker(self.port, port, **how)
+        yield breaker
+        breaker.close()
+        self.server.stop()
 
     def at(self, moment):
         self.moment = moment
@@ -75,8 +99,8 @@ class Pages(Program):
         self.note(is_out, "signed out")
 
     def kept(self):
-        """What the tab keeps, each as a name and its value, but for what its team has read."""
-        return [one for one in self.browser.run(KEPT) if not one.startswith("/demo/ read ")]
+        """What the tab keeps, each as a name and its value, but for what its account has read, sent, and when it was used."""
+        return [one for one in self.browser.run(KEPT) if one.split()[1] not in ("read", "used", "own")]
 
     def keeps_nothing(self, what):
         self.same(what, self.browser.run(KEPT), [])

@@ -1,4 +1,4 @@
-"""What the pages of web/ ask a desk for, and every how many seconds, as web/asked.js says it."""
+"""What the pages of web/ ask a desk for, and every how many seconds, as web/shared/timetable.js says it."""
 
 import json
 import re
@@ -6,10 +6,10 @@ import re
 from .program import ROOT
 
 
-def asked():
+def timetable():
     """By the name of a page, its beats, the quick one first: `seconds` and `paths`."""
-    text = (ROOT / "web/asked.js").read_text(encoding="utf-8")
-    return json.loads(re.search(r"(?ms)^export const ASKED = (\{.*^\});$", text)[1])
+    text = (ROOT / "web/shared/timetable.js").read_text(encoding="utf-8")
+    return json.loads(re.search(r"(?ms)^export const TIMETABLE = (\{.*^\});$", text)[1])
 
 
 def path_of(contest, path):
