@@ -1,7 +1,7 @@
 #!/usr/bin/env -S python3 -B
 """Goes through a contest on the pages of web/, in a browser, as teams, judges, a director and the public do.
 
-    desk_pages.py [--program PATH] [--shots PATH]
+    desk_pages.py [--program PATH] [--shots PATH] [--browser NAME]
 
 The demo contest, with verification and with names that look like markup or run from right to left, is served by the
 program behind Debian's nginx; the clock is set by faketime. In one tab each: a director sets the start, a team
@@ -52,8 +52,10 @@ def try_start(pages):
     browser.click("#tab-Clock")
     browser.choose("#start-time", "2024-03-02T09:00:00")
     browser.click("#start button")
+    pages.is_sure("the start", "Let the contest begin at Mar 2, 2024, 9:00:00")
     pages.sees("the start", "#told", "The clock is set.")
     browser.click("#start button")
+    pages.is_sure("the same start", "Let the contest begin at")
     browser.look_at("public")
     pages.sees("the start", "#clock", "starts in 0:")
     pages.sees("the name", "#name", f"Demo {MARKUP} Cup")
@@ -75,13 +77,13 @@ def try_team(pages):
     pages.submits("a", "java")
     pages.sees("a refusal", "#told", "This language needs an entry point")
     browser.type("#entry", "Main")
-    pages.server.stop()
+    with pages.breaking() as breaker:
+        pages.submits("a", "java")
+        is_cut = browser.comes(lambda: any(one.startswith(b"POST ") for one in breaker.requests))
+        pages.note(is_cut, "a post whose reply breaks off")
+        pages.sees("a post whose reply breaks off", "#told", "Sending .. The desk doesn't answer at the moment.")
     cutter = Cutter(pages.port)
-    pages.submits("a", "java")
-    pages.sees("replies that break off", "#told", "Sending ..")
     pages.sees("replies that break off", "#away", "The desk doesn't answer at the moment.")
-    is_cut = browser.comes(lambda: any(one.startswith(b"POST ") for one in cutter.requests))
-    pages.note(is_cut, "a post whose reply breaks off")
     cutter.close()
     pages.sees("a desk that is away", "#told", "Sending ..")
     pages.sees("a desk that is away", "#away", "The desk doesn't answer at the moment.")
@@ -375,4 +377,4 @@ PARTS = [
 
 
 if __name__ == "__main__":
-    sys.exit(program.main(__doc__, Day, PARTS, program="desk", shots=pathlib.Path()))
+    sys.exit(program.main(__doc__, Day, PARTS, program="desk", shots=pathlib.Path(), browser=Day.BROWSERS))

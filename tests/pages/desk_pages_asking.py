@@ -1,10 +1,10 @@
 #!/usr/bin/env -S python3 -B
 """Counts what the pages of web/ ask a desk for, in a browser, and how often.
 
-    desk_pages_asking.py [--program PATH] [--shots PATH]
+    desk_pages_asking.py [--program PATH] [--shots PATH] [--browser NAME]
 
 The demo contest is served by the program behind Debian's nginx. The pages of a team, of a judge and of an analyst ask for what
-web/asked.js names, and for nothing else: lists of all submissions and judgements every 30 seconds, or every two minutes for a team of
+web/shared/timetable.js names, and for nothing else: lists of all submissions and judgements every 30 seconds, or every two minutes for a team of
 which no submission waits, and not sooner but after a post of their own; the board every few seconds. A page that nobody looks at asks
 every 30 seconds. After a desk that was away, and after
 replies that broke off, they go on so. A token that was replaced gets them nothing.
@@ -20,9 +20,9 @@ import sys
 import time
 
 from lib import demo, program
-from lib.asked import asked, path_of
 from lib.cutter import Cutter
 from lib.pages import Pages
+from lib.timetable import path_of, timetable
 
 AT, LONG, SECONDS = "contests/demo", ("/submissions", "/judgements"), 30
 PAGES = {"team": ("team", "token-a3"), "judge": ("jury", "token-j1"), "analyst": ("jury", "token-o1"), "hidden": ("team", "token-a2")}
@@ -41,6 +41,8 @@ NOW = "return performance.now() / 1000"
 ONCE = ["/contests", f"/{AT}/account", *(f"/{AT}/{name}" for name in ("problems", "languages", "teams", "groups", "judgement-types"))]
 JUDGE_ONCE = [f"/{AT}/submissions/s3-1/files"]
 TEAM_ONCE = [f"/{AT}/teams/t2", f"/{AT}/teams/t3"]
+# Each page asks for it once more, before it shows anything and before each post.
+STATE = f"/{AT}/state"
 
 
 class Asking(Pages):
@@ -54,7 +56,7 @@ class Asking(Pages):
     def beats(self, who):
         """The seconds of each path that a page is to ask for again and again. A submission of the team waits."""
         pace = "sooner" if who == "team" else "seconds"
-        return {path_of("demo", path): beat.get(pace, beat["seconds"]) for beat in asked()[PAGES[who][0]] for path in beat["paths"]}
+        return {path_of("demo", path): beat.get(pace, beat["seconds"]) for beat in timetable()[PAGES[who][0]] for path in beat["paths"]}
 
     def asks_again(self, who, path, since):
         """A page asks for a path at once."""
@@ -63,17 +65,17 @@ class Asking(Pages):
 
 
 def try_names(pages):
-    """What the bench reads in web/asked.js is what the pages do."""
+    """What the bench reads in web/shared/timetable.js is what the pages do."""
     value = {"problem_id": "b", "language_id": "cpp", "files": [{"data": "eA=="}]}
     pages.same("what waits", pages.posts("token-a3", f"{AT}/submissions", **value)["id"], "s3-1")
     for who, (page, token) in PAGES.items():
         pages.browser.look_at(who)
         source = LOOKED_AT % json.dumps(who == "hidden")
-        pages.browser.tell_chromium("Page.addScriptToEvaluateOnNewDocument", {"source": source})
+        pages.browser.runs_first(source)
         pages.sign_in(who, page, token)
         pages.sees(who, "#board", "Alpha")
-    said = pages.browser.run("return import('./asked.js').then(({ ASKED }) => ASKED)")
-    pages.same("what is asked", asked(), said)
+    said = pages.browser.run("return import('./shared/timetable.js').then(({ TIMETABLE }) => TIMETABLE)")
+    pages.same("what is asked", timetable(), said)
 
 
 def gaps_of(times):
@@ -85,16 +87,18 @@ def try_pace(pages):
     time.sleep(SECONDS + 3)
     for who in PAGES:
         times, beats = pages.times(who), pages.beats(who)
-        others = sorted(set(times) - set(beats) - set(ONCE) - set(TEAM_ONCE) - set(JUDGE_ONCE))
+        others = sorted(set(times) - set(beats) - set(ONCE) - set(TEAM_ONCE) - set(JUDGE_ONCE) - {STATE})
         pages.same(f"what else {who} asks for", others, [])
         for path, seconds in beats.items():
-            pace, found = max(seconds, SECONDS) if who == "hidden" else seconds, times.get(path, [])
+            pace, found = max(seconds, SECONDS) if who == "hidden" else seconds, times.get(path, [])[path == STATE :]
             gaps = gaps_of(found)
             pages.note(len(found) >= (2 if pace <= SECONDS else 1), f"{who} asks for {path} at {found}")
             is_right = all(0.85 * pace <= gap <= 1.15 * pace + 1 for gap in gaps)
             pages.note(is_right, f"{who} asks for {path} after {[round(gap, 1) for gap in gaps]} s, wanted {pace}")
             if path.endswith(LONG):
                 pages.note(min(gaps, default=SECONDS) >= SECONDS - 0.1, f"{who} asks for {path} after {gaps} s")
+        if PAGES[who][0] == "team":
+            pages.same(f"how often {who} asks for the state", len(times[STATE]), 1)
         for path in set(ONCE) & set(times):
             pages.same(f"how often {who} asks for {path}", len(times[path]), 1)
 
@@ -136,13 +140,12 @@ def try_away(pages):
     since = browser.run(NOW)
     pages.asks_again("team", f"/{AT}/scoreboard", since)
     browser.look_at("part")
-    browser.tell_chromium("Network.enable", {})
-    browser.tell_chromium("Network.setBlockedURLs", {"urls": ["*/judgements"]})
+    browser.without("/judgements")
     pages.sign_in("part", "team", "token-a2")
     pages.sees("a page of which a part doesn't come", "#away", "The desk doesn't answer at the moment.")
     time.sleep(SECONDS / 5)
     pages.same("what it shows", browser.text("#board"), "")
-    browser.tell_chromium("Network.setBlockedURLs", {"urls": []})
+    browser.without()
     pages.sees("all of it", "#board", "Alpha")
     pages.lacks("all of it", "#away:not([hidden])")
 
@@ -161,4 +164,4 @@ def try_token(pages):
 PARTS = [try_names, try_pace, try_post, try_away, try_token]
 
 if __name__ == "__main__":
-    sys.exit(program.main(__doc__, Asking, PARTS, program="desk", shots=pathlib.Path()))
+    sys.exit(program.main(__doc__, Asking, PARTS, program="desk", shots=pathlib.Path(), browser=Asking.BROWSERS))

@@ -1,14 +1,14 @@
 #!/usr/bin/env -S python3 -B
 """Tries the page of web/ that lists balloons, in a browser: for anybody, for an analyst, and on paper.
 
-    desk_pages_balloons.py [--program PATH] [--shots PATH]
+    desk_pages_balloons.py [--program PATH] [--shots PATH] [--browser NAME]
 
 A contest of fourteen teams is held at the program behind Debian's nginx. The list has each problem that a team solved, in the order
 in which the verdicts were released, and whose was the first; a hidden team has none. What was taken and delivered, and colours, stay
 in the browser, in all its tabs, also while the desk is away. What a rejudging takes back is struck through and stays. In the freeze
 nothing is added but for an analyst who asks for it; a team learns no more than anybody, and stays signed in. Replies that break off
 and a token that was replaced are told, and the list stays. After the thaw all is there, behind what was there. Each balloon is
-printed on one sheet.
+printed on one sheet. What an analyst saw of the freeze leaves the browser with the sign-out; a browser that has no room is told.
 
 Takes nginx, openssl, chromium, chromium-driver and faketime. Ends with the line `N passed, M failed`; the exit status is 0 if M is 0.
 """
@@ -30,6 +30,14 @@ LIST = "return [...document.querySelectorAll('[data-balloon]')].map((row) => row
 STRUCK = "return [...document.querySelectorAll('.back')].map((row) => row.dataset.balloon)"
 FIRST = "return [...document.querySelectorAll('[data-balloon]')].filter((row) => row.innerText.includes('★ first to solve')).map((row) => row.dataset.balloon)"
 NUMBERS = "return [...document.querySelectorAll('[data-balloon] td:first-child')].map((one) => one.innerText)"
+ALL_KEPT = "return [localStorage, sessionStorage].flatMap((store) => Object.entries(store).map((one) => one.join(' ')))"
+# Forgets what a browser keeps but marks, and fills it to the last letter.
+FILL = """for (const name of Object.keys(localStorage)) if (!name.includes(" balloon ")) localStorage.removeItem(name);
+for (let size = 1 << 20; size >= 1; size >>= 1) {
+  for (let n = 0; n < 20; n += 1) {
+    try { localStorage.setItem(`full ${size} ${n}`, "x".repeat(size)); } catch { break; }
+  }
+}"""
 # Prints nothing, but makes the sheets.
 NO_PRINTER = "window.print = () => {}"
 TOKENS = "return JSON.stringify(localStorage).includes('token-')"
@@ -141,13 +149,15 @@ def try_print(pages):
     pages.browser.look_at("public")
     pages.browser.run(NO_PRINTER)
     pages.marks(pages.early[3], "print")
-    pages.same("sheets of one", pages.browser.sheets(), 1)
+    with pages.if_it_can("sheets of one"):
+        pages.same("sheets of one", pages.browser.sheets(), 1)
     team, problem = pages.early[3].split()
     name = next(name for row, name, _ in finals.teams() if row == team)
     shown = pages.browser.run("return document.getElementById('sheets').textContent")
     pages.note(all(word in shown for word in (name, problem[0].upper(), "Balloon 4, ")), f"the sheet says {shown}")
     pages.browser.click("#print-all")
-    pages.same("sheets of all that nobody took", pages.browser.sheets(), len(pages.early) - 1)
+    with pages.if_it_can("sheets of all that nobody took"):
+        pages.same("sheets of all that nobody took", pages.browser.sheets(), len(pages.early) - 1)
 
 
 def try_back(pages):
@@ -170,16 +180,18 @@ def try_back(pages):
     pages.sees("what was taken back", pages.row(gone), "taken back")
     pages.browser.run(NO_PRINTER)
     pages.browser.click("#print-all")
-    pages.same("sheets", pages.browser.sheets(), len(pages.early) - 2)
+    with pages.if_it_can("sheets after a rejudging"):
+        pages.same("sheets", pages.browser.sheets(), len(pages.early) - 2)
 
 
 def try_looks(pages):
     """Words and borders stand out, bright and dark; nothing is wider than a phone."""
     pages.browser.run("document.querySelector('details').open = true")
     for scheme in ("dark", "light"):
-        pages.shows_itself(scheme)
-        pages.stands_out(scheme, "main :is(th, td, button, label, p, summary)", "text", 4.5)
-        pages.stands_out(scheme, "main :is(select, input:not([type]))", "border", 3)
+        with pages.if_it_can(f"colours, {scheme}", 2):
+            pages.shows_itself(scheme)
+            pages.stands_out(scheme, "main :is(th, td, button, label, p, summary)", "text", 4.5)
+            pages.stands_out(scheme, "main :is(select, input:not([type]))", "border", 3)
     pages.browser.as_wide_as(*PHONE, is_phone=False)
     pages.fits("the list")
     pages.browser.as_usual()
@@ -247,6 +259,34 @@ def try_token(pages):
     pages.is_listed("nobody is signed in", pages.early)
 
 
+def try_sign_out(pages):
+    """What an analyst saw of the freeze leaves the browser once somebody signs out."""
+    pages.sign_in("analyst", "balloons", "token-newer")
+    pages.sees("who is signed in", "#who", "watch (analyst)")
+    pages.chooses_until("end")
+    pages.note(pages.browser.comes(lambda: pages.list()[-len(pages.late) :] == pages.late), f"to the end: {pages.list()}")
+    pages.marks(pages.late[-1], "taken")
+    secret = [balloon for balloon in pages.late if balloon not in pages.early]
+    pages.note(any(secret[-1] in one for one in pages.browser.run(ALL_KEPT)), "the tab keeps what it is shown")
+    pages.sign_out()
+    left = [one for one in pages.browser.run(ALL_KEPT) if any(balloon in one for balloon in secret) or "end" in one.split()]
+    pages.same("what stays of the freeze", left, [])
+    pages.is_listed("nobody is signed in", pages.early)
+
+
+def try_full(pages):
+    """What there is no room to keep is listed nevertheless, and told."""
+    pages.browser.look_at("public")
+    pages.browser.run(FILL)
+    pages.loads_anew()
+    pages.sees("a full storage", "#told", "There is no room to keep this")
+    solved = len(pages.list())
+    pages.note(solved >= len(pages.early) - 1, f"{solved} balloons are listed, wanted {len(pages.early) - 1} at least")
+    pages.marks(pages.list()[0], "taken")
+    pages.sees("a mark in a full storage", "#told", "There is no room to keep this")
+    pages.browser.run("for (const name of Object.keys(localStorage)) if (name.startsWith('full ')) localStorage.removeItem(name)")
+
+
 def try_thaw(pages):
     """After the thaw all is there, behind what was there; and the browser forgets it if somebody says so."""
     pages.at("2024-03-02 14:01:00")
@@ -262,7 +302,7 @@ def try_thaw(pages):
     pages.is_marked("nothing is taken", pages.early[1], False, False)
 
 
-PARTS = [try_public, try_marks, try_colours, try_print, try_back, try_looks, try_freeze, try_team, try_away, try_token, try_thaw]
+PARTS = [try_public, try_marks, try_colours, try_print, try_back, try_looks, try_freeze, try_team, try_away, try_token, try_sign_out, try_thaw, try_full]
 
 if __name__ == "__main__":
-    sys.exit(program.main(__doc__, Balloons, PARTS, program="desk", shots=pathlib.Path()))
+    sys.exit(program.main(__doc__, Balloons, PARTS, program="desk", shots=pathlib.Path(), browser=Balloons.BROWSERS))

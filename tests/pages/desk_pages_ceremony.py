@@ -1,7 +1,7 @@
 #!/usr/bin/env -S python3 -B
 """Goes through a ceremony on the page of web/, in a browser: from the frozen board to the last one, and back.
 
-    desk_pages_ceremony.py [--program PATH] [--shots PATH] [--pictures PATH]
+    desk_pages_ceremony.py [--program PATH] [--shots PATH] [--pictures PATH] [--browser NAME]
 
 A contest of fourteen teams is held at the program behind Debian's nginx. The ceremony isn't shown before its end, nor to a team. It
 begins with the public's board of the freeze; each key is one step, whose awards are those of the desk and whose places stay; it
@@ -157,8 +157,9 @@ def try_looks(pages):
     """Words stand out, bright and dark. A projector shows one team a line, in large letters; nothing is wider than the screen. What is
     revealed next is marked."""
     for scheme in ("dark", "light"):
-        pages.shows_itself(scheme)
-        pages.stands_out(scheme, "#stage :is(th, td, td b, td small, button), #shown, header h1", "text", 4.5)
+        with pages.if_it_can(f"colours, {scheme}"):
+            pages.shows_itself(scheme)
+            pages.stands_out(scheme, "#stage :is(th, td, td b, td small, button), #shown, header h1", "text", 4.5)
     pages.browser.as_wide_as(*PHONE, is_phone=False)
     pages.fits("the ceremony")
     for size in ((1280, 720), (1920, 1080), (3840, 2160)):
@@ -295,4 +296,4 @@ PARTS = [
 ]  # fmt: skip
 
 if __name__ == "__main__":
-    sys.exit(program.main(__doc__, Ceremony, PARTS, program="desk", shots=pathlib.Path(), pictures=pathlib.Path()))
+    sys.exit(program.main(__doc__, Ceremony, PARTS, program="desk", shots=pathlib.Path(), browser=Ceremony.BROWSERS, pictures=pathlib.Path()))

@@ -2,7 +2,7 @@
 """Tries the forms of web/ in a browser: to whom a text goes, what is chosen at first, what is asked once more, how long a text
 may be.
 
-    desk_pages_forms.py [--program PATH] [--shots PATH]
+    desk_pages_forms.py [--program PATH] [--shots PATH] [--browser NAME]
 
 The demo contest with verification is served by the program behind Debian's nginx; the clock is set by faketime. What a judge wrote
 to one team goes to no other and not to all, unless somebody says so. A group can be written to. No verdict, problem or language
@@ -263,4 +263,4 @@ PARTS = [
 ]  # fmt: skip
 
 if __name__ == "__main__":
-    sys.exit(program.main(__doc__, Forms, PARTS, program="desk", shots=pathlib.Path()))
+    sys.exit(program.main(__doc__, Forms, PARTS, program="desk", shots=pathlib.Path(), browser=Forms.BROWSERS))

@@ -1,12 +1,13 @@
 #!/usr/bin/env -S python3 -B
 """Judges on the jury's page of web/, in a browser, by keys: what waits opens by itself, and is judged by two actions each.
 
-    desk_pages_judging.py [--program PATH] [--shots PATH]
+    desk_pages_judging.py [--program PATH] [--shots PATH] [--browser NAME]
 
 The demo contest with verification and forty submissions, each of which says its verdict, is served by the program behind Debian's
 nginx. One judge proposes forty verdicts and another verifies them, by two keys each, and reads each verdict in the file that is
 shown. The list keeps the focus and how far it is scrolled when it is renewed. Two judges at one submission are told so at once. A
-desk that is away, a reply that breaks off, a second tab and a token that is replaced lose no verdict and give none twice.
+desk that is away, a reply that breaks off, a second tab and a token that is replaced lose no verdict and give none twice. Marks of
+direction in a program are shown. Once the newest copy of the contest is old the page says so.
 
 Takes nginx, openssl, chromium, chromium-driver and faketime. Ends with the line `N passed, M failed`; the exit status
 is 0 if M is 0.
@@ -19,7 +20,6 @@ import sys
 import time
 
 from lib import demo, program
-from lib.cutter import Cutter
 from lib.pages import Pages
 
 AT = "contests/demo"
@@ -36,6 +36,16 @@ PLACE = """const one = document.activeElement;
 return [one.dataset.look ?? one.tagName, scrollY, document.querySelector('#program').scrollTop];"""
 GO_TO = "const one = document.querySelector(arguments[0]); one.scrollIntoView({ block: 'center' }); one.focus()"
 LIST = "return [...document.querySelectorAll('#waiting tbody tr')].map((one) => one.dataset.id)"
+# The marks of direction that are shown, and whether the letters behind the first go from left to right.
+MARKS = """return [...document.querySelectorAll('#program .mark')].map((one) => getComputedStyle(one, '::before').content.slice(1, -1));"""
+IN_ORDER = """const text = document.querySelector('#program .mark')?.nextSibling ?? document.querySelector('#program .line:nth-child(2)').firstChild;
+const lefts = [0, 1, 2, 3].map((place) => {
+  const range = document.createRange();
+  range.setStart(text, text.data.lastIndexOf(';b t') + place);
+  range.setEnd(text, text.data.lastIndexOf(';b t') + place + 1);
+  return range.getBoundingClientRect().left;
+});
+return lefts.every((left, place) => place === 0 || lefts[place - 1] < left);"""
 SAVED = """const saved = [];
 window.saved = saved;
 HTMLAnchorElement.prototype.click = function () { saved.push(this.download); };"""
@@ -253,17 +263,16 @@ def try_away(pages):
     browser = pages.browser
     which = pages.submit(3, 1, "WA")
     pages.looks("first", which)
-    pages.server.stop()
-    cutter = Cutter(pages.port)
-    browser.press("2", "Enter")
-    pages.sees("replies that break off", "#told", "Sending ..")
-    is_cut = browser.comes(lambda: any(one.startswith(b"POST ") for one in cutter.requests))
-    pages.note(is_cut, "a verdict whose reply breaks off")
-    cutter.close()
+    with pages.breaking() as breaker:
+        browser.press("2", "Enter")
+        is_cut = browser.comes(lambda: any(one.startswith(b"POST ") for one in breaker.requests))
+        pages.note(is_cut, "a verdict whose reply breaks off")
+        pages.sees("a verdict whose reply breaks off", "#told", "Sending ..")
     pages.sees("a desk that is away", "#away", "The desk doesn't answer at the moment.")
     browser.reload()
     pages.begin(pages.moment)
     pages.sees("the verdict that was sent again", "#told", f"{which}: WA is proposed.")
+    try_meanwhile(pages)
     pages.same("what stands", pages.proposed(which), [("j1", "WA")])
     pages.sees("what is open", "#verdict-title", "s")
     pages.page("first again", "jury")
@@ -272,25 +281,67 @@ def try_away(pages):
     pages.sees("the second tab of a judge", "#verdict-proposal", "You proposed WA. Another judge has to verify it.")
 
 
+def try_meanwhile(pages):
+    """Whoever gives a verdict while the last one is on its way is told so, and nothing is sent."""
+    browser, (one, other) = pages.browser, [pages.submit(3, number, "WA") for number in range(2)]
+    pages.looks("first", one)
+    pages.server.stop()
+    browser.press("2", "Enter")
+    pages.sees("it waits", "#told", "Sending ..")
+    browser.click(f'[data-look="{other}"]')
+    pages.sees("another one meanwhile", "#verdict-title", f"{other}, ")
+    browser.press("2", "Enter")
+    pages.sees("a verdict meanwhile", "#verdict-told", "The last one is still on its way: this one isn't sent yet.")
+    pages.begin(pages.moment)
+    pages.sees("the first one", "#told", f"{one}: WA is proposed.")
+    pages.same("what stands of the other", pages.proposed(other), [])
+    browser.press("Enter")
+    pages.sees("the other one", "#told", f"{other}: WA is proposed.")
+
+
+def try_marks(pages):
+    """A mark that turns the direction of a program round is shown by its name, and turns nothing."""
+    browser = pages.browser
+    text = "// WA\nint a; /* \u202e;b tni \u2066 */\n"
+    value = {"problem_id": "a", "language_id": "cpp", "files": [{"data": base64.b64encode(text.encode()).decode()}]}
+    which = pages.posts("token-a1", f"{AT}/submissions", **value)["id"]
+    pages.looks("first", which)
+    pages.same("marks", browser.run(MARKS), ["RLO", "LRI"])
+    pages.note(browser.run(IN_ORDER), "letters behind a mark stand in their order")
+    pages.same("its text", browser.run("return document.querySelector('#program .line:nth-child(2)').textContent"), text.splitlines()[1])
+    pages.shoot("jury-marks")
+
+
+def try_copies(pages):
+    """The jury is told once the newest copy of the contest is old. Where nobody makes copies it is told nothing."""
+    file, told = pages.nginx.folder / "demo.json", "The newest copy of the contest is 10 minutes old: copies have stopped."
+    pages.same("without copies", pages.is_there("#copied:not([hidden])"), False)
+    file.write_text('{"time":"2024-03-02T08:55:00.000+00:00"}', encoding="utf-8")
+    pages.looks_anew("first")
+    pages.sees("an old copy", "#copied", told)
+    file.write_text('{"time":"2024-03-02T09:04:30.000+00:00"}', encoding="utf-8")
+    pages.browser.reload()
+    pages.sees("loaded anew", "#verdict-title", "s")
+    time.sleep(4)
+    pages.same("a new copy", pages.is_there("#copied:not([hidden])"), False)
+
+
 def try_token(pages):
-    """A judge's token is replaced: the page says so, a verdict by it isn't given, and the new token goes on."""
+    """A judge's token is replaced: the page says so, and a verdict by it waits until its account is there by the new token."""
     browser, open_now = pages.browser, pages.submit(3, 2, "AC")
     pages.looks("first", open_now)
     pages.asks_desk("token-adm", "POST", "jury/tokens", json.dumps({"account_id": "j1", "token": "token-new-j1"}))
     browser.press("1", "Enter")
-    pages.sees("the old token", "#verdict-told", "No account has this token.")
+    pages.sees("the old token", "#told", "Sending .. No account has this token.")
     pages.same("what stands", pages.listed("jury/proposals", "token-adm")[-1]["submission_id"] == open_now, False)
     pages.sees("the old token", "#away", "No account has this token.")
     pages.sign_out()
     browser.type("#token", "token-new-j1")
     browser.click("#sign-in button")
-    browser.click(f'[data-look="{open_now}"]')
-    pages.opens("by the new token", lambda found: found == open_now)
-    browser.press("1", "Enter")
     pages.sees("by the new token", "#told", f"{open_now}: AC is proposed.")
 
 
-PARTS = [try_forty, try_verified, try_keys, try_filters, try_renewed, try_two_judges, try_away, try_token]
+PARTS = [try_forty, try_verified, try_keys, try_filters, try_renewed, try_two_judges, try_away, try_marks, try_copies, try_token]
 
 if __name__ == "__main__":
-    sys.exit(program.main(__doc__, Judging, PARTS, program="desk", shots=pathlib.Path()))
+    sys.exit(program.main(__doc__, Judging, PARTS, program="desk", shots=pathlib.Path(), browser=Judging.BROWSERS))

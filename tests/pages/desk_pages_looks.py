@@ -2,7 +2,7 @@
 """Tries what the pages of web/ look like, in a browser: on a projector and on a phone, bright and dark, and to programs that read
 them aloud.
 
-    desk_pages_looks.py [--program PATH] [--shots PATH]
+    desk_pages_looks.py [--program PATH] [--shots PATH] [--browser NAME]
 
 The demo contest with sixty more teams, one of a very long name, is served by the program behind Debian's nginx; the clock is set by
 faketime. Words and borders stand out from what is behind them, as WCAG 2.2 asks (4.5 to 1, and 3 to 1). Nothing is wider than a
@@ -66,26 +66,24 @@ HEADS = """const box = (css) => document.querySelector(css).getBoundingClientRec
 const clock = box("#clock"), [x, y] = [(clock.left + clock.right) / 2, (clock.top + clock.bottom) / 2];
 return [scrollY, box("header").top, box("header").bottom, box("#board thead .team").top, document.elementFromPoint(x, y)?.id];"""
 
+# Whether the cell of a team that says a minute has a star; null if there is no such cell.
+STAR = """const [team, minute] = arguments;
+const row = [...document.querySelectorAll('#board tbody tr')].find((one) => one.querySelector('.team')?.innerText === team);
+const cell = [...(row?.querySelectorAll('.solved') ?? [])].find((one) => one.querySelector('b').innerText.endsWith(minute));
+return cell ? cell.innerText.includes('★') : null;"""
+
 
 class Looks(Pages):
     FILES = {**demo.FILES, "init": demo.STARTED, "teams-csv": TEAMS}
 
     def shows_itself(self, scheme):
-        self.browser.tell_chromium(
-            "Emulation.setEmulatedMedia", {"features": [{"name": "prefers-color-scheme", "value": scheme}]}
-        )
+        self.browser.shows_scheme(scheme)
         is_so = f"return matchMedia('(prefers-color-scheme: {scheme})').matches"
         self.browser.until(lambda: self.browser.run(is_so), scheme)
 
     def stands_out(self, what, css, of, least):
         found = self.browser.run(CONTRAST, css, of)
         self.note(found and min(found) >= least, f"{what}: the {of} of {css} is {found} to 1, wanted {least}")
-
-    def spoken(self, role):
-        """The names of what has a role, as a program that reads the page aloud is told them."""
-        nodes = self.browser.tell_chromium("Accessibility.getFullAXTree", {})["nodes"]
-        shown = [one for one in nodes if not one["ignored"] and one["role"]["value"] == role]
-        return [one["name"]["value"] for one in shown]
 
     def fits(self, what):
         """Nothing is wider than a narrow window."""
@@ -119,20 +117,26 @@ def try_colours(pages):
     pages.browser.click("#tab-Judged")
     pages.sees("what is judged", "#judgements", "s2-2")
     for scheme in ("light", "dark"):
-        pages.browser.look_at("team")
-        pages.shows_itself(scheme)
-        for kind in ("solved", "tried", "pending"):
-            pages.stands_out(scheme, f"#submissions .{kind}", "text", 4.5)
-            pages.stands_out(scheme, f"#board .cell.{kind}", "text", 4.5)
-        pages.stands_out(scheme, "#inside select, #inside input, #inside textarea", "border", 3)
-        pages.browser.look_at("judge")
-        pages.shows_itself(scheme)
-        pages.browser.click("#tab-Questions")
-        pages.stands_out(scheme, "#questions select, #questions textarea", "border", 3)
-        pages.browser.click("#tab-Judged")
-        pages.stands_out(scheme, "#judgements .solved", "text", 4.5)
-        pages.stands_out(scheme, "#judgements .tried", "text", 4.5)
-        pages.shoot(f"jury-judged-{scheme}")
+        with pages.if_it_can(f"colours, {scheme}", 10):
+            look_at_colours(pages, scheme)
+
+
+def look_at_colours(pages, scheme):
+    """What a team and a judge see in one scheme."""
+    pages.browser.look_at("team")
+    pages.shows_itself(scheme)
+    for kind in ("solved", "tried", "pending"):
+        pages.stands_out(scheme, f"#submissions .{kind}", "text", 4.5)
+        pages.stands_out(scheme, f"#board .cell.{kind}", "text", 4.5)
+    pages.stands_out(scheme, "#inside select, #inside input, #inside textarea", "border", 3)
+    pages.browser.look_at("judge")
+    pages.shows_itself(scheme)
+    pages.browser.click("#tab-Questions")
+    pages.stands_out(scheme, "#questions select, #questions textarea", "border", 3)
+    pages.browser.click("#tab-Judged")
+    pages.stands_out(scheme, "#judgements .solved", "text", 4.5)
+    pages.stands_out(scheme, "#judgements .tried", "text", 4.5)
+    pages.shoot(f"jury-judged-{scheme}")
 
 
 def try_words(pages):
@@ -165,12 +169,15 @@ def try_aloud(pages):
     """A narrow board is a table, with the letters of its problems."""
     pages.browser.look_at("public")
     pages.browser.as_wide_as(*PHONE, is_phone=False)
-    pages.same("tables", len(pages.spoken("table")), 1)
-    pages.same("rows", len(pages.spoken("row")), 64)
-    pages.same("heads", pages.spoken("columnheader"), ["Rank", "Team", "Solved", "Time", "A", "B"])
-    pages.note("Beta" in pages.spoken("rowheader"), f"teams: {pages.spoken('rowheader')}")
-    cells = pages.spoken("cell")
-    pages.note("A ★ 5" in cells, f"a cell with its letter: {cells[:20]}")
+    pages.same("tables", len(pages.browser.spoken("table")), 1)
+    pages.same("rows", len(pages.browser.spoken("row")), 64)
+    with pages.if_it_can("the heads of a board, read aloud"):
+        pages.same("heads", pages.browser.spoken("columnheader"), ["Rank", "Team", "Solved", "Time", "A", "B"])
+    with pages.if_it_can("the teams of a board, read aloud"):
+        pages.note("Beta" in pages.browser.spoken("rowheader"), f"teams: {pages.browser.spoken('rowheader')}")
+    with pages.if_it_can("the cells of a board, read aloud"):
+        cells = pages.browser.spoken("cell")
+        pages.note("A ★ 5" in cells, f"a cell with its letter: {cells[:20]}")
     pages.browser.as_usual()
     # Other browsers forget what a row is if it is shown as a line, and go by its role.
     plain = "table:not([role]), thead:not([role]), tbody:not([role]), tr:not([role]), th:not([role]), td:not([role])"
@@ -197,16 +204,47 @@ def try_hall(pages):
     pages.browser.as_usual()
 
 
+def try_star(pages):
+    """Who was first to solve has a star once no earlier attempt waits: whatever is sent in later takes none away."""
+    file = [{"data": base64.b64encode(b"x").decode()}]
+
+    def submits(team, minute):
+        pages.at(f"2024-03-02 09:{minute}:00")
+        return pages.posts(f"token-a{team}", f"{AT}/submissions", problem_id="b", language_id="cpp", files=file)["id"]
+
+    def is_judged(submission, verdict):
+        pages.posts("token-j1", "jury/proposals", submission_id=submission, judgement_type_id=verdict)
+
+    def stars(what, wanted):
+        is_so = pages.browser.comes(lambda: pages.browser.run(STAR, "Gamma", "20") == wanted)
+        pages.note(is_so, f"{what}: a star {pages.browser.run(STAR, 'Gamma', '20')}, wanted {wanted}")
+
+    is_judged(submits(3, 20), "AC")
+    pages.page("public", "scoreboard")
+    stars("two attempts of minute 5 wait", False)
+    is_judged("s1-2", "WA")
+    pages.looks_anew("team")
+    stars("one of them waits, on a team's page", False)
+    is_judged("s2-3", "WA")
+    submits(1, 25)
+    for who in ("public", "team", "judge"):
+        pages.looks_anew(who)
+        if who == "judge":
+            pages.browser.click("#tab-Board")
+        stars(f"a later one waits, {who}", True)
+
+
 def try_zone(pages):
     """The clock's page names the time zone of the machine, wherever it is."""
     browser = pages.browser
     browser.look_at("judge")
-    browser.tell_chromium("Emulation.setTimezoneOverride", {"timezoneId": "America/St_Johns"})
-    browser.reload()
-    pages.is_signed_in("the judge")
-    browser.click("#tab-Clock")
-    pages.sees("the zone", "#times", "time zone, America/St_Johns.")
-    pages.sees("a moment", "#moments", "5:30:00 AM GMT-3:30")
+    with pages.if_it_can("the time zone", 3):
+        browser.shows_zone("America/St_Johns")
+        browser.reload()
+        pages.is_signed_in("the judge")
+        browser.click("#tab-Clock")
+        pages.sees("the zone", "#times", "time zone, America/St_Johns.")
+        pages.sees("a moment", "#moments", "5:30:00 AM GMT-3:30")
 
 
 def try_end(pages):
@@ -219,7 +257,7 @@ def try_end(pages):
     pages.shoot("team-ended")
 
 
-PARTS = [try_own_row, try_colours, try_words, try_phone, try_aloud, try_hall, try_zone, try_end]
+PARTS = [try_own_row, try_colours, try_words, try_phone, try_aloud, try_hall, try_star, try_zone, try_end]
 
 if __name__ == "__main__":
-    sys.exit(program.main(__doc__, Looks, PARTS, program="desk", shots=pathlib.Path()))
+    sys.exit(program.main(__doc__, Looks, PARTS, program="desk", shots=pathlib.Path(), browser=Looks.BROWSERS))

@@ -1,7 +1,7 @@
 #!/usr/bin/env -S python3 -B
 """Looks at the pages of web/ as different people do, in a browser: by keys alone, in each scheme, on every screen, in any script.
 
-    desk_pages_people.py [--program PATH] [--shots PATH]
+    desk_pages_people.py [--program PATH] [--shots PATH] [--browser NAME]
 
 The demo contest with teams whose names are of many scripts is served by the program behind Debian's nginx. On each page, and in each
 of its tabs, all that can be pressed is reached by the Tab key and isn't under the head then; each text stands out from what is behind
@@ -83,7 +83,12 @@ scrollTo(0, 0);"""
 MISSED = """const all = [...document.querySelectorAll(arguments[0])].filter((one) => one.checkVisibility());
 const isSeen = (one) => window.seen.has(one) || (one.name && one.type === "radio" && [...window.seen].some((two) => two.name === one.name));
 return [all.length, all.filter((one) => !isSeen(one)).map((one) => one.outerHTML.slice(0, 90)), window.hidden];"""
-WORDS = "const all = arguments[0]; return import('./refusals.js').then(({ wordsOf }) => all.map((one) => wordsOf(...one)))"
+# What a page tells of replies, each a status and a name in its body, and of what it says by itself, each such a pair too.
+WORDS = """const [replies, own] = arguments;
+return import('./shared/refusals.js').then(({ nameOf, wordsOf }) => [
+  ...replies.map(([status, name]) => wordsOf(status, nameOf(status, { code: status, message: name }))),
+  ...own.map((one) => wordsOf(...one)),
+]);"""
 HEAD = """scrollTo(0, document.documentElement.scrollHeight);
 const head = document.querySelector("header").getBoundingClientRect();
 const result = [document.documentElement.scrollWidth, head.top, scrollY];
@@ -106,9 +111,6 @@ class People(Pages):
         for tab in TABS:
             self.browser.click(f"#tab-{tab}")
             yield f"judge, {tab}"
-
-    def schemes(self, scheme):
-        self.browser.tell_chromium("Emulation.setEmulatedMedia", {"features": [{"name": "prefers-color-scheme", "value": scheme}]})
 
 
 def try_begin(pages):
@@ -160,9 +162,10 @@ def try_contrast(pages):
     """All texts stand out, bright and dark."""
     for scheme in ("light", "dark"):
         for who in pages.everywhere():
-            pages.schemes(scheme)
-            pages.same(f"faint texts, {scheme}, {who}", pages.browser.run(FAINT), [])
-    pages.schemes("light")
+            with pages.if_it_can(f"faint texts, {scheme}, {who}"):
+                pages.browser.shows_scheme(scheme)
+                pages.same(f"faint texts, {scheme}, {who}", pages.browser.run(FAINT), [])
+    pages.browser.shows_scheme("light")
 
 
 def try_screens(pages):
@@ -182,26 +185,32 @@ def try_screens(pages):
     browser.as_usual()
 
 
+# What a page says by itself.
+OWN = {"NoReply": 503, "NoTeam": 403, "NotTheDesk": 404, "OtherContest": 409, "OtherRecord": 409}
+
+
 def refusals():
-    """The refusals of the desk, of nginx and of a page itself, each with its status."""
+    """The refusals of the desk and of nginx, each with its status."""
     text = (ROOT / "docs/FORMATS.md").read_text(encoding="utf-8")
     found = {name: int(status) for status, name in re.findall(r"(?m)^\| (\d{3}) \| (\w+) \|", text)}
     nginx = (ROOT / "examples/nginx/desk.conf").read_text(encoding="utf-8")
     found.update({name: int(status) for status, name in re.findall(r'"code":(\d{3}),"message":"(\w+)"', nginx)})
-    return {**found, "StoreFault": 503, "Memory": 503, "NoReply": 503, "NoTeam": 403}
+    return {**found, "StoreFault": 503, "Memory": 503}
 
 
 def try_words(pages):
     """Each refusal has words, which say what it was and what to do, and its name."""
-    browser, names = pages.browser, refusals()
+    browser, names = pages.browser, {**refusals(), **OWN}
     browser.look_at("team")
-    words = browser.run(WORDS, [[status, name] for name, status in names.items()])
+    words = browser.run(WORDS, *([[status, name] for name, status in some.items()] for some in (refusals(), OWN)))
     for (name, status), said in zip(names.items(), words):
         pages.note(said.endswith(f" ({status} {name})"), f"{name} is told as {said!r}")
         pages.note(len(re.findall(r"[.?](?: |$)", said)) >= 2, f"{name} says what it was and what to do: {said!r}")
     pages.note(len(set(re.sub(r" \(.*", "", said) for said in words)) >= len(words) - 1, "each has words of its own")
-    other = browser.run(WORDS, [[418, "toString"], [502, ""]])
-    pages.note("The desk answered 418 toString." in other[0] and other[1].endswith("(502 Away)"), f"others: {other}")
+    replies = [[418, "toString"], [404, "NoTeam"], [404, "Gone"], [502, ""], [429, ""]]
+    found = [said.rpartition("(")[2] for said in browser.run(WORDS, replies, [])]
+    wanted = ["418 NotTheDesk)", "404 NotTheDesk)", "404 NotTheDesk)", "502 Away)", "429 TooManyRequests)"]
+    pages.same("replies that the desk doesn't give", found, wanted)
 
 
 def try_met(pages):
@@ -228,4 +237,4 @@ def try_met(pages):
 PARTS = [try_begin, try_scripts, try_tab, try_contrast, try_screens, try_words, try_met]
 
 if __name__ == "__main__":
-    sys.exit(program.main(__doc__, People, PARTS, program="desk", shots=pathlib.Path()))
+    sys.exit(program.main(__doc__, People, PARTS, program="desk", shots=pathlib.Path(), browser=People.BROWSERS))

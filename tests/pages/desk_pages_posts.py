@@ -1,18 +1,19 @@
 #!/usr/bin/env -S python3 -B
 """Tries what the pages of web/ post, in a browser: whose it is, how long it is kept, and what isn't sent.
 
-    desk_pages_posts.py [--program PATH] [--shots PATH]
+    desk_pages_posts.py [--program PATH] [--shots PATH] [--browser NAME]
 
 The demo contest with verification is served by the program behind Debian's nginx. What a team or a judge posts while the desk is
-away stays in the tab when they sign out; another account that signs in there doesn't send it, and its own one does. Of a token
-nothing stays. A desk that gets too many requests, as nginx says by 429, has the post later. A file that was changed after it was
-chosen, one over the limit and an empty one aren't sent unasked. The board may be looked at in a team's tab.
+away stays in the tab when they sign out; another account that signs in there doesn't send it, and its own one does, also by a new
+token. Of a token nothing stays. A desk that gets too many requests, as nginx says by 429, has the post later; so it has if a portal
+or another server answers in its place. A file that was changed after it was chosen, one over the limit and an empty one aren't sent
+unasked, nor what is more than the desk takes. An administrator replaces its own token. Other pages may be looked at in a team's tab.
 
 Takes nginx, openssl, chromium, chromium-driver and faketime. Ends with the line `N passed, M failed`; the exit status
 is 0 if M is 0.
 """
 
-import hashlib
+import json
 import os
 import pathlib
 import sys
@@ -23,6 +24,13 @@ from lib.pages import Pages
 
 TOKENS = ["token-a1", "token-a2", "token-j1", "token-j2"]
 AT = "contests/demo"
+# How long a page waits for each reply from now on, in milliseconds.
+PATIENCE = """const real = AbortSignal.timeout.bind(AbortSignal);
+window.patience = [];
+AbortSignal.timeout = (milliseconds) => {
+  window.patience.push(milliseconds);
+  return real(milliseconds);
+};"""
 
 
 class Posts(Pages):
@@ -63,6 +71,10 @@ class Posts(Pages):
         self.browser.click("#sign-in button")
         self.is_shown(token)
 
+    def replaces(self, account, token, by="token-adm"):
+        """An account gets another token."""
+        self.asks_desk(by, "POST", "jury/tokens", json.dumps({"account_id": account, "token": token}))
+
     def keeps_post(self, what, kept):
         """The tab keeps one post and nothing else; there is no token in it."""
         self.same(f"{what}: what is kept", len(kept), 1)
@@ -75,7 +87,7 @@ def try_submission(pages):
     pages.enters("shared", "team", "token-a1")
     kept = pages.goes_away(lambda: pages.submits("a"))
     pages.keeps_post("a submission", kept)
-    pages.note(hashlib.sha256(b"token-a1").hexdigest() in kept[0], f"the digest of the token names it: {kept}")
+    pages.note(" a1 " in kept[0], f"its account names it: {kept}")
     pages.signs_in("token-a2")
     other = pages.folder / "other.cpp"
     other.write_text("// of another team\n", encoding="utf-8")
@@ -90,15 +102,6 @@ def try_submission(pages):
     pages.same("what the team has then", pages.submissions("token-a1"), [("s1-1", "a", program_bytes)])
     pages.sign_out()
     pages.keeps_nothing("what the tab keeps in the end")
-
-
-def try_digest(pages):
-    """The digest that names posts is SHA-256, of texts of any length."""
-    texts = ["", "abc", "token-a1", "é" * 30, *("a" * length for length in (55, 56, 63, 64, 65, 119, 120, 128))]
-    given = pages.browser.run(
-        "const texts = arguments[0]; return import('./digest.js').then(({ digestOf }) => texts.map(digestOf))", texts
-    )
-    pages.same("digests", given, [hashlib.sha256(text.encode()).hexdigest() for text in texts])
 
 
 def hold_kept(pages, what, accounts, action, found, words):
@@ -166,16 +169,112 @@ def try_jury(pages):
     pages.keeps_nothing("what the tab keeps in the end")
 
 
+def try_new_token(pages):
+    """What waits for an answer goes out by the new token of its account, too."""
+    pages.enters("renewed", "team", "token-a2")
+    pages.keeps_post("a submission", pages.goes_away(lambda: pages.submits("b")))
+    pages.replaces("a2", "token-newer-a2")
+    pages.signs_in("token-newer-a2")
+    pages.sees("by the new token", "#told", "The desk has your submission s2-2.")
+    pages.replaces("a2", "token-a2")
+    pages.submits("a")
+    pages.sees("by a token that was replaced", "#told", "Sending .. No account has this token.")
+    pages.sign_out()
+    pages.signs_in("token-a2")
+    pages.sees("by the token that it has", "#told", "The desk has your submission s2-3.")
+    pages.sign_out()
+    pages.keeps_nothing("what the tab keeps in the end")
+
+
+def try_own_token(pages):
+    """An administrator who replaces its own token is shown it first, and goes on by it, also if the reply breaks off."""
+    browser = pages.browser
+    pages.sign_in("director", "jury", "token-adm")
+    browser.click("#tab-Teams")
+    browser.type("#replace-account", "adm")
+    with pages.breaking():
+        browser.click("#replace-button")
+        pages.sees("its own token", "dialog", "This is your own. Write the new one down first: ")
+        token = browser.text("dialog b")
+        browser.click("dialog .yes")
+        pages.sees("the reply breaks off", "#told", f"The new token of adm is {token} .")
+    pages.begin(pages.moment)
+    pages.same("whose token it is", pages.listed(f"{AT}/account", token)["id"], "adm")
+    pages.lacks("by the new token", "#away:not([hidden])")
+    browser.reload()
+    pages.sees("loaded anew", "#who", "adm (admin)")
+    browser.click("#tab-Teams")
+    browser.type("#replace-account", "adm")
+    browser.click("#replace-button")
+    token = browser.text("dialog b")
+    browser.click("dialog .yes")
+    pages.sees("once more", "#told", f"The new token of adm is {token} .")
+    pages.lacks("by that", "#away:not([hidden])")
+    pages.replaces("adm", "token-adm", by=token)
+
+
+def try_others(pages):
+    """Nothing but the desk's own word ends a post: neither another server's, nor one of nginx."""
+    browser = pages.browser
+    pages.enters("others", "team", "token-a2")
+    pages.server.stop()
+    portal = cutter.Cutter(pages.port, cutter.PORTAL)
+    pages.submits("a")
+    pages.sees("a portal", "#told", "Sending .. Another server answers in the desk's place")
+    pages.sees("a portal", "#away", "Another server answers in the desk's place")
+    portal.close()
+    pages.begin(pages.moment)
+    pages.sees("the desk is back", "#told", "The desk has your submission s2-4.")
+    forbidden = cutter.json_reply("403 Forbidden", b'{"code":403,"message":"AddressForbids"}')
+    other = cutter.json_reply("409 Conflict", b'{"code":404,"message":"NotFound"}')
+    for what, reply in (("a portal", cutter.PORTAL), ("an address", forbidden), ("another's word", other)):
+        with pages.breaking(reply=reply, is_handed=False) as breaker:
+            pages.submits("a")
+            is_posted = browser.comes(lambda: any(one.startswith(b"POST ") for one in breaker.requests))
+            pages.note(is_posted, f"{what}: it is posted")
+            time.sleep(1)
+            pages.sees(f"{what} answers a post", "#told", "Sending .. ")
+            pages.keeps_post(what, [one for one in pages.kept() if one.split()[1] == "unanswered"])
+        pages.begin(pages.moment)
+        pages.sees(f"{what}: the desk is back", "#told", "The desk has your submission s2-")
+    pages.submits("a", "java")
+    pages.sees("the desk's own word", "#told", "This language needs an entry point")
+    pages.same("what is kept then", [one for one in pages.kept() if one.split()[1] == "unanswered"], [])
+
+
+def try_large(pages):
+    """What is more than the desk takes isn't sent; what is large has more time on its way."""
+    browser = pages.browser
+    pages.sign_in("director", "jury", "token-adm")
+    browser.click("#tab-Rejudgings")
+    browser.type("#rejudge-reason", "all")
+    browser.run("document.getElementById('rejudge-ids').value = 's1-1 '.repeat(350_000)")
+    pages.nginx.answered()
+    browser.click("#rejudge-button")
+    pages.sees("too large", "#told", "This is too large: a file may have 1,048,576 bytes")
+    posted = [one for one in pages.nginx.answered() if one[1] == "POST"]
+    pages.same("what was sent", posted, [])
+    browser.look_at("others")
+    large = pages.folder / "slow.cpp"
+    large.write_bytes(b"x" * 1_048_576)
+    browser.run(PATIENCE)
+    pages.submits("b", file=large)
+    pages.sees("the largest file", "#told", "The desk has your submission s2-")
+    longest = max(browser.run("return window.patience"))
+    pages.note(20_000 + 139_000 < longest < 20_000 + 145_000, f"it has {longest} ms on its way")
+
+
 def try_too_many(pages):
     """What nginx answers by 429 is told in words, and the post goes out later, also from a page that was loaded anew."""
     browser, words = pages.browser, "The desk gets too many requests from here. This page tries again by itself."
     pages.enters("busy", "team", "token-a3")
-    pages.server.stop()
+    with pages.breaking(reply=cutter.TOO_MANY, is_handed=False) as breaker:
+        pages.submits("a")
+        is_refused = browser.comes(lambda: any(one.startswith(b"POST ") for one in breaker.requests))
+        pages.note(is_refused, "a post is answered by 429")
+        pages.sees("a post too many", "#told", f"Sending .. {words}")
     busy = cutter.Cutter(pages.port, cutter.TOO_MANY)
-    pages.submits("a")
-    pages.sees("a post too many", "#told", f"Sending .. {words}")
     pages.sees("a look too many", "#away", words)
-    pages.note(any(one.startswith(b"POST ") for one in busy.requests), "a post is answered by 429")
     browser.reload()
     pages.sees("a page that is loaded meanwhile", "#away", words)
     busy.close()
@@ -261,9 +360,11 @@ def try_board(pages):
     pages.is_signed_in("from the board to the page")
     pages.page("looking", "jury")
     pages.sees("a team on the jury's page", "#told", "Your account may not do this.")
-    browser.back()
-    is_out = browser.comes(lambda: browser.run("return !document.getElementById('sign-in').hidden"))
-    pages.note(is_out, "back to a page whose account is signed out")
+    pages.same("the jury's page stays shut", browser.run("return document.getElementById('inside').hidden"), True)
+    pages.page("looking", "ceremony")
+    pages.sees("a team at the ceremony", "#told", "Your account may not do this.")
+    pages.page("looking", "team")
+    pages.is_signed_in("the team, after pages that aren't for it")
     browser.run("sessionStorage.setItem('/demo/ token', 'nobody')")
     pages.page("looking", "scoreboard")
     pages.sees("the board in a tab of nobody's token", "#board", "Alpha")
@@ -281,8 +382,9 @@ def try_tokens(pages):
 
 
 PARTS = [
-    try_submission, try_digest, try_question, try_jury, try_too_many, try_changed_file, try_sizes, try_board, try_tokens
+    try_submission, try_question, try_jury, try_new_token, try_own_token, try_others, try_large, try_too_many, try_changed_file,
+    try_sizes, try_board, try_tokens,
 ]  # fmt: skip
 
 if __name__ == "__main__":
-    sys.exit(program.main(__doc__, Posts, PARTS, program="desk", shots=pathlib.Path()))
+    sys.exit(program.main(__doc__, Posts, PARTS, program="desk", shots=pathlib.Path(), browser=Posts.BROWSERS))

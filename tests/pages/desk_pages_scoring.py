@@ -1,7 +1,7 @@
 #!/usr/bin/env -S python3 -B
 """Holds what the pages score, and each step of a ceremony, beside the boards of the desk.
 
-    desk_pages_scoring.py [--program PATH] [--made N] [--seed N] [--shots PATH]
+    desk_pages_scoring.py [--program PATH] [--made N] [--seed N] [--shots PATH] [--browser NAME]
 
 N made contests (60), set up as desk_boards.py does, are read in a browser from the feed of `desk feed`. The page's frozen board has
 the rows of `desk board` for the public, its last one those for the jury. Each step of a ceremony has the rows of `desk replay` of the
@@ -21,19 +21,19 @@ import os
 import pathlib
 import sys
 
-from desk_boards import kept, made_case
 from lib import program
 from lib.board_lines import lines_in, lines_of
 from lib.demo import START
 from lib.desk_opinion import moment
 from lib.feed_maker import VERSIONS, FeedMaker, joined
+from lib.kept_contests import kept, made_case
 from lib.pages import Pages
-from lib.program import ROOT
+from lib.program import DATA
 from lib.replay_opinion import HEADER, Shown, read_replay, reltime_text
 
 # The boards of a feed: frozen, at the end, and at each step with what is revealed by then; and the names of its teams.
 BOARDS = """const [text] = arguments;
-const files = ['./feed.js', './scoring.js', './resolving.js'].map((name) => import(name));
+const files = ['./ceremony/feed.js', './shared/scoring.js', './ceremony/resolving.js'].map((name) => import(name));
 return Promise.all(files).then(([{ listsOf }, scoring, resolving]) => {
   const lists = listsOf(text), scored = scoring.scoredOf(lists);
   const ceremony = resolving.ceremonyOf(scored, lists.awards), steps = [];
@@ -45,10 +45,11 @@ return Promise.all(files).then(([{ listsOf }, scoring, resolving]) => {
     steps, names: Object.fromEntries(scored.teams.map(({ id, name }) => [id, name])),
   };
 });"""
-FAULT = "return import('./feed.js').then(({ listsOf }) => { try { listsOf(arguments[0]); return ''; } catch (one) { return one.message; } })"
-FIRST = """return Promise.all(['./feed.js', './scoring.js'].map((name) => import(name))).then(([{ listsOf }, scoring]) => {
+FAULT = "return import('./ceremony/feed.js').then(({ listsOf }) => { try { listsOf(arguments[0]); return ''; } catch (one) { return one.message; } })"
+FIRST = """const files = ['./ceremony/feed.js', './shared/scoring.js', './shared/firsts.js'].map((name) => import(name));
+return Promise.all(files).then(([{ listsOf }, scoring, { firstsScored }]) => {
   const scored = scoring.scoredOf(listsOf(arguments[0]));
-  const { teams, isCertain } = scoring.firstOf(scored, 'a', scoring.heldInFreeze(scored));
+  const { teams, isCertain } = firstsScored(scored, 'a', scoring.heldInFreeze(scored));
   return [teams, isCertain];
 });"""
 CONTEST = '{"type":"contest","id":null,"data":{"id":"x","name":"X","duration":"5:00:00"}}\n'
@@ -124,9 +125,9 @@ def same_audited(pages, what, data):
 def try_feeds(pages):
     """Feeds of other systems, of each version: those that stand in files, and the worked contests as feeds with all that may come in
     one."""
-    for file in sorted((ROOT / "tests/audit").glob("*.ndjson")):
+    for file in sorted((DATA / "audit").glob("*.ndjson")):
         same_audited(pages, file.name, file.read_bytes())
-    for file in sorted((ROOT / "tests/replay").rglob("*.csv")):
+    for file in sorted((DATA / "replay").rglob("*.csv")):
         for version in (*VERSIONS, None):
             maker = FeedMaker(f"{pages.options.seed}/{file.stem}/{version}", read_replay(file.read_bytes()), version)
             same_audited(pages, f"{file.stem} {version}", joined(maker, maker.write()))
@@ -189,4 +190,4 @@ def try_faults(pages):
 
 if __name__ == "__main__":
     PARTS = [try_made, try_feeds, try_anew, try_first, try_faults]
-    sys.exit(program.main(__doc__, Pages, PARTS, program="desk", made=60, seed=61, shots=pathlib.Path()))
+    sys.exit(program.main(__doc__, Pages, PARTS, program="desk", made=60, seed=61, shots=pathlib.Path(), browser=Pages.BROWSERS))

@@ -1,7 +1,7 @@
 #!/usr/bin/env -S python3 -B
 """Looks at what a team is told on its page of web/, in a browser: who it is, what is new, and what it has read.
 
-    desk_pages_team.py [--program PATH] [--shots PATH]
+    desk_pages_team.py [--program PATH] [--shots PATH] [--browser NAME]
 
 The demo contest is served by the program behind Debian's nginx. The page names the team as soon as it shows anything. What the jury
 writes, and each verdict, is counted in the title and marked until it is read, also on a page that is loaded anew or that nobody looks
@@ -18,7 +18,7 @@ import pathlib
 import sys
 import time
 
-from lib import demo, program
+from lib import program
 from lib.cutter import Cutter
 from lib.pages import Pages
 
@@ -70,7 +70,7 @@ def try_name(pages):
     """The page says from its first moment whose it is."""
     browser = pages.browser
     browser.look_at("alpha")
-    browser.tell_chromium("Page.addScriptToEvaluateOnNewDocument", {"source": WATCH})
+    browser.runs_first(WATCH)
     pages.enters("alpha", "token-a1")
     pages.same("who is signed in at first", browser.run("return window.first"), "Alpha")
     browser.reload()
@@ -177,4 +177,4 @@ def try_token(pages):
 PARTS = [try_name, try_words, try_verdicts, try_away, try_token]
 
 if __name__ == "__main__":
-    sys.exit(program.main(__doc__, Team, PARTS, program="desk", shots=pathlib.Path()))
+    sys.exit(program.main(__doc__, Team, PARTS, program="desk", shots=pathlib.Path(), browser=Team.BROWSERS))
