@@ -194,7 +194,8 @@ class DayOpinion:
             return self.proposals()
         path = exchange.path.replace(".", "/") + "/"
         of = next((team for _, which, team in self.order if f"/{which}/" in path), "t1")
-        is_of_team = name in ("files", "rejudgings") or "/judgements/" in exchange.path
+        is_of_row = any(f"/{kind}/" in exchange.path for kind in ("judgements", "submissions"))
+        is_of_team = name in ("files", "rejudgings") or is_of_row
         contest = self.of[of] if is_of_team else self.talk
         try:
             value = desk_opinion.value_of(contest, now, exchange.who, None, "GET", exchange.path, b"")

@@ -1,16 +1,16 @@
 """A page of web/ as a client: what it asks the desk for once it is loaded, every few seconds, and after a post of its
-own. What that is it reads in web/asked.js."""
+own. What that is it reads in web/shared/timetable.js."""
 
 import json
 import random
 import time
 
 from day_plan import CONTEST
-from lib.asked import asked, path_of
+from lib.timetable import path_of, timetable
 
 HERE = f"/contests/{CONTEST}"
 SETTINGS = ["problems", "languages", "teams", "groups", "judgement-types"]
-# Beats that are quicker than that are spread by a tenth (asking.js).
+# Beats that are quicker than that are spread by a tenth (web/shared/polling.js).
 HASTE = 10
 
 
@@ -41,7 +41,7 @@ class Page:
     def __init__(self, ask, kind, team=None):
         self.ask, self.team, self.is_soon = ask, team, False
         self.seen = {"submissions": set(), "judgements": set()}
-        self.beats = [Beat(**beat) for beat in asked()[kind]]
+        self.beats = [Beat(**beat) for beat in timetable()[kind]]
 
     def take(self, path, reply):
         """Takes a list, and so knows whether a submission of its own waits. A team sees the files of its own alone."""
@@ -55,11 +55,18 @@ class Page:
     def load(self):
         """What it asks for before it shows anything, and then for the first time."""
         self.ask("GET", f"{HERE}/account")
+        self.ask("GET", f"{HERE}/state")
         if self.team is not None:
             self.ask("GET", f"{HERE}/teams/{self.team}")
         self.all()
         for name in SETTINGS:
             self.ask("GET", f"{HERE}/{name}")
+
+    def before_post(self, record=None):
+        """What it asks for before each post: which contest this is and, of a decision about a record, whether it stands."""
+        self.ask("GET", f"{HERE}/state")
+        if record is not None:
+            self.ask("GET", f"{HERE}/{record}")
 
     def round(self, beats):
         for beat in beats:
