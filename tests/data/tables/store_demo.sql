@@ -1,4 +1,4 @@
--- A contest for tests/store_files.py, with rows in each table and rejudgings in each state. Each case of
+-- A contest for tests/desk/store_files.py, with rows in each table and rejudgings in each state. Each case of
 -- store_rows.tsv changes it. The tables themselves are those of crates/contest_store_tables/src/texts.rt.
 INSERT INTO desk VALUES (1, 2);
 INSERT INTO contest VALUES (1, 'demo', 'Demo Cup', 18000000, 3600000, 20, 0, 4, 4, 4, 1709370000000, NULL, NULL);
