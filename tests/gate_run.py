@@ -6,7 +6,7 @@
 The last line adds up what the parts count, and the status is 0 if none failed. A part fails that says no count, or whose
 status isn't that of its count. What a part couldn't try is named before the last line, which counts it as skipped; wrong
 bodies that are taken on their digests are told apart from that. A tool that lacks is installed first, or else the gate
-fails; .ci/run and tests/README.md name the same packages. Ends with the line `N passed, M failed`.
+fails; .ci/run and tests/README.md name the same packages. What is drawn for other browsers runs, or else the gate fails. Ends with the line `N passed, M failed`.
 """
 
 import pathlib
@@ -26,21 +26,23 @@ WORDS = ("first", "second", "alone", "pages", "halls")
 FINE = ("2 passed, 0 failed", 0)
 # The usual parts: what each says, and its status. Each row of PARTS has others in their place, then the last line, the
 # status, and the lines that are told before the last one.
-USUAL = {name: FINE for name in ("gate_scripts.py", "gate_wrong_bodies.py", "wrong_bodies", *WORDS, "rt")}
+USUAL = {name: FINE for name in ("gate_scripts.py", "gate_wrong_bodies.py", "wrong_bodies", *WORDS, "rt", "others")}
+USUAL["drawn_browsers"] = ("tests/others", 0)
 REASON = "skipped: no fresh root: no mirror\nskipped: no browser\n"
 PARTS = [
-    ("all is well", {}, "18 passed, 0 failed", 0, []),
-    ("wrong bodies on their digests", {"wrong_bodies": ("3 passed, 0 failed, 7 skipped", 0)}, "19 passed, 0 failed", 0,
+    ("all is well", {}, "20 passed, 0 failed", 0, []),
+    ("wrong bodies on their digests", {"wrong_bodies": ("3 passed, 0 failed, 7 skipped", 0)}, "21 passed, 0 failed", 0,
      ["== taken on their digests: 7 wrong bodies"]),
-    ("what couldn't be tried", {"alone": (f"{REASON}1 passed, 0 failed, 2 skipped", 0)}, "17 passed, 0 failed, 2 skipped", 0,
+    ("what couldn't be tried", {"alone": (f"{REASON}1 passed, 0 failed, 2 skipped", 0)}, "19 passed, 0 failed, 2 skipped", 0,
      ["== not tried: tests/alone: no fresh root: no mirror", "== not tried: tests/alone: no browser"]),
     ("both, side by side", {"first": ("1 passed, 0 failed, 4 skipped", 0), "wrong_bodies": ("0 passed, 0 failed, 9 skipped", 0)},
-     "15 passed, 0 failed, 4 skipped", 0, ["== taken on their digests: 9 wrong bodies", "== not tried: tests/first: 4 cases"]),
-    ("a part that fails", {"pages": ("FAILED: x\n1 passed, 1 failed", 1)}, "17 passed, 1 failed", 1, ["== failed: tests/pages"]),
-    ("no count", {"second": ("Traceback", 1)}, "16 passed, 1 failed", 1, ["tests/second said no count; its status is 1"]),
-    ("no count, and status 0", {"halls": ("", 0)}, "16 passed, 1 failed", 1, ["tests/halls said no count; its status is 0"]),
-    ("a status of its own", {"alone": ("2 passed, 0 failed", 1)}, "18 passed, 1 failed", 1, ["== failed: tests/alone"]),
-    ("proofs that fail", {"rt": ("1 passed, 3 failed", 1)}, "17 passed, 3 failed", 1, ["== failed: rt ci"]),
+     "17 passed, 0 failed, 4 skipped", 0, ["== taken on their digests: 9 wrong bodies", "== not tried: tests/first: 4 cases"]),
+    ("a part that fails", {"pages": ("FAILED: x\n1 passed, 1 failed", 1)}, "19 passed, 1 failed", 1, ["== failed: tests/pages"]),
+    ("no count", {"second": ("Traceback", 1)}, "18 passed, 1 failed", 1, ["tests/second said no count; its status is 1"]),
+    ("no count, and status 0", {"halls": ("", 0)}, "18 passed, 1 failed", 1, ["tests/halls said no count; its status is 0"]),
+    ("a status of its own", {"alone": ("2 passed, 0 failed", 1)}, "20 passed, 1 failed", 1, ["== failed: tests/alone"]),
+    ("proofs that fail", {"rt": ("1 passed, 3 failed", 1)}, "19 passed, 3 failed", 1, ["== failed: rt ci"]),
+    ("no other browser is drawn", {"drawn_browsers": ("", 1)}, "18 passed, 1 failed", 1, [" said no count; its status is 0"]),
 ]  # fmt: skip
 
 
@@ -103,7 +105,7 @@ def try_parts(tally):
 
 def try_tools(tally):
     """A tool that lacks is installed before a script begins; if it lacks still, the gate fails."""
-    for brings, last, status in ((("ps",), "18 passed, 0 failed", 0), ((), "18 passed, 1 failed", 1)):
+    for brings, last, status in ((("ps",), "20 passed, 0 failed", 0), ((), "20 passed, 1 failed", 1)):
         with tempfile.TemporaryDirectory() as folder:
             repository = Repository(pathlib.Path(folder), USUAL, lacking=("ps",), brings=brings)
             judged(tally, f"ps lacks, and apt-get brings {brings}", repository, last, status, [])

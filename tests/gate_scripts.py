@@ -17,7 +17,7 @@ from lib.program import ROOT, TESTS
 from lib.tally import Tally
 
 # The test command runs them itself: they need no program.
-GATE = {"tests/gate_scripts.py", "tests/gate_wrong_bodies.py", "tests/wrong_bodies"}
+GATE = {"tests/gate_scripts.py", "tests/gate_wrong_bodies.py", "tests/wrong_bodies", "tests/drawn_browsers"}
 BESIDE = {"examples/day/follow_guide.py"}
 
 
