@@ -28,9 +28,10 @@ def rows():
 
 
 def told():
-    """The scripts that the page names in the first column of its first table."""
-    table = (TESTS / "README.md").read_text(encoding="utf-8").split("\n\n")[2]
-    names = re.findall(r"(?m)^\| `([^`]+)`", table)
+    """The scripts that the page names in the first column of the tables of its folders and of the test command."""
+    page = (TESTS / "README.md").read_text(encoding="utf-8")
+    tables = page[page.index("\n| File | What |") : page.index("\n## lib/ and data/")]
+    names = re.findall(r"(?m)^\| `([^`]+)`", tables)
     return {name.removeprefix("../") if name.startswith("../") else f"tests/{name}" for name in names}
 
 
