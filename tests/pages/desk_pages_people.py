@@ -66,22 +66,24 @@ for (const at of document.querySelectorAll("#program .line")) {
 }
 return found;"""
 # What can be pressed or filled in, each radio button's group once. Whoever presses Tab comes to it (`seen`); what is under the head then
-# is in `hidden`.
+# is in `hidden`, by the event at which a browser has scrolled to it.
 STEPS = 24  # so many more times is Tab pressed, since a field for a moment has a stop for each of its parts
 PRESSED = "a[href], button:not(:disabled), input, select, textarea, [tabindex='0']"
 WATCH = """const head = document.querySelector("header");
 window.seen = new Set();
 window.hidden = [];
-document.addEventListener("focusin", ({ target }) => {
-  window.seen.add(target);
+window.look = ({ target }) => {
   if (head.contains(target)) return;
   const box = target.getBoundingClientRect();
   if (box.bottom <= head.getBoundingClientRect().bottom || box.top >= innerHeight) window.hidden.push(target.outerHTML.slice(0, 90));
-});
+};
+for (const kind of ["focus", "focusin"]) document.addEventListener(kind, ({ target }) => window.seen.add(target), true);
+document.addEventListener(arguments[0], window.look);
 document.activeElement.blur();
 scrollTo(0, 0);"""
 MISSED = """const all = [...document.querySelectorAll(arguments[0])].filter((one) => one.checkVisibility());
 const isSeen = (one) => window.seen.has(one) || (one.name && one.type === "radio" && [...window.seen].some((two) => two.name === one.name));
+window.look({ target: document.activeElement });
 return [all.length, all.filter((one) => !isSeen(one)).map((one) => one.outerHTML.slice(0, 90)), window.hidden];"""
 # What a page tells of replies, each a status and a name in its body, and of what it says by itself, each such a pair too.
 WORDS = """const [replies, own] = arguments;
@@ -149,7 +151,7 @@ def try_tab(pages):
     """All that can be pressed is reached by Tab, and is seen then."""
     browser = pages.browser
     for who in pages.everywhere():
-        browser.run(WATCH)
+        browser.run(WATCH, browser.SCROLLED)
         count = browser.run(MISSED, PRESSED)[0]
         browser.press(*["Tab"] * (count + STEPS))
         count, missed, hidden = browser.run(MISSED, PRESSED)

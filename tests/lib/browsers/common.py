@@ -53,7 +53,8 @@ class Browser:
     A back has: open, reload, back, run, new_window, go_to, clear, write, act, picture and end; and what not every browser can:
     as_wide_as, as_usual, sheets, shows_scheme, shows_zone, spoken, runs_first and without."""
 
-    NAME = ""
+    # SCROLLED: the event by which a page is scrolled to what a key has given the focus.
+    NAME, SCROLLED = "", "focusin"
 
     def __init__(self, folder):
         self.folder, self.windows = folder, {}

@@ -25,6 +25,7 @@ LONG = 200
 TAKE = """const field = document.querySelector(arguments[0]);
 field.value = arguments[1];
 field.dispatchEvent(new Event("input", { bubbles: true }));"""
+DRAWN = "return new Promise((done) => requestAnimationFrame(() => requestAnimationFrame(done)))"
 BY_CONTENT = ("cell", "columnheader", "rowheader")
 PATIENCE = 60
 
@@ -49,7 +50,8 @@ def is_ready(port):
 
 
 class WebKit(Served, Driven):
-    NAME = "webkit"
+    # It scrolls to a field once it draws the page, so by the next key.
+    NAME, SCROLLED = "webkit", "keydown"
 
     def __init__(self, folder, nginx):
         super().__init__(folder, nginx)
@@ -112,6 +114,12 @@ class WebKit(Served, Driven):
         if len(text) > LONG:
             self.run_here(TAKE, css, text[:-LONG])
         super().write(css, text[-LONG:])
+
+    def press(self, *keys):
+        """As a person does, who presses a key once what the one before did is drawn."""
+        for key in keys:
+            super().press(key)
+            self.run_here(DRAWN)
 
     def give_file(self, css, file):
         Driven.write(self, css, str(file))
