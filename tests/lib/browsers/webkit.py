@@ -110,10 +110,12 @@ class WebKit(Served, Driven):
         return super().find(css)
 
     def write(self, css, text):
-        """Types a text. The driver takes long for each key, so all of a long text but its end is put into the field at once."""
+        """Types a text. The driver takes long for each key, so all of a long text but its end is put into the field at once. It
+        refuses to type nothing."""
         if len(text) > LONG:
             self.run_here(TAKE, css, text[:-LONG])
-        super().write(css, text[-LONG:])
+        if text:
+            super().write(css, text[-LONG:])
 
     def press(self, *keys):
         """As a person does, who presses a key once what the one before did is drawn."""
