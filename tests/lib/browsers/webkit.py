@@ -26,6 +26,9 @@ TAKE = """const field = document.querySelector(arguments[0]);
 field.value = arguments[1];
 field.dispatchEvent(new Event("input", { bubbles: true }));"""
 DRAWN = "return new Promise((done) => requestAnimationFrame(() => requestAnimationFrame(done)))"
+# Ends once the browser knows how a chosen file is, from where on it tells a change: it asks for that beside the page.
+TAKEN = """const [file] = document.querySelector(arguments[0])?.files ?? [];
+return file?.slice(0, 1).arrayBuffer().then(() => true, () => false);"""
 BY_CONTENT = ("cell", "columnheader", "rowheader")
 PATIENCE = 60
 
@@ -125,6 +128,7 @@ class WebKit(Served, Driven):
 
     def give_file(self, css, file):
         Driven.write(self, css, str(file))
+        self.run_here(TAKEN, css)
 
     def load(self, address):
         Driven.open(self, address)
