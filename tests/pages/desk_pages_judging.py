@@ -36,8 +36,12 @@ PLACE = """const one = document.activeElement;
 return [one.dataset.look ?? one.tagName, scrollY, document.querySelector('#program').scrollTop];"""
 GO_TO = "const one = document.querySelector(arguments[0]); one.scrollIntoView({ block: 'center' }); one.focus()"
 LIST = "return [...document.querySelectorAll('#waiting tbody tr')].map((one) => one.dataset.id)"
-# The marks of direction that are shown, and whether the letters behind the first go from left to right.
-MARKS = """return [...document.querySelectorAll('#program .mark')].map((one) => getComputedStyle(one, '::before').content.slice(1, -1));"""
+# The marks of direction that are shown, and whether the letters behind the first go from left to right. Firefox tells of which
+# attribute it shows the text, and Chromium the text.
+MARKS = """return [...document.querySelectorAll('#program .mark')].map((one) => {
+  const { content } = getComputedStyle(one, '::before'), name = /^attr\\(([\\w-]+)\\)$/.exec(content)?.[1];
+  return name ? one.getAttribute(name) : content.slice(1, -1);
+});"""
 IN_ORDER = """const text = document.querySelector('#program .mark')?.nextSibling ?? document.querySelector('#program .line:nth-child(2)').firstChild;
 const lefts = [0, 1, 2, 3].map((place) => {
   const range = document.createRange();

@@ -1,7 +1,8 @@
 """What runs before each script of a test, so that the text which a page shows is the same in all browsers.
 
 Firefox leaves marks of direction out of it, and Firefox and WebKit what a list to choose from has. No page of web/ asks for that
-text, so only the tests are told. Each text that has marks stands in the place of what was left of it.
+text, so only the tests are told. Each text that has marks stands in the place of what was left of it; of one that is nothing but
+marks, nothing was left, so what holds it stands there with the texts beside it.
 """
 
 WHOLE_TEXT = """if (!("plainText" in HTMLElement.prototype)) {
@@ -9,13 +10,17 @@ WHOLE_TEXT = """if (!("plainText" in HTMLElement.prototype)) {
   const plain = Object.getOwnPropertyDescriptor(HTMLElement.prototype, "innerText");
   const withMarks = (text, element) => {
     const walker = document.createTreeWalker(element, NodeFilter.SHOW_TEXT);
-    let from = 0;
+    let from = 0, last = null;
     while (walker.nextNode()) {
-      const data = walker.currentNode.data.trim(), bare = data.replace(marks, "");
-      const at = bare === data || text.includes(data, from) ? -1 : text.indexOf(bare, from);
+      let whole = walker.currentNode;
+      if (!whole.data.match(marks) || last?.contains(whole)) continue;
+      while (whole !== element && whole.textContent.replace(marks, "").trim() === "") whole = whole.parentNode;
+      const data = whole.textContent.trim(), bare = data.replace(marks, "");
+      const at = text.includes(data, from) ? -1 : text.indexOf(bare, from);
       if (at < 0) continue;
       text = text.slice(0, at) + data + text.slice(at + bare.length);
       from = at + data.length;
+      last = whole;
     }
     return text;
   };
