@@ -4,11 +4,12 @@ import atexit
 import base64
 import re
 import subprocess
+import time
 import zlib
 
 from ..nginx import free_port
 from .by_nginx import Served
-from .common import BrowserError, environment
+from .common import PATIENCE, BrowserError, environment
 from .marionette import Marionette
 from .webdriver import ELEMENT
 
@@ -20,6 +21,11 @@ user_pref("browser.shell.checkDefaultBrowser", false);
 # A page in a tab has the size that its part of the window is given; "" is as large as that is.
 FIT = """const { style } = gBrowser.selectedBrowser;
 [style.minWidth, style.maxWidth, style.minHeight, style.maxHeight] = [arguments[0], arguments[0], arguments[1], arguments[1]];"""
+# What a script comes to, in an array, which is never null.
+ANSWERED = """const value = (function () {
+%s
+}).apply(null, arguments);
+return typeof value?.then === "function" ? value.then((one) => [one]) : [value];"""
 # Whether nothing of the page has the focus; and what puts it before all that can have it.
 IS_AWAY = "return document.activeElement === document.body || !document.hasFocus()"
 TO_TOP = """const { body } = document;
@@ -80,7 +86,14 @@ class Firefox(Served):
         self.port.tell("WebDriver:Back")
 
     def run_here(self, script, *values):
-        return self.port.value("WebDriver:ExecuteScript", script=script, args=list(values))
+        """Runs a script. One of a page that is left just then is answered by null, and runs in the page that comes."""
+        end = time.monotonic() + PATIENCE
+        while time.monotonic() < end:
+            answered = self.port.value("WebDriver:ExecuteScript", script=ANSWERED % script, args=list(values))
+            if answered is not None:
+                return answered[0]
+            time.sleep(0.1)
+        raise BrowserError("no page answers a script")
 
     def run_within(self, script, *values):
         """Runs a script in the window around the pages."""
