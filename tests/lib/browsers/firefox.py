@@ -14,7 +14,12 @@ from .marionette import Marionette
 from .webdriver import ELEMENT
 
 SIZE = {"width": 1600, "height": 986}
+# It lends a page room of its storage ahead, which it takes back some seconds later: then a full storage isn't full. None is lent.
 SETTINGS = """user_pref("marionette.port", %d);
+user_pref("dom.storage.snapshot_peak_usage.initial_preincrement", 0);
+user_pref("dom.storage.snapshot_peak_usage.reduced_initial_preincrement", 0);
+user_pref("dom.storage.snapshot_peak_usage.gradual_preincrement", 0);
+user_pref("dom.storage.snapshot_peak_usage.reduced_gradual_preincrement", 0);
 user_pref("browser.tabs.unloadOnLowMemory", false);
 user_pref("browser.shell.checkDefaultBrowser", false);
 """
