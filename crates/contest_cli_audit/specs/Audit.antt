@@ -7,9 +7,9 @@ use Rattle.contest_types.specs.declared.refusal.Refusal.TheVariants.{Memory}
 use Rattle.contest_streams.specs.Streams.{Counting, Stream, Fails, Tells, AppendsFront}
 use Rattle.contest_replay.specs.ReplayContest.{marks_for}
 use Rattle.contest_score.specs.Ranking.{Scoreboard}
-use Rattle.contest_feed.specs.FeedContests.{contest_in_feed}
-use Rattle.contest_feed.specs.declared.feed_contest.FeedContest.{FeedContest}
-use Rattle.contest_feed.specs.declared.feed_contest.LeftOut.{LeftOut}
+use Rattle.contest_feed_reader.specs.FeedContests.{contest_in_feed}
+use Rattle.contest_feed_reader.specs.declared.feed_contest.FeedContest.{FeedContest}
+use Rattle.contest_feed_reader.specs.declared.feed_contest.LeftOut.{LeftOut}
 use Rattle.contest_shadow.specs.Comparisons.{comparison_text, has_difference}
 use Rattle.contest_shadow.specs.declared.other_row.OtherRow.{OtherRow}
 use Rattle.contest_cli_words.specs.CommandErrors.{exit_status_of, line_of}

@@ -1,7 +1,7 @@
 -- The line that tells how much of a feed counts for nothing.
 use Rattle.std.specs.Prelude.{ℕ, ◌&&◌, ◌++◌, ◌==◌, Bool, List, codes}
 use Rattle.std.specs.Fmt.{decimal}
-use Rattle.contest_feed.specs.declared.feed_contest.LeftOut.{LeftOut}
+use Rattle.contest_feed_reader.specs.declared.feed_contest.LeftOut.{LeftOut}
 
 -- `left out: <n> submissions, <m> judgements`
 abbrev pub left_out_line : LeftOut → List ℕ

@@ -2,7 +2,7 @@
 use Rattle.std.specs.Prelude.{◌≡◌, ◌≢◌, ◌≤◌, ◌⊎◌, ℕ, Bool, true, false, List, Option, IfSome, Err, codes, if◌then◌else◌, string_bytes}
 use Rattle.contest_types.specs.declared.refusal.Refusal.TheVariants.{Memory}
 use Rattle.contest_streams.specs.Streams.{Stream, Fails, Tells, AppendsFront}
-use Rattle.contest_feed.specs.FeedContests.{contest_in_feed}
+use Rattle.contest_feed_reader.specs.FeedContests.{contest_in_feed}
 use Rattle.contest_shadow.specs.declared.other_row.OtherRow.{OtherRow}
 use Rattle.contest_cli_words.specs.declared.command_error.CommandError.{CommandError}
 use Rattle.contest_cli_words.specs.declared.command_error.CommandError.TheVariants.{Usage, Refused, File, Clock, Net}

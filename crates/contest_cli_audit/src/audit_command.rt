@@ -2,7 +2,7 @@
 //! another system's.
 ghost use Rattle.std.specs.Prelude.{◌≡◌, Ok, IfErr, IfOk, IfSome, map, string_bytes};
 ghost use Rattle.contest_streams.specs.Streams.{stream};
-ghost use Rattle.contest_feed.specs.FeedContests.{contest_in_feed};
+ghost use Rattle.contest_feed_reader.specs.FeedContests.{contest_in_feed};
 ghost use Rattle.contest_shadow.specs.Comparisons.{comparison_text, has_difference};
 ghost use Rattle.contest_cli_replay.specs.ReplayText.{asked_board};
 ghost use Rattle.contest_cli_words.specs.CommandErrors.{IsMemory};
@@ -15,7 +15,7 @@ use crate::other_board::other_board;
 use contest_cli_machine::Outside;
 use contest_cli_replay::{ReplayWords, contest_board, contest_text};
 use contest_cli_words::{CommandError, read_words, tell};
-use contest_feed::{FeedContest, FeedFault, LeftOut, read_feed};
+use contest_feed_reader::{FeedContest, FeedFault, LeftOut, read_feed};
 use contest_replay::ReplayContest;
 use contest_shadow::{Comparison, OtherRow, compare};
 use contest_streams::{Counted, write_all};

@@ -4,7 +4,7 @@ ghost use Rattle.contest_cli_audit.specs.LeftOutLine.{is_nothing, left_out_line}
 
 use arrayvec::ArrayString;
 use contest_cli_words::{LINE, push_number};
-use contest_feed::LeftOut;
+use contest_feed_reader::LeftOut;
 
 /// `left out: <n> submissions, <m> judgements`.
 pub(crate) fn left_out_line(left_out: LeftOut) -> ArrayString<LINE>

@@ -1,7 +1,7 @@
 //! The product's own readers, asked whether a record is on its form: so no rule of a form is
 //! written here.
 
-use contest_feed::{FeedFault, read_feed};
+use contest_feed_reader::{FeedFault, read_feed};
 use contest_import::{read_contest_json, read_import};
 use contest_import_verdicts::read_verdicts_csv;
 use contest_lists::Lists;

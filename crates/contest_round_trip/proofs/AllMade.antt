@@ -17,8 +17,8 @@ use Rattle.contest_types.specs.declared.objects.Problem.{Problem}
 use Rattle.contest_types.proofs.InOrderLemmas.{map_has, option_has}
 use Rattle.contest_types.proofs.JudgementLemmas.{listed_judgements}
 use Rattle.contest_types.proofs.SeenWhole.{all_has}
-use Rattle.contest_feed.specs.FeedTypes.{GroupRead, JudgementRead, ProblemRead, SubmissionRead, TeamRead, TypeRead}
-use Rattle.contest_feed.specs.Objects.{group_members, judgement_members, problem_members, submission_members, team_members, type_members}
+use Rattle.contest_feed_reader.specs.FeedTypes.{GroupRead, JudgementRead, ProblemRead, SubmissionRead, TeamRead, TypeRead}
+use Rattle.contest_feed_reader.specs.Objects.{group_members, judgement_members, problem_members, submission_members, team_members, type_members}
 use Rattle.contest_round_trip.specs.Audited.{listed_problems}
 use Rattle.contest_round_trip.specs.Forms.{HasForms, IsMoment, IsRelease}
 use Rattle.contest_round_trip.proofs.HeardEvents.{IsMade, Made}

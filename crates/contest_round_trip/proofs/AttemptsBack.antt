@@ -26,10 +26,10 @@ use Rattle.contest_types.proofs.SeenWhole.{seen_rises}
 use Rattle.contest_score.specs.MaskedCells.{start_of}
 use Rattle.contest_score.specs.declared.submission.JudgedSubmission.{JudgedSubmission}
 use Rattle.contest_score.proofs.MaskLemmas.{filter_mapped}
-use Rattle.contest_feed.specs.FeedContests.{attempt_by, attempts_of, by_time, put_by_time}
-use Rattle.contest_feed.specs.FeedTypes.{JudgementRead}
-use Rattle.contest_feed.specs.References.{ids_of}
-use Rattle.contest_feed.specs.Verdicts.{judges, last_judgement, later, place_by, verdict_in, verdict_of}
+use Rattle.contest_feed_reader.specs.FeedContests.{attempt_by, attempts_of, by_time, put_by_time}
+use Rattle.contest_feed_reader.specs.FeedTypes.{JudgementRead}
+use Rattle.contest_feed_reader.specs.References.{ids_of}
+use Rattle.contest_feed_reader.specs.Verdicts.{judges, last_judgement, later, place_by, verdict_in, verdict_of}
 use Rattle.contest_round_trip.specs.Audited.{audited_attempt, audited_attempts, listed_problems}
 use Rattle.contest_round_trip.proofs.FaultlessBack.{ids_rows, objects_rows}
 use Rattle.contest_round_trip.proofs.HeardEvents.{Made, rows_from}

@@ -25,12 +25,12 @@ use Rattle.contest_view.specs.Feeds.{feed_events}
 use Rattle.contest_replay.specs.ReplayContest.{marks_for, up_to}
 use Rattle.contest_replay.specs.ReplayLists.{within}
 use Rattle.contest_replay.proofs.ReplayContestLemmas.{replayed_board}
-use Rattle.contest_feed.specs.FeedContests.{attempts_of, contest_by, contest_if, contest_in_feed, contest_of, left_out_of, settings_of}
-use Rattle.contest_feed.specs.FeedTypes.{JudgementRead, RowRead, SubmissionRead, TablesRead}
-use Rattle.contest_feed.specs.Objects.{ContestMembers}
-use Rattle.contest_feed.specs.References.{counts, ids_of}
-use Rattle.contest_feed.specs.Tables.{no_tables}
-use Rattle.contest_feed.specs.declared.feed_contest.FeedContest.{FeedContest}
+use Rattle.contest_feed_reader.specs.FeedContests.{attempts_of, contest_by, contest_if, contest_in_feed, contest_of, left_out_of, settings_of}
+use Rattle.contest_feed_reader.specs.FeedTypes.{JudgementRead, RowRead, SubmissionRead, TablesRead}
+use Rattle.contest_feed_reader.specs.Objects.{ContestMembers}
+use Rattle.contest_feed_reader.specs.References.{counts, ids_of}
+use Rattle.contest_feed_reader.specs.Tables.{no_tables}
+use Rattle.contest_feed_reader.specs.declared.feed_contest.FeedContest.{FeedContest}
 use Rattle.contest_round_trip.specs.Audited.{audited_attempt, audited_attempts, listed_problems}
 use Rattle.contest_round_trip.specs.Forms.{HasForms}
 use Rattle.contest_round_trip.specs.JurysFeeds.{IsAuditedTo, audited_rows, jurys_feed}

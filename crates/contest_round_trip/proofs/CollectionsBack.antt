@@ -13,13 +13,13 @@ use Rattle.contest_types.proofs.PlaceLemmas.{differs, or_left, or_right}
 use Rattle.contest_files.specs.JsonMembers.{list_of, present_in, unless_null}
 use Rattle.contest_objects.specs.EventFeed.{FeedEvent, item_event}
 use Rattle.contest_objects.specs.Items.{Item}
-use Rattle.contest_feed.specs.Collections.{change_by, change_in, name_by, name_of, named, put, rows_after}
-use Rattle.contest_feed.specs.Collections.Change.{Put}
-use Rattle.contest_feed.specs.Events as heard
-use Rattle.contest_feed.specs.Events.{kind_of}
-use Rattle.contest_feed.specs.FeedTypes.{RowRead, TablesRead}
-use Rattle.contest_feed.specs.References.{ids_of}
-use Rattle.contest_feed.specs.Tables.{after_kind, or_fault_at, with_rows}
+use Rattle.contest_feed_reader.specs.Collections.{change_by, change_in, name_by, name_of, named, put, rows_after}
+use Rattle.contest_feed_reader.specs.Collections.Change.{Put}
+use Rattle.contest_feed_reader.specs.Events as heard
+use Rattle.contest_feed_reader.specs.Events.{kind_of}
+use Rattle.contest_feed_reader.specs.FeedTypes.{RowRead, TablesRead}
+use Rattle.contest_feed_reader.specs.References.{ids_of}
+use Rattle.contest_feed_reader.specs.Tables.{after_kind, or_fault_at, with_rows}
 use Rattle.contest_round_trip.proofs.HeardEvents.{IsMade, Made, after_events, heard_event, rows_from}
 use Rattle.contest_round_trip.proofs.PlainObjects.{of_all}
 

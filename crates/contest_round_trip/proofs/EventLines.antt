@@ -14,12 +14,12 @@ use Rattle.contest_types.specs.declared.refusal.Refusal.{Refusal}
 use Rattle.contest_types.specs.declared.refusal.Refusal.TheVariants.{BodyTooLarge}
 use Rattle.contest_files.specs.JsonMembers.{data_of}
 use Rattle.contest_objects.specs.EventFeed.{FeedEvent, event_data, event_line, lines_from}
-use Rattle.contest_feed.specs.Events.{event_in, event_of, kind_of}
-use Rattle.contest_feed.specs.Lines.{Line, is_too_large, lines_after}
-use Rattle.contest_feed.specs.Tables.{after_event, after_kind, after_line, after_lines, or_fault_at}
-use Rattle.contest_feed.specs.FeedTypes.{TablesRead}
-use Rattle.contest_feed.specs.declared.limits.TheConstants.{FEED, FEED_LINE}
-use Rattle.contest_feed.proofs.LineLemmas.{inside_line}
+use Rattle.contest_feed_reader.specs.Events.{event_in, event_of, kind_of}
+use Rattle.contest_feed_reader.specs.Lines.{Line, is_too_large, lines_after}
+use Rattle.contest_feed_reader.specs.Tables.{after_event, after_kind, after_line, after_lines, or_fault_at}
+use Rattle.contest_feed_reader.specs.FeedTypes.{TablesRead}
+use Rattle.contest_feed_reader.specs.declared.limits.TheConstants.{FEED, FEED_LINE}
+use Rattle.contest_feed_reader.proofs.LineLemmas.{inside_line}
 use Rattle.contest_round_trip.proofs.HeardEvents.{ComesTo, IsRead, after_events, heard_event}
 use Rattle.contest_round_trip.proofs.JsonText.{read_back, text_in_line, utf8_text}
 use Rattle.contest_round_trip.proofs.PlainObjects.{IsPlain, last_member, next_member, object_plain, of_all, text_or_null_plain, text_plain}

@@ -12,8 +12,8 @@ use Rattle.contest_types.specs.Places.{are_different, is_among}
 use Rattle.contest_types.specs.declared.limits.TheConstants.{GROUPS, JUDGEMENT_TYPES, PROBLEMS, TEAMS, TEAM_SUBMISSIONS}
 use Rattle.contest_types.specs.declared.refusal.Cause.TheVariants.{TableFull}
 use Rattle.contest_types.proofs.PlaceLemmas.{bytes_same, differs, or_left, or_right, same_bytes}
-use Rattle.contest_feed.specs.FeedTypes.{JudgementRead, ProblemRead, RowRead, SubmissionRead, TablesRead}
-use Rattle.contest_feed.specs.References.{counted, counts, first_fault, full_faults, ids_of, judgement_faults, problem_faults, submission_fault, submission_faults, verdict_fault}
+use Rattle.contest_feed_reader.specs.FeedTypes.{JudgementRead, ProblemRead, RowRead, SubmissionRead, TablesRead}
+use Rattle.contest_feed_reader.specs.References.{counted, counts, first_fault, full_faults, ids_of, judgement_faults, problem_faults, submission_fault, submission_faults, verdict_fault}
 use Rattle.contest_round_trip.proofs.CollectionsBack.{made_ids}
 use Rattle.contest_round_trip.proofs.HeardEvents.{Made, rows_from}
 

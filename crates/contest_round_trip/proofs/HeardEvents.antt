@@ -10,10 +10,10 @@ use Rattle.contest_types.specs.declared.refusal.Refusal.{Refusal}
 use Rattle.contest_types.specs.declared.refusal.Refusal.TheVariants.{BodyTooLarge}
 use Rattle.contest_objects.specs.EventFeed.{FeedEvent}
 use Rattle.contest_objects.specs.Items.{Item}
-use Rattle.contest_feed.specs.Events as heard
-use Rattle.contest_feed.specs.Events.{kind_of}
-use Rattle.contest_feed.specs.Tables.{after_kind, or_fault_at}
-use Rattle.contest_feed.specs.FeedTypes.{RowRead, TablesRead}
+use Rattle.contest_feed_reader.specs.Events as heard
+use Rattle.contest_feed_reader.specs.Events.{kind_of}
+use Rattle.contest_feed_reader.specs.Tables.{after_kind, or_fault_at}
+use Rattle.contest_feed_reader.specs.FeedTypes.{RowRead, TablesRead}
 use Rattle.contest_round_trip.proofs.PlainObjects.{IsPlain}
 
 -- an event as its line is read

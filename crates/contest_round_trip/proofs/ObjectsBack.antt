@@ -26,8 +26,8 @@ use Rattle.contest_import.specs.ContestFile.{freeze_of}
 use Rattle.contest_objects.specs.ContestObjects.{contest_data}
 use Rattle.contest_objects.specs.SettingsObjects.{group_item, problem_item, team_item, type_item}
 use Rattle.contest_objects.specs.Times.{span_or_null}
-use Rattle.contest_feed.specs.FeedTypes.{GroupRead, ProblemRead, TeamRead, TypeRead}
-use Rattle.contest_feed.specs.Objects.{ContestMembers, are_in_range, contest_members, group_members, problem_members, team_members, type_members}
+use Rattle.contest_feed_reader.specs.FeedTypes.{GroupRead, ProblemRead, TeamRead, TypeRead}
+use Rattle.contest_feed_reader.specs.Objects.{ContestMembers, are_in_range, contest_members, group_members, problem_members, team_members, type_members}
 use Rattle.contest_round_trip.specs.Forms.{HasNames, IsCalled, IsProblem}
 use Rattle.contest_round_trip.proofs.ContestTimes.{span_back}
 use Rattle.contest_round_trip.proofs.HeardEvents.{IsMade, Made}

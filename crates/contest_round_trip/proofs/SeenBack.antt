@@ -24,8 +24,8 @@ use Rattle.contest_objects.specs.Objects.{files_data, submission_data, submissio
 use Rattle.contest_objects.specs.Objects as served
 use Rattle.contest_objects.specs.Times.{contest_time_data}
 use Rattle.contest_view.specs.Reads.{submission_item}
-use Rattle.contest_feed.specs.FeedTypes.{JudgementRead, SubmissionRead}
-use Rattle.contest_feed.specs.Objects.{judgement_members, submission_members}
+use Rattle.contest_feed_reader.specs.FeedTypes.{JudgementRead, SubmissionRead}
+use Rattle.contest_feed_reader.specs.Objects.{judgement_members, submission_members}
 use Rattle.contest_score.specs.MaskedCells.{start_of}
 use Rattle.contest_round_trip.specs.Forms.{HasNames, IsMoment}
 use Rattle.contest_round_trip.proofs.ContestTimes.{near, since_back, span_back}

@@ -34,9 +34,9 @@ use Rattle.contest_types.proofs.InOrderLemmas.{map_has}
 use Rattle.contest_types.proofs.PlaceLemmas.{and_right, bytes_same, same_bytes}
 use Rattle.contest_types.proofs.SeriesLemmas.{in_any}
 use Rattle.contest_types.proofs.ValidParts.{four, parts}
-use Rattle.contest_feed.specs.FeedContests.{hides, is_hidden, problem_of, team_of, type_of}
-use Rattle.contest_feed.specs.FeedTypes.{JudgementRead, ProblemRead, RowRead, SubmissionRead, TablesRead}
-use Rattle.contest_feed.specs.References.{first_fault, ids_of, verdict_fault}
+use Rattle.contest_feed_reader.specs.FeedContests.{hides, is_hidden, problem_of, team_of, type_of}
+use Rattle.contest_feed_reader.specs.FeedTypes.{JudgementRead, ProblemRead, RowRead, SubmissionRead, TablesRead}
+use Rattle.contest_feed_reader.specs.References.{first_fault, ids_of, verdict_fault}
 use Rattle.contest_round_trip.specs.Audited.{listed_problems, spot_of}
 use Rattle.contest_round_trip.proofs.FaultlessBack.{IsSound, faultless, ids_rows, length_rows, placed_among, row_of}
 use Rattle.contest_round_trip.proofs.HeardEvents.{rows_from}

@@ -17,10 +17,10 @@ use Rattle.contest_view.specs.Clarifications.{clarification_items}
 use Rattle.contest_view.specs.Feeds.{events, feed_events}
 use Rattle.contest_view.specs.Judgements as view
 use Rattle.contest_view.specs.Reads.{submission_item}
-use Rattle.contest_feed.specs.Collections.{rows_after}
-use Rattle.contest_feed.specs.FeedTypes.{GroupRead, JudgementRead, ProblemRead, SubmissionRead, TablesRead, TeamRead, TypeRead}
-use Rattle.contest_feed.specs.Objects.{ContestMembers, contest_members, group_members, judgement_members, problem_members, submission_members, team_members, type_members}
-use Rattle.contest_feed.specs.Tables.{no_tables, or_fault_at, with_rows}
+use Rattle.contest_feed_reader.specs.Collections.{rows_after}
+use Rattle.contest_feed_reader.specs.FeedTypes.{GroupRead, JudgementRead, ProblemRead, SubmissionRead, TablesRead, TeamRead, TypeRead}
+use Rattle.contest_feed_reader.specs.Objects.{ContestMembers, contest_members, group_members, judgement_members, problem_members, submission_members, team_members, type_members}
+use Rattle.contest_feed_reader.specs.Tables.{no_tables, or_fault_at, with_rows}
 use Rattle.contest_round_trip.specs.Audited.{listed_problems}
 use Rattle.contest_round_trip.proofs.CollectionsBack.{collection_back, events_of, made_ids, puts, unused_back}
 use Rattle.contest_round_trip.proofs.HeardEvents.{IsMade, Made, after_events, rows_from}

@@ -11,8 +11,8 @@ use Rattle.contest_score.specs.declared.row.Row.{Row}
 use Rattle.contest_objects.specs.EventFeed.{feed_text}
 use Rattle.contest_view.specs.Feeds.{feed_events}
 use Rattle.contest_replay.specs.ReplayContest.{marks_for, replay_contest, up_to}
-use Rattle.contest_feed.specs.FeedContests.{contest_in_feed}
-use Rattle.contest_feed.specs.declared.feed_contest.FeedContest.{FeedContest}
+use Rattle.contest_feed_reader.specs.FeedContests.{contest_in_feed}
+use Rattle.contest_feed_reader.specs.declared.feed_contest.FeedContest.{FeedContest}
 use Rattle.contest_round_trip.specs.Forms.{HasForms}
 
 -- the bytes of the feed that the jury is given at a moment
