@@ -10,8 +10,8 @@ use Rattle.contest_score.specs.Ranking.{Scoreboard}
 use Rattle.contest_feed_reader.specs.FeedContests.{contest_in_feed}
 use Rattle.contest_feed_reader.specs.declared.feed_contest.FeedContest.{FeedContest}
 use Rattle.contest_feed_reader.specs.declared.feed_contest.LeftOut.{LeftOut}
-use Rattle.contest_shadow.specs.Comparisons.{comparison_text, has_difference}
-use Rattle.contest_shadow.specs.declared.other_row.OtherRow.{OtherRow}
+use Rattle.contest_comparison.specs.Comparisons.{comparison_text, has_difference}
+use Rattle.contest_comparison.specs.declared.other_row.OtherRow.{OtherRow}
 use Rattle.contest_cli_words.specs.CommandErrors.{exit_status_of, line_of}
 use Rattle.contest_cli_words.specs.declared.command_error.CommandError.{CommandError}
 use Rattle.contest_cli_words.specs.declared.command_error.CommandError.TheVariants.{Usage, Refused, File, Clock, Net}

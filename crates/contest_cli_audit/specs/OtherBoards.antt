@@ -6,8 +6,8 @@ use Rattle.contest_types.specs.declared.refusal.Refusal.{Refusal}
 use Rattle.contest_types.specs.declared.refusal.Refusal.TheVariants.{BodyTooLarge, Malformed, Memory}
 use Rattle.contest_streams.specs.Streams.{Counting, Fails, Stream, stream}
 use Rattle.contest_cli_machine.specs.Unopened.{IsNoFile}
-use Rattle.contest_shadow.specs.Scoreboards.{scoreboard_of}
-use Rattle.contest_shadow.specs.declared.other_row.OtherRow.{OtherRow}
+use Rattle.contest_comparison.specs.Scoreboards.{scoreboard_of}
+use Rattle.contest_comparison.specs.declared.other_row.OtherRow.{OtherRow}
 use Rattle.contest_cli_words.specs.declared.command_error.CommandError.{CommandError}
 use Rattle.contest_cli_words.specs.declared.command_error.CommandError.TheVariants.{Usage, Refused, File, Clock, Net}
 

@@ -3,7 +3,7 @@ use Rattle.std.specs.Prelude.{◌≡◌, ◌≢◌, ◌≤◌, ◌⊎◌, ℕ, B
 use Rattle.contest_types.specs.declared.refusal.Refusal.TheVariants.{Memory}
 use Rattle.contest_streams.specs.Streams.{Stream, Fails, Tells, AppendsFront}
 use Rattle.contest_feed_reader.specs.FeedContests.{contest_in_feed}
-use Rattle.contest_shadow.specs.declared.other_row.OtherRow.{OtherRow}
+use Rattle.contest_comparison.specs.declared.other_row.OtherRow.{OtherRow}
 use Rattle.contest_cli_words.specs.declared.command_error.CommandError.{CommandError}
 use Rattle.contest_cli_words.specs.declared.command_error.CommandError.TheVariants.{Usage, Refused, File, Clock, Net}
 use Rattle.contest_cli_replay.specs.declared.replay_words.ReplayWords.{ReplayWords}

@@ -5,7 +5,7 @@ ghost use Rattle.contest_cli_audit.specs.OtherBoards.{Holds, Lacks, StopsScorebo
 
 use contest_cli_machine::Outside;
 use contest_cli_words::CommandError;
-use contest_shadow::{OtherRow, read_scoreboard};
+use contest_comparison::{OtherRow, read_scoreboard};
 use contest_streams::{Counted, read_limited};
 use contest_types::Rows;
 use contest_types::limits::IMPORTED_FILE;

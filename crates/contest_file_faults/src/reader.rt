@@ -1,12 +1,12 @@
 //! The product's own readers, asked whether a record is on its form: so no rule of a form is
 //! written here.
 
+use contest_comparison::read_scoreboard;
 use contest_feed_reader::{FeedFault, read_feed};
 use contest_import::{read_contest_json, read_import};
 use contest_import_verdicts::read_verdicts_csv;
 use contest_lists::Lists;
 use contest_replay::read_replay_csv;
-use contest_shadow::read_scoreboard;
 use contest_streams::Counted;
 use contest_types::{Cause, Contest, Fixed, FixedKind, Marks, Moment, Refusal, Rows, Settings};
 use std::alloc::{AllocError, Global};

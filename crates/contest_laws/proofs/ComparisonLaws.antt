@@ -16,10 +16,10 @@ use Rattle.contest_types.specs.declared.objects.Problem.{Problem}
 use Rattle.contest_files.specs.FieldTexts.{Text, is_empty}
 use Rattle.contest_score.specs.declared.cell.Cell.{Cell}
 use Rattle.contest_score.specs.declared.row.Row.{Row}
-use Rattle.contest_shadow.specs.Differences.{cell_lines, cell_values, differences, lone_cell_line, lone_row_line, number_line, problem_lines, problem_text, row_beside, row_difference, row_lines, row_there, row_values, same_time, solved_line, team_text, time_line, truth_text, value_line, values_there}
-use Rattle.contest_shadow.specs.declared.other_row.OtherRow.{OtherRow}
-use Rattle.contest_shadow.specs.declared.values.CellValues.{CellValues}
-use Rattle.contest_shadow.specs.declared.values.RowValues.{RowValues}
+use Rattle.contest_comparison.specs.Differences.{cell_lines, cell_values, differences, lone_cell_line, lone_row_line, number_line, problem_lines, problem_text, row_beside, row_difference, row_lines, row_there, row_values, same_time, solved_line, team_text, time_line, truth_text, value_line, values_there}
+use Rattle.contest_comparison.specs.declared.other_row.OtherRow.{OtherRow}
+use Rattle.contest_comparison.specs.declared.values.CellValues.{CellValues}
+use Rattle.contest_comparison.specs.declared.values.RowValues.{RowValues}
 use Rattle.contest_laws.specs.Comparing.{DifferencesAreTold, IsSameRow}
 
 -- ---- texts that are empty

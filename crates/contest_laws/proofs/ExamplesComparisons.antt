@@ -3,8 +3,8 @@ use Rattle.std.proofs.Common.{◌≡◌, ℕ, true, false, List, [], ◌∷◌, 
 use Rattle.std.specs.Prelude.{codes}
 use Rattle.contest_types.proofs.ExampleContest.{settings}
 use Rattle.contest_score.specs.Ranking.{Scoreboard}
-use Rattle.contest_shadow.specs.Comparisons.{has_difference}
-use Rattle.contest_shadow.specs.declared.other_row.OtherRow.{OtherRow}
+use Rattle.contest_comparison.specs.Comparisons.{has_difference}
+use Rattle.contest_comparison.specs.declared.other_row.OtherRow.{OtherRow}
 use Rattle.contest_laws.specs.Comparing.{IsSameBoard}
 use Rattle.contest_laws.proofs.ComparisonLaws.{differences_are_told}
 

@@ -11,10 +11,10 @@ use Rattle.contest_types.specs.TeamPlaces.{team_id_at}
 use Rattle.contest_score.specs.Ranking.{Scoreboard}
 use Rattle.contest_score.specs.declared.cell.Cell.{Cell}
 use Rattle.contest_score.specs.declared.row.Row.{Row}
-use Rattle.contest_shadow.specs.Comparisons.{has_difference}
-use Rattle.contest_shadow.specs.Differences.{cell_values, row_there, row_values, values_there}
-use Rattle.contest_shadow.specs.declared.other_row.OtherCell.{OtherCell}
-use Rattle.contest_shadow.specs.declared.other_row.OtherRow.{OtherRow}
+use Rattle.contest_comparison.specs.Comparisons.{has_difference}
+use Rattle.contest_comparison.specs.Differences.{cell_values, row_there, row_values, values_there}
+use Rattle.contest_comparison.specs.declared.other_row.OtherCell.{OtherCell}
+use Rattle.contest_comparison.specs.declared.other_row.OtherRow.{OtherRow}
 
 -- a row is there, by its team's id, with the same rank, number of solved problems and total, the same cells, and no cell of
 -- another problem. A cell that isn't there counts as one of zeros

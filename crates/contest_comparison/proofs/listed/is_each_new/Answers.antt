@@ -5,7 +5,7 @@ use Rattle.std.proofs.lemmas.List.{get_or-map, length-map}
 use Rattle.contest_types.specs.Places.{is_among}
 use Rattle.contest_files.specs.IdArrays.{is_seen}
 use Rattle.contest_files.proofs.IdLemmas.{not_different, seen_more, still_different, was_seen, was_not_seen}
-use Rattle.contest_shadow.proofs.listed.is_each_new.Goals as goal
+use Rattle.contest_comparison.proofs.listed.is_each_new.Goals as goal
 
 pub returns-then-not-branch : goal.returns-then-not-branch
 returns-then-not-branch g c =

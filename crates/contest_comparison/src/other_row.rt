@@ -5,9 +5,9 @@ ghost use Rattle.serde_json.specs.View.{view};
 ghost use Rattle.contest_files.specs.FieldTexts.{span_of};
 ghost use Rattle.contest_files.specs.JsonMembers.{number_in, number_or, optional, or_usual};
 ghost use Rattle.contest_files.specs.JsonMembers.{present_in};
-ghost use Rattle.contest_shadow.specs.Scoreboards.{cell_id, cell_members, cell_values_in, listed};
-ghost use Rattle.contest_shadow.specs.Scoreboards.{minute_of, minutes_of, most_number};
-ghost use Rattle.contest_shadow.specs.Scoreboards.{optional_minute, row_values_in, score_values};
+ghost use Rattle.contest_comparison.specs.Scoreboards.{cell_id, cell_members, cell_values_in, listed};
+ghost use Rattle.contest_comparison.specs.Scoreboards.{minute_of, minutes_of, most_number};
+ghost use Rattle.contest_comparison.specs.Scoreboards.{optional_minute, row_values_in, score_values};
 
 use crate::listed::{ListedRow, listed};
 use crate::values::{CellValues, RowValues};
@@ -45,7 +45,7 @@ pub struct OtherRow {
 }
 
 impl ListedRow for OtherCell {
-    ghost use Rattle.contest_shadow.specs.Scoreboards.{cell_id, cell_members};
+    ghost use Rattle.contest_comparison.specs.Scoreboards.{cell_id, cell_members};
 
     ghost members = { cell_members };
 
@@ -67,7 +67,7 @@ impl ListedRow for OtherCell {
 }
 
 impl ListedRow for OtherRow {
-    ghost use Rattle.contest_shadow.specs.Scoreboards.{row_id, row_members};
+    ghost use Rattle.contest_comparison.specs.Scoreboards.{row_id, row_members};
 
     ghost members = { row_members };
 

@@ -4,8 +4,8 @@ use Rattle.std.specs.Fmt.{decimal}
 use Rattle.contest_types.specs.Setup.{Setup}
 use Rattle.contest_files.specs.FieldTexts.{Text, is_empty}
 use Rattle.contest_score.specs.Ranking.{Scoreboard}
-use Rattle.contest_shadow.specs.Differences.{differences}
-use Rattle.contest_shadow.specs.declared.other_row.OtherRow.{OtherRow}
+use Rattle.contest_comparison.specs.Differences.{differences}
+use Rattle.contest_comparison.specs.declared.other_row.OtherRow.{OtherRow}
 
 -- the differences; where there is none, how many rows the board has
 abbrev pub told_of : (teams : ℕ) → (differences : Text) → Text

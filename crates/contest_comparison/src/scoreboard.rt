@@ -2,7 +2,7 @@
 ghost use Rattle.std.specs.Prelude.{◌≡◌, IfErr, IfOk, Some};
 ghost use Rattle.serde_json.specs.View.{view};
 ghost use Rattle.contest_files.specs.Refused.{IsRefused};
-ghost use Rattle.contest_shadow.specs.Scoreboards.{rows_in, scoreboard_of};
+ghost use Rattle.contest_comparison.specs.Scoreboards.{rows_in, scoreboard_of};
 
 use crate::listed::listed;
 use crate::other_row::OtherRow;

@@ -3,9 +3,9 @@ use Rattle.std.proofs.lemmas.Slice.Zip.{Zip-so_far, either_empty_from_Zip}
 use Rattle.std.specs.Iterator.Adapters.{zip_first, zip_second}
 use Rattle.std.specs.Slice.Iter.{iter_rest}
 use Rattle.contest_score.specs.declared.cell.Cell.{Cell}
-use Rattle.contest_shadow.specs.Differences.{problem_lines}
-use Rattle.contest_shadow.proofs.PairLemmas.{all_pushed}
-use Rattle.contest_shadow.proofs.differences.push_cells.Goals as goal
+use Rattle.contest_comparison.specs.Differences.{problem_lines}
+use Rattle.contest_comparison.proofs.PairLemmas.{all_pushed}
+use Rattle.contest_comparison.proofs.differences.push_cells.Goals as goal
 
 pub returns : goal.returns
 returns c =

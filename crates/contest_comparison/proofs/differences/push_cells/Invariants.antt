@@ -1,8 +1,8 @@
 use Rattle.std.proofs.Common.{◌≡◌, ◌++◌, ℕ, drop, length, string_bytes}
 use Rattle.std.specs.List.{flat_map, zip}
 use Rattle.contest_score.specs.declared.cell.Cell.{Cell}
-use Rattle.contest_shadow.specs.Differences.{problem_lines}
-use Rattle.contest_shadow.proofs.differences.push_cells.Given as goal
+use Rattle.contest_comparison.specs.Differences.{problem_lines}
+use Rattle.contest_comparison.proofs.differences.push_cells.Given as goal
 
 -- what is pushed so far, and what is left to push
 abbrev pub invariant-loop-problem : goal.invariant-loop-problem

@@ -4,10 +4,10 @@ ghost use Rattle.std.specs.List.{flat_map, list_any, zip};
 ghost use Rattle.std.specs.Str.{bytes_eq};
 ghost use Rattle.contest_score.specs.declared.cell.Cell.{Cell as TheCell};
 ghost use Rattle.contest_types.specs.TeamPlaces.{team_id_at};
-ghost use Rattle.contest_shadow.specs.Differences.{cell_there, differences, here_alone};
-ghost use Rattle.contest_shadow.specs.Differences.{lone_cell_line, lone_row_line};
-ghost use Rattle.contest_shadow.specs.Differences.{problem_lines, row_beside, row_difference};
-ghost use Rattle.contest_shadow.specs.Differences.{row_there, values_there};
+ghost use Rattle.contest_comparison.specs.Differences.{cell_there, differences, here_alone};
+ghost use Rattle.contest_comparison.specs.Differences.{lone_cell_line, lone_row_line};
+ghost use Rattle.contest_comparison.specs.Differences.{problem_lines, row_beside, row_difference};
+ghost use Rattle.contest_comparison.specs.Differences.{row_there, values_there};
 
 use crate::other_row::{OtherCell, OtherRow};
 use crate::value_lines::{push_cell_lines, push_row_lines};

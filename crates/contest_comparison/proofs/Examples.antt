@@ -6,10 +6,10 @@ use Rattle.serde_json.specs.Data.{Data, array, boolean, item, member, no_items, 
 use Rattle.contest_score.specs.Ranking.{Scoreboard}
 use Rattle.contest_types.proofs.ExampleContest.{settings}
 use Rattle.contest_types.specs.declared.minute.Minute.{Minute}
-use Rattle.contest_shadow.specs.Comparisons.{comparison_text, has_difference}
-use Rattle.contest_shadow.specs.Scoreboards.{cell_members, minutes_of, rows_in}
-use Rattle.contest_shadow.specs.declared.other_row.OtherCell.{OtherCell}
-use Rattle.contest_shadow.specs.declared.other_row.OtherRow.{OtherRow}
+use Rattle.contest_comparison.specs.Comparisons.{comparison_text, has_difference}
+use Rattle.contest_comparison.specs.Scoreboards.{cell_members, minutes_of, rows_in}
+use Rattle.contest_comparison.specs.declared.other_row.OtherCell.{OtherCell}
+use Rattle.contest_comparison.specs.declared.other_row.OtherRow.{OtherRow}
 
 abbrev minute : ℕ → Option Minute
 minute n = Some (record { 0 = n })

@@ -2,7 +2,7 @@ use Rattle.std.proofs.Common.{◌≡◌, ◌++◌, List, drop, map}
 use Rattle.std.specs.Option.{option_map}
 use Rattle.serde_json.specs.View.{view}
 use Rattle.contest_types.specs.Options.{all_some}
-use Rattle.contest_shadow.proofs.listed.rows_of.Given as goal
+use Rattle.contest_comparison.proofs.listed.rows_of.Given as goal
 
 abbrev pub invariant-loop-item : goal.invariant-loop-item
 invariant-loop-item g l =

@@ -2,7 +2,7 @@ use Rattle.std.proofs.Common.{◌≡◌, ℕ, List, true, map, take}
 use Rattle.std.specs.Borrow.{Bor}
 use Rattle.contest_types.specs.Places.{is_among, are_different}
 use Rattle.contest_files.specs.IdArrays.{is_seen}
-use Rattle.contest_shadow.proofs.listed.is_each_new.Given as goal
+use Rattle.contest_comparison.proofs.listed.is_each_new.Given as goal
 
 -- the ids so far were seen, and are different
 abbrev pub invariant-loop-row : goal.invariant-loop-row

@@ -10,10 +10,10 @@ use Rattle.contest_types.specs.Places.{are_different}
 use Rattle.contest_types.specs.declared.minute.Minute.{Minute}
 use Rattle.contest_files.specs.FieldTexts.{Text, span_of}
 use Rattle.contest_files.specs.JsonMembers.{data_of, flag_or_false, id_in, list_of, number_in, number_or, number_to, optional, or_usual, present_in}
-use Rattle.contest_shadow.specs.declared.other_row.OtherCell.{OtherCell}
-use Rattle.contest_shadow.specs.declared.other_row.OtherRow.{OtherRow}
-use Rattle.contest_shadow.specs.declared.values.CellValues.{CellValues}
-use Rattle.contest_shadow.specs.declared.values.RowValues.{RowValues}
+use Rattle.contest_comparison.specs.declared.other_row.OtherCell.{OtherCell}
+use Rattle.contest_comparison.specs.declared.other_row.OtherRow.{OtherRow}
+use Rattle.contest_comparison.specs.declared.values.CellValues.{CellValues}
+use Rattle.contest_comparison.specs.declared.values.RowValues.{RowValues}
 
 -- the largest number that is read
 abbrev pub most_number : ℕ

@@ -15,10 +15,10 @@ use Rattle.contest_score.specs.Ranking.{Scoreboard}
 use Rattle.contest_score.specs.Scoring.{is_solved}
 use Rattle.contest_score.specs.declared.cell.Cell.{Cell}
 use Rattle.contest_score.specs.declared.row.Row.{Row}
-use Rattle.contest_shadow.specs.declared.other_row.OtherCell.{OtherCell}
-use Rattle.contest_shadow.specs.declared.other_row.OtherRow.{OtherRow}
-use Rattle.contest_shadow.specs.declared.values.CellValues.{CellValues}
-use Rattle.contest_shadow.specs.declared.values.RowValues.{RowValues}
+use Rattle.contest_comparison.specs.declared.other_row.OtherCell.{OtherCell}
+use Rattle.contest_comparison.specs.declared.other_row.OtherRow.{OtherRow}
+use Rattle.contest_comparison.specs.declared.values.CellValues.{CellValues}
+use Rattle.contest_comparison.specs.declared.values.RowValues.{RowValues}
 
 -- what a row of a board says beside its cells
 abbrev pub row_values : Row → RowValues

@@ -5,7 +5,7 @@ ghost use Rattle.serde_json.specs.View.{view};
 ghost use Rattle.contest_types.specs.Options.{all_some};
 ghost use Rattle.contest_types.specs.Places.{are_different};
 ghost use Rattle.contest_files.specs.IdArrays.{is_seen};
-ghost use Rattle.contest_shadow.specs.Scoreboards.{listed};
+ghost use Rattle.contest_comparison.specs.Scoreboards.{listed};
 
 use contest_files::items_of;
 use contest_types::{Id, Refusal, Rows};

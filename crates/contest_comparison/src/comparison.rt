@@ -1,6 +1,6 @@
 //! A board that is held beside another system's scoreboard.
 ghost use Rattle.std.specs.Prelude.{◌≡◌, IfErr, IfOk, string_bytes};
-ghost use Rattle.contest_shadow.specs.Comparisons.{comparison_text, has_difference};
+ghost use Rattle.contest_comparison.specs.Comparisons.{comparison_text, has_difference};
 
 use crate::differences::differences;
 use crate::other_row::OtherRow;

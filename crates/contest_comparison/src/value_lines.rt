@@ -1,8 +1,8 @@
 //! The lines of values that aren't the same there.
 ghost use Rattle.std.specs.Prelude.{◌≡◌, ◌++◌, IfOk, OnOk, false, string_bytes};
-ghost use Rattle.contest_shadow.specs.Differences.{cell_lines, number_line, row_lines, same_time};
-ghost use Rattle.contest_shadow.specs.Differences.{solved_line, time_line, time_text, truth_text};
-ghost use Rattle.contest_shadow.specs.Differences.{value_line};
+ghost use Rattle.contest_comparison.specs.Differences.{cell_lines, number_line, row_lines, same_time};
+ghost use Rattle.contest_comparison.specs.Differences.{solved_line, time_line, time_text, truth_text};
+ghost use Rattle.contest_comparison.specs.Differences.{value_line};
 
 use crate::values::{CellValues, RowValues};
 use contest_types::Minute;

@@ -1,6 +1,6 @@
 //! What rows and cells say that are held beside one another.
 ghost use Rattle.std.specs.Prelude.{◌≡◌};
-ghost use Rattle.contest_shadow.specs.Differences.{cell_values, no_values, row_values};
+ghost use Rattle.contest_comparison.specs.Differences.{cell_values, no_values, row_values};
 
 use contest_score::{Cell, Row};
 use contest_types::Minute;
