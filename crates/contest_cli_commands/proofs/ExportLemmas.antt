@@ -14,9 +14,9 @@ use Rattle.contest_store.proofs.LeaveLemmas.{one_more_failed}
 use Rattle.contest_store_sqlite.specs.Contests.{may_leave_of}
 use Rattle.contest_store_sqlite.specs.Opening.{FindsContest, Opened}
 use Rattle.contest_desk.specs.Serving.{OnlyReads}
-use Rattle.contest_export.specs.Exports.{of_store}
-use Rattle.contest_export.specs.declared.export.ExportFault.{ExportFault}
-use Rattle.contest_export.specs.declared.export.ExportFault.TheVariants.{Store}
+use Rattle.contest_exports.specs.Exports.{of_store}
+use Rattle.contest_exports.specs.declared.export.ExportFault.{ExportFault}
+use Rattle.contest_exports.specs.declared.export.ExportFault.TheVariants.{Store}
 use Rattle.contest_cli_words.specs.CommandErrors.{exit_status_of, line_of}
 use Rattle.contest_cli_words.specs.declared.command_error.CommandError.{CommandError}
 use Rattle.contest_cli_words.specs.declared.command_error.CommandError.TheVariants.{File, Refused}

@@ -7,7 +7,7 @@ use Rattle.contest_streams.specs.Streams.{AppendsFront, Failed, Fails, Stream, T
 use Rattle.contest_store.specs.Keeping.{Kept, LeavesNoMore}
 use Rattle.contest_store_sqlite.specs.Contests.{may_leave_of}
 use Rattle.contest_store_sqlite.specs.Opening.{FindsContest, may_leave_filled}
-use Rattle.contest_export.specs.SubmissionsCsv.{submissions_csv}
+use Rattle.contest_exports.specs.SubmissionsCsv.{submissions_csv}
 use Rattle.contest_types.specs.declared.refusal.Refusal.TheVariants.{Memory, StoreFault}
 use Rattle.contest_cli_words.specs.CommandErrors.{line_of}
 use Rattle.contest_cli_words.specs.declared.command_error.CommandError.{CommandError}

@@ -7,7 +7,7 @@ ghost use Rattle.contest_cli_commands.specs.Exporting.{Exports, ExportsKept};
 
 use crate::opening::open_desk;
 use contest_cli_words::CommandError;
-use contest_export::{ExportFault, submissions_csv};
+use contest_exports::{ExportFault, submissions_csv};
 use contest_store::ContestStore;
 use contest_streams::Counted;
 use sqlite::{Alter, Connection};

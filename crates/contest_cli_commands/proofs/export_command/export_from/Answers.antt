@@ -1,7 +1,7 @@
 use Rattle.std.proofs.Common.{◌≡◌, ◌∙◌, Err, ap, arith, inl, inr, refl, subst, sym}
 use Rattle.contest_types.specs.declared.refusal.Refusal.{Refusal}
 use Rattle.contest_cli_words.specs.declared.command_error.CommandError.TheVariants.{Refused}
-use Rattle.contest_export.specs.SubmissionsCsv.{submissions_csv}
+use Rattle.contest_exports.specs.SubmissionsCsv.{submissions_csv}
 use Rattle.contest_cli_commands.specs.Exporting.{GivesSubmissions, StopsKept}
 use Rattle.contest_cli_commands.proofs.ExportLemmas.{cut_off, leaves_by_look, stops_kept}
 use Rattle.contest_cli_commands.proofs.export_command.export_from.Goals as goal

@@ -1,5 +1,0 @@
-use Rattle.contest_export.proofs.ExportLaws.{reads_back}
-use Rattle.contest_export.proofs.laws.export_reads_back.Goals as goal
-
-pub returns : goal.returns
-returns c = reads_back

@@ -1,5 +1,0 @@
-use Rattle.contest_export.proofs.ExportLaws.{gives_each_once}
-use Rattle.contest_export.proofs.laws.walk_gives_each_once.Goals as goal
-
-pub returns : goal.returns
-returns c = gives_each_once
