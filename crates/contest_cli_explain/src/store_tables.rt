@@ -3,7 +3,7 @@
 use contest_lists::Lists;
 use contest_store::{ScoredLists, StoreError};
 use contest_store_cells::are_cells;
-use contest_store_fixed_rows::{LoadedRows, read_lists};
+use contest_store_reading::{LoadedRows, read_lists};
 use contest_store_rows::VERSION;
 use contest_store_tables::{LIST_TABLES, Standing, TableName, Tables};
 use contest_store_valid::is_valid;

@@ -28,9 +28,9 @@ use Rattle.contest_store_rows.specs.Cells.{lent, number}
 use Rattle.contest_store_rows.specs.FixedRows.{account_row, contest_row, desk_row, item_row, role_team}
 use Rattle.contest_store_rows.specs.ListRows.{clarification_row, member_account, member_row, member_type, proposal_row, reference_id, rejudging_row, release_row, submission_row}
 use Rattle.contest_store_rows.specs.declared.versions.TheConstants.{VERSION}
-use Rattle.contest_store_fixed_rows.specs.AccountRows.{digest_row}
-use Rattle.contest_store_fixed_rows.specs.Heads.{duration_row, marks_row}
-use Rattle.contest_store_fixed_rows.specs.Items.{team_name_row}
+use Rattle.contest_store_reading.specs.AccountRows.{digest_row}
+use Rattle.contest_store_reading.specs.Heads.{duration_row, marks_row}
+use Rattle.contest_store_reading.specs.Items.{team_name_row}
 use Rattle.contest_store_changes.specs.Laws.{member_state_given, state_given}
 
 abbrev pub Unreal : Row → Type 0

@@ -22,7 +22,7 @@ use Rattle.contest_store_tables.specs.declared.row_change.RowChange.TheVariants 
 use Rattle.contest_store_tables.specs.declared.table_name.TableName.{TableName}
 use Rattle.contest_store_tables.specs.declared.table_name.TableName.TheVariants.{Desk, Contest, Items, Accounts, Submissions, Proposals, Releases, Rejudgings, Members, Clarifications, Cells, Notices}
 use Rattle.contest_store_changes.specs.ContestTables.{list_rows}
-use Rattle.contest_store_fixed_rows.specs.Heads.{marks_row}
+use Rattle.contest_store_reading.specs.Heads.{marks_row}
 use Rattle.contest_store_changes.specs.Laws.{MarksAreChanged, MemberIsChanged, RejudgingIsChanged}
 use Rattle.contest_store_changes.proofs.HeldRows.{contest_held, member_held, rejudging_held}
 use Rattle.contest_store_changes.proofs.RisingRows.{rises_but_accounts}

@@ -13,7 +13,7 @@ use Rattle.contest_types.specs.declared.submission.Submission.{Submission}
 use Rattle.contest_store_rows.specs.Cells.{text_of}
 use Rattle.contest_store_rows.specs.ListRows.{loaded_submission_row, submission_row}
 use Rattle.contest_store_rows.proofs.ListLaws.{rows_from}
-use Rattle.contest_store_fixed_rows.specs.SpellingLaws.{AreSubmissionRows}
+use Rattle.contest_store_reading.specs.SpellingLaws.{AreSubmissionRows}
 use Rattle.contest_store_tables.specs.Statements.{loaded_row}
 use Rattle.contest_store_tables.specs.declared.table_name.TableName.TheVariants.{Submissions}
 use Rattle.contest_store_changes.specs.ContestTables.{bytes_of, with_file}

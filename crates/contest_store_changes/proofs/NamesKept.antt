@@ -36,8 +36,8 @@ use Rattle.contest_store_rows.specs.ListRows.{audience_kind, audience_number, cl
 use Rattle.contest_store_rows.specs.Tables.{rows_of}
 use Rattle.contest_types.proofs.GrownSettings.{HasFronts, at_front}
 use Rattle.contest_store_rows.proofs.ListLaws.{rows_from}
-use Rattle.contest_store_fixed_rows.specs.Laws.{IsWritableAccount}
-use Rattle.contest_store_fixed_rows.specs.SpellingLaws.{IsWritable}
+use Rattle.contest_store_reading.specs.Laws.{IsWritableAccount}
+use Rattle.contest_store_reading.specs.SpellingLaws.{IsWritable}
 
 -- what stands at a place stands there still
 kept : {X : Type 0} (id : X → List ℕ) (xs ys : List X) (i : ℕ) → IsFront xs ys → i < length xs → option_map_or id (slice_get ys i) [] ≡ option_map_or id (slice_get xs i) []

@@ -28,9 +28,9 @@ use Rattle.contest_store_tables.specs.Steps.{with_rows}
 use Rattle.contest_store_tables.specs.declared.row_change.RowChange.TheVariants as row_change
 use Rattle.contest_store_tables.specs.declared.table_name.TableName.{TableName}
 use Rattle.contest_store_tables.specs.declared.table_name.TableName.TheVariants.{Desk, Contest, Items, Accounts, Submissions, Proposals, Releases, Rejudgings, Members, Clarifications, Cells, Notices}
-use Rattle.contest_store_fixed_rows.specs.AccountRows.{digest_row}
-use Rattle.contest_store_fixed_rows.specs.Heads.{duration_row}
-use Rattle.contest_store_fixed_rows.specs.Items.{team_name_row}
+use Rattle.contest_store_reading.specs.AccountRows.{digest_row}
+use Rattle.contest_store_reading.specs.Heads.{duration_row}
+use Rattle.contest_store_reading.specs.Items.{team_name_row}
 use Rattle.contest_store_changes.specs.ContestTables.{list_rows}
 use Rattle.contest_store_changes.specs.Laws.{DigestIsChanged, DurationIsChanged, TeamNameIsChanged}
 use Rattle.contest_store_changes.proofs.AscendingAccounts.{digest_ascends}

@@ -21,7 +21,7 @@ use Rattle.contest_types.specs.declared.rejudging.Rejudging.{Rejudging}
 use Rattle.contest_types.specs.declared.submission.Release.{Release}
 use Rattle.contest_types.specs.declared.submission.Submission.{Submission}
 use Rattle.contest_types.proofs.AddEntry.{adding}
-use Rattle.contest_store_fixed_rows.specs.Laws.{IsWritableMarks, IsWritableSetup}
+use Rattle.contest_store_reading.specs.Laws.{IsWritableMarks, IsWritableSetup}
 use Rattle.contest_store_changes.specs.Kinds.{AreOfKinds, IsMoment, IsOfKinds, IsOfKindsAccount, IsOfKindsClarification, IsOfKindsProposal, IsOfKindsRejudging, IsOfKindsSubmission}
 use Rattle.contest_store_changes.specs.Laws.{AdditionsStaySound}
 use Rattle.contest_store_changes.proofs.AscendingAccounts.{account_ascends, digest_ascends}

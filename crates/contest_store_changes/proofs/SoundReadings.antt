@@ -9,9 +9,9 @@ use Rattle.contest_types.specs.declared.submission.Submission.{Submission}
 use Rattle.contest_store_rows.specs.ListRows.{loaded_submission_row, submission_row}
 use Rattle.contest_store_rows.specs.Tables.{rows_of}
 use Rattle.contest_store_rows.proofs.ListLaws.{rows_from}
-use Rattle.contest_store_fixed_rows.specs.SpellingLaws.{loaded_rows_of}
-use Rattle.contest_store_fixed_rows.specs.Spelling.{lists_in}
-use Rattle.contest_store_fixed_rows.proofs.SpellingLaws.{contests_read_back}
+use Rattle.contest_store_reading.specs.SpellingLaws.{loaded_rows_of}
+use Rattle.contest_store_reading.specs.Spelling.{lists_in}
+use Rattle.contest_store_reading.proofs.SpellingLaws.{contests_read_back}
 use Rattle.sqlite_value.specs.Order.{Row}
 use Rattle.contest_store_cells.specs.CellRows.{cell_rows}
 use Rattle.contest_store_tables.specs.Statements.{loaded_row}

@@ -25,10 +25,10 @@ use Rattle.contest_store_rows.specs.Tables.{rows_of}
 use Rattle.contest_store_rows.specs.declared.versions.Version.TheVariants.{First}
 use Rattle.contest_store_rows.proofs.ListLaws.{rows_from}
 use Rattle.contest_store_rows.proofs.RowLaws.{after_all}
-use Rattle.contest_store_fixed_rows.specs.Spelling.{lists_in_version}
-use Rattle.contest_store_fixed_rows.specs.SpellingLaws.{AreRows, first_loaded_rows_of}
-use Rattle.contest_store_fixed_rows.proofs.OptionSteps.{bound, where_true}
-use Rattle.contest_store_fixed_rows.proofs.SpellingLaws.{contests_write_back, first_contests_read_back}
+use Rattle.contest_store_reading.specs.Spelling.{lists_in_version}
+use Rattle.contest_store_reading.specs.SpellingLaws.{AreRows, first_loaded_rows_of}
+use Rattle.contest_store_reading.proofs.OptionSteps.{bound, where_true}
+use Rattle.contest_store_reading.proofs.SpellingLaws.{contests_write_back, first_contests_read_back}
 use Rattle.contest_store_tables.specs.Statements.{loaded_row}
 use Rattle.contest_store_tables.specs.Steps.{Rises}
 use Rattle.contest_store_tables.specs.Tables.{TableRows}

@@ -7,16 +7,16 @@ use Rattle.contest_types.specs.State.{ContestState}
 use Rattle.contest_types.specs.Valid.{is_valid}
 use Rattle.contest_types.specs.declared.submission.Submission.{Submission}
 use Rattle.contest_store_rows.specs.declared.versions.TheConstants.{VERSION}
-use Rattle.contest_store_fixed_rows.specs.SpellingLaws.{AreRows}
-use Rattle.contest_store_fixed_rows.specs.Spelling.{lists_in}
-use Rattle.contest_store_fixed_rows.proofs.SpellingLaws.{contests_write_back}
+use Rattle.contest_store_reading.specs.SpellingLaws.{AreRows}
+use Rattle.contest_store_reading.specs.Spelling.{lists_in}
+use Rattle.contest_store_reading.proofs.SpellingLaws.{contests_write_back}
 use Rattle.sqlite_value.specs.Order.{Row}
 use Rattle.contest_store_cells.specs.CellRows.{cell_rows}
 use Rattle.contest_store_tables.specs.Statements.{loaded_row}
 use Rattle.contest_store_tables.specs.Steps.{Rises}
 use Rattle.contest_store_tables.specs.Tables.{TableRows}
 use Rattle.contest_store_tables.specs.declared.table_name.TableName.TheVariants.{Accounts, Submissions, Clarifications, Cells}
-use Rattle.contest_store_fixed_rows.proofs.OptionSteps.{bound, where_true}
+use Rattle.contest_store_reading.proofs.OptionSteps.{bound, where_true}
 use Rattle.contest_store_changes.specs.ContestTables.{if_scored, if_valid, listed_in, loaded_tables, rows_with, same_rows, valid_listed_in, with_files}
 use Rattle.contest_store_changes.specs.Kinds.{AreOfKinds, IsOfKindsSubmission}
 use Rattle.contest_store_changes.specs.Laws.{IsWide, ListedContestsAreSound, RowsAreTheirContests, ValidContestsAreSound}

@@ -30,8 +30,8 @@ use Rattle.contest_types.proofs.PlaceLemmas.{and_left, and_right, same_bytes}
 use Rattle.contest_types.proofs.SettingsTest.{is_settings}
 use Rattle.contest_types.proofs.ValidParts.{parts}
 use Rattle.contest_store_rows.specs.Laws.{IsWritableClarification, IsWritableProposal, IsWritableProposer, IsWritableReference, IsWritableRejudging, IsWritableRelease, IsWritableState, IsWritableSubmission}
-use Rattle.contest_store_fixed_rows.specs.Laws.{IsWritableAccount}
-use Rattle.contest_store_fixed_rows.specs.SpellingLaws.{IsWritable}
+use Rattle.contest_store_reading.specs.Laws.{IsWritableAccount}
+use Rattle.contest_store_reading.specs.SpellingLaws.{IsWritable}
 use Rattle.contest_store_changes.specs.Kinds.{HasIdIfAny, IsMoment, IsOfKindsAccount, IsOfKindsClarification, IsOfKindsProposal, IsOfKindsRejudging, IsOfKindsSubmission, IsProposerId}
 use Rattle.contest_store_changes.specs.Sound.{IsSound}
 use Rattle.contest_store_changes.proofs.NamedReplies.{replies_are_small}

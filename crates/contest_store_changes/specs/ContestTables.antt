@@ -13,7 +13,7 @@ use Rattle.contest_store_rows.specs.Tables.{Tables, rows_of}
 use Rattle.contest_store_rows.specs.declared.versions.TheConstants.{VERSION}
 use Rattle.contest_store_rows.specs.declared.versions.Version.{Version}
 use Rattle.contest_store_cells.specs.CellRows.{cell_rows}
-use Rattle.contest_store_fixed_rows.specs.Spelling.{lists_in_version}
+use Rattle.contest_store_reading.specs.Spelling.{lists_in_version}
 use Rattle.contest_store_tables.specs.Statements.{loaded_row}
 use Rattle.contest_store_tables.specs.Steps.{with_rows}
 use Rattle.contest_store_tables.specs.Tables.{TableRows}

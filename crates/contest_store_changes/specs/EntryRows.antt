@@ -8,9 +8,9 @@ use Rattle.contest_types.specs.declared.entry.Entry.{Entry}
 use Rattle.contest_types.specs.declared.entry.Entry.TheVariants.{NewSubmission, NewProposal, NewRelease, NewClarification, NewRejudging, SetMember, SetRejudging, SetStart, SetThaw, SetFinalized, SetDuration, SetTeamName, SetDigest, NewType, NewLanguage, NewProblem, NewGroup, NewTeam, NewAccount}
 use Rattle.contest_store_rows.specs.FixedRows.{account_row, group_row, language_row, problem_row, team_row, type_row}
 use Rattle.contest_store_rows.specs.ListRows.{clarification_row, proposal_row, rejudging_row, release_row, submission_row}
-use Rattle.contest_store_fixed_rows.specs.AccountRows.{digest_row}
-use Rattle.contest_store_fixed_rows.specs.Heads.{duration_row, marks_row}
-use Rattle.contest_store_fixed_rows.specs.Items.{team_name_row}
+use Rattle.contest_store_reading.specs.AccountRows.{digest_row}
+use Rattle.contest_store_reading.specs.Heads.{duration_row, marks_row}
+use Rattle.contest_store_reading.specs.Items.{team_name_row}
 use Rattle.contest_store_tables.specs.declared.row_change.RowChange.{RowChange}
 use Rattle.contest_store_tables.specs.declared.row_change.RowChange.TheVariants as change
 use Rattle.contest_store_tables.specs.declared.table_name.TableName.{TableName}

@@ -19,7 +19,7 @@ use Rattle.contest_types.specs.declared.rejudging.Rejudging.{Rejudging}
 use Rattle.contest_types.specs.State.{ContestState}
 use Rattle.contest_types.specs.declared.submission.Release.{Release}
 use Rattle.contest_types.specs.declared.submission.Submission.{Submission}
-use Rattle.contest_store_fixed_rows.specs.Laws.{IsWritableItem, IsWritableMarks, IsWritableProblem, IsWritableSetup}
+use Rattle.contest_store_reading.specs.Laws.{IsWritableItem, IsWritableMarks, IsWritableProblem, IsWritableSetup}
 
 abbrev pub IsName : List ℕ → Type 0
 IsName text = name_from text ≡ Some text

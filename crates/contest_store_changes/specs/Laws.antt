@@ -30,9 +30,9 @@ use Rattle.contest_types.specs.declared.submission.Submission.{Submission}
 use Rattle.contest_store_rows.specs.Cells.{number, flag}
 use Rattle.contest_store_rows.specs.FixedRows.{account_row, group_row, language_row, problem_row, team_row, type_row}
 use Rattle.contest_store_rows.specs.ListRows.{clarification_row, is_ready, member_account, member_row, member_type, proposal_row, rejudging_row, release_row, state_number, submission_row}
-use Rattle.contest_store_fixed_rows.specs.AccountRows.{digest_row}
-use Rattle.contest_store_fixed_rows.specs.Heads.{duration_row, marks_row}
-use Rattle.contest_store_fixed_rows.specs.Items.{team_name_row}
+use Rattle.contest_store_reading.specs.AccountRows.{digest_row}
+use Rattle.contest_store_reading.specs.Heads.{duration_row, marks_row}
+use Rattle.contest_store_reading.specs.Items.{team_name_row}
 use Rattle.contest_store_tables.specs.Schema.{form_of}
 use Rattle.contest_store_tables.specs.Steps.{Rises}
 use Rattle.contest_store_tables.specs.Tables.{TableRows}

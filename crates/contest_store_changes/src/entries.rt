@@ -10,7 +10,7 @@ use crate::settings_rows::{set_digest, set_duration, set_team_name};
 use crate::team_row::insert_team;
 use contest_lists::Lists;
 use contest_store::StoreError;
-use contest_store_fixed_rows::{
+use contest_store_reading::{
     account_cells, group_cells, language_cells, problem_cells, type_cells,
 };
 use contest_store_tables::{TableName, Tables};

@@ -3,8 +3,8 @@
 ghost use Rattle.std.specs.Prelude.{◌≡◌, ◌<◌, ◌^◌, IfSome, length};
 ghost use Rattle.std.specs.List.{AllByRecursion};
 ghost use Rattle.contest_types.specs.IdText.{IsId};
-ghost use Rattle.contest_store_fixed_rows.specs.Laws.{IsWritableItem, IsWritableMarks};
-ghost use Rattle.contest_store_fixed_rows.specs.Laws.{IsWritableSetup};
+ghost use Rattle.contest_store_reading.specs.Laws.{IsWritableItem, IsWritableMarks};
+ghost use Rattle.contest_store_reading.specs.Laws.{IsWritableSetup};
 ghost use Rattle.contest_store_changes.specs.Kinds.{AreOfKinds, HasIdIfAny, IsMoment, IsName};
 ghost use Rattle.contest_store_changes.specs.Kinds.{IsOfKinds, IsProposerId};
 
@@ -161,7 +161,7 @@ impl OfKinds for Member {
 }
 
 impl OfKinds for JudgementType {
-    ghost use Rattle.contest_store_fixed_rows.specs.Laws.{IsWritableItem};
+    ghost use Rattle.contest_store_reading.specs.Laws.{IsWritableItem};
 
     ghost kinds = { λ t. IsWritableItem t.id t.name };
 
@@ -171,7 +171,7 @@ impl OfKinds for JudgementType {
 }
 
 impl OfKinds for Language {
-    ghost use Rattle.contest_store_fixed_rows.specs.Laws.{IsWritableItem};
+    ghost use Rattle.contest_store_reading.specs.Laws.{IsWritableItem};
 
     ghost kinds = { λ l. IsWritableItem l.id l.name };
 
@@ -181,7 +181,7 @@ impl OfKinds for Language {
 }
 
 impl OfKinds for Group {
-    ghost use Rattle.contest_store_fixed_rows.specs.Laws.{IsWritableItem};
+    ghost use Rattle.contest_store_reading.specs.Laws.{IsWritableItem};
 
     ghost kinds = { λ g. IsWritableItem g.id g.name };
 
@@ -191,7 +191,7 @@ impl OfKinds for Group {
 }
 
 impl OfKinds for Team {
-    ghost use Rattle.contest_store_fixed_rows.specs.Laws.{IsWritableItem};
+    ghost use Rattle.contest_store_reading.specs.Laws.{IsWritableItem};
 
     ghost kinds = { λ t. IsWritableItem t.id t.name };
 
@@ -201,7 +201,7 @@ impl OfKinds for Team {
 }
 
 impl OfKinds for Problem {
-    ghost use Rattle.contest_store_fixed_rows.specs.Laws.{IsWritableProblem};
+    ghost use Rattle.contest_store_reading.specs.Laws.{IsWritableProblem};
 
     ghost kinds = { IsWritableProblem };
 

@@ -8,7 +8,7 @@ ghost use Rattle.contest_store_changes.specs.Additions.{Appends};
 use crate::one_row::change_row;
 use contest_lists::Lists;
 use contest_store::StoreError;
-use contest_store_fixed_rows::marks_cells;
+use contest_store_reading::marks_cells;
 use contest_store_tables::{RowChange, Tables};
 use contest_types::{Marks, Moment};
 use sqlite::Alter;

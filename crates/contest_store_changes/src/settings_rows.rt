@@ -8,7 +8,7 @@ use crate::list_rows::fits;
 use crate::one_row::change_row;
 use contest_lists::Lists;
 use contest_store::StoreError;
-use contest_store_fixed_rows::{digest_cells, duration_cells, team_name_cells};
+use contest_store_reading::{digest_cells, duration_cells, team_name_cells};
 use contest_store_tables::{RowChange, Tables};
 use contest_types::{Digest, Id, Name, TimeSpan};
 use sqlite::Alter;

@@ -6,7 +6,7 @@ ghost use Rattle.contest_store_changes.specs.Additions.{Appends};
 use crate::one_row::insert_row;
 use contest_lists::Lists;
 use contest_store::StoreError;
-use contest_store_fixed_rows::{joined_ids, team_cells};
+use contest_store_reading::{joined_ids, team_cells};
 use contest_store_tables::{TableName, Tables};
 use contest_types::Team;
 use sqlite::Alter;

@@ -9,7 +9,7 @@ ghost use Rattle.contest_store_changes.specs.UpgradeSteps.{ShowsNoticeless};
 use crate::list_rows::clarification_fits;
 use contest_lists::Lists;
 use contest_store::StoreError;
-use contest_store_fixed_rows::desk_cells;
+use contest_store_reading::desk_cells;
 use contest_store_rows::{ReplyId, VERSION, clarification_cells};
 use contest_store_tables::{RowChange, TableName, Tables};
 use contest_types::{Clarification, Settings};

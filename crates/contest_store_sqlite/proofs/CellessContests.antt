@@ -7,7 +7,7 @@ use Rattle.sqlite.proofs.StateLemmas.{survives_then, survives_weaker}
 use Rattle.contest_types.specs.State.{ContestState}
 use Rattle.contest_types.specs.declared.clarification.Clarification.{Clarification}
 use Rattle.contest_store.specs.declared.store_error.StoreError.{StoreError}
-use Rattle.contest_store_fixed_rows.specs.Spelling.{lists_in_version}
+use Rattle.contest_store_reading.specs.Spelling.{lists_in_version}
 use Rattle.contest_store_rows.specs.Cells.{numbered}
 use Rattle.contest_store_rows.specs.ListRows.{clarification_row}
 use Rattle.contest_store_rows.specs.declared.versions.TheConstants.{VERSION}

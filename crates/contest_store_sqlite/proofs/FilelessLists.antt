@@ -17,9 +17,9 @@ use Rattle.contest_store_rows.specs.Rejudgings.{rejudgings_in}
 use Rattle.contest_store_rows.specs.Releases.{release_in}
 use Rattle.contest_store_rows.specs.Submissions.{is_submission_row, submission_if, submission_in, submission_said}
 use Rattle.contest_store_rows.specs.Tables.{Tables}
-use Rattle.contest_store_fixed_rows.specs.FixedParts.{fixed_in}
-use Rattle.contest_store_fixed_rows.proofs.OptionSteps.{bound, where_true}
-use Rattle.contest_store_fixed_rows.specs.Spelling.{lists_in_version, with_clarifications_in, with_lists_in, with_proposals_in, with_rejudgings_in, with_releases_in, with_submissions_in, without_rows}
+use Rattle.contest_store_reading.specs.FixedParts.{fixed_in}
+use Rattle.contest_store_reading.proofs.OptionSteps.{bound, where_true}
+use Rattle.contest_store_reading.specs.Spelling.{lists_in_version, with_clarifications_in, with_lists_in, with_proposals_in, with_rejudgings_in, with_releases_in, with_submissions_in, without_rows}
 use Rattle.contest_store_changes.proofs.FoundSteps.{each_read, made, of_found}
 
 abbrev pub HasNoFile : Submission → Type 0

@@ -17,9 +17,9 @@ use Rattle.contest_lists.specs.Lists.{loaded}
 use Rattle.contest_store_rows.specs.Cells.{number_of}
 use Rattle.contest_store_rows.specs.ListRows.{loaded_submission_row}
 use Rattle.contest_store_rows.specs.declared.versions.Version.{Version}
-use Rattle.contest_store_fixed_rows.specs.SpellingLaws.{AreSubmissionRows}
-use Rattle.contest_store_fixed_rows.specs.Spelling.{lists_in_version}
-use Rattle.contest_store_fixed_rows.proofs.SpellingLaws.{contests_write_back}
+use Rattle.contest_store_reading.specs.SpellingLaws.{AreSubmissionRows}
+use Rattle.contest_store_reading.specs.Spelling.{lists_in_version}
+use Rattle.contest_store_reading.proofs.SpellingLaws.{contests_write_back}
 use Rattle.contest_store_tables.specs.Statements.{loaded_row}
 use Rattle.contest_store_tables.specs.Tables.{TableRows}
 use Rattle.contest_store_tables.specs.declared.table_name.TableName.TheVariants.{Submissions}

@@ -3,8 +3,8 @@ use Rattle.std.proofs.Common.{◌≡◌, ◌∙◌, Option, None, Some, sym, ap}
 use Rattle.sqlite.specs.State.{State}
 use Rattle.contest_lists.specs.Lists.{loaded}
 use Rattle.contest_types.specs.State.{ContestState}
-use Rattle.contest_store_fixed_rows.specs.Spelling.{lists_in}
-use Rattle.contest_store_fixed_rows.proofs.SpellingLaws.{contests_read_back}
+use Rattle.contest_store_reading.specs.Spelling.{lists_in}
+use Rattle.contest_store_reading.proofs.SpellingLaws.{contests_read_back}
 use Rattle.contest_store_cells.specs.CellRows.{cell_rows}
 use Rattle.contest_store_cells.proofs.CellOrder.{is_placed}
 use Rattle.contest_store_tables.specs.Steps.{Content, Holds, Showing}

@@ -6,7 +6,7 @@ use Rattle.sqlite.proofs.StateLemmas.{survives_then, survives_weaker}
 use Rattle.contest_types.specs.State.{ContestState, FixedPart}
 use Rattle.contest_types.specs.declared.contest.ContestHead.{ContestHead}
 use Rattle.contest_store.specs.declared.store_error.StoreError.{StoreError}
-use Rattle.contest_store_fixed_rows.specs.Spelling.{without_rows}
+use Rattle.contest_store_reading.specs.Spelling.{without_rows}
 use Rattle.contest_store_tables.specs.Connected.{IsAtRest, IsBare, IsCelless, IsLacking, IsOfDesk}
 use Rattle.contest_store_tables.specs.Counts.{CountsCall}
 use Rattle.contest_store_tables.specs.Steps.{Call, Content, Ended, HasFirst, Holds, MakesNone, MakesNow, OnlyMade, Showing, Undoes, Within}

@@ -11,7 +11,7 @@ use Rattle.contest_store.specs.declared.store_error.StoreError.{StoreError}
 use Rattle.contest_store_rows.specs.Cells.{lent}
 use Rattle.contest_store_rows.specs.FixedRows.{account_row, contest_row, desk_row, items_rows}
 use Rattle.contest_store_rows.specs.declared.versions.TheConstants.{VERSION}
-use Rattle.contest_store_fixed_rows.specs.Spelling.{without_rows}
+use Rattle.contest_store_reading.specs.Spelling.{without_rows}
 use Rattle.contest_store_tables.specs.Schema.{form_of}
 use Rattle.contest_store_tables.specs.Steps.{Content, Full, HasFirst, HasInserted, HasMade, Holding, IsHeldAsGiven, IsWith, MakesNone, Showing, Step, Undoes, Within, with_rows}
 use Rattle.contest_store_tables.specs.Tables.{TableRows}

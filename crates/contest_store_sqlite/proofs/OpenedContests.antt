@@ -8,7 +8,7 @@ use Rattle.sqlite.proofs.StateLemmas.{survives_then, survives_weaker}
 use Rattle.sqlite_catalog.specs.Listing.{IsSound as IsSoundDatabase}
 use Rattle.contest_types.specs.State.{ContestState}
 use Rattle.contest_store.specs.declared.store_error.StoreError.{StoreError}
-use Rattle.contest_store_fixed_rows.specs.Spelling.{lists_in_version}
+use Rattle.contest_store_reading.specs.Spelling.{lists_in_version}
 use Rattle.contest_store_rows.specs.declared.versions.TheConstants.{VERSION}
 use Rattle.contest_store_cells.specs.CellRows.{cell_rows}
 use Rattle.contest_store_tables.specs.Connected.{IsAtRest, IsCelless, IsOfDesk}

@@ -12,7 +12,7 @@ use Rattle.contest_store.specs.Keeping.{Kept, LeavesOr, Shows}
 use Rattle.contest_lists.specs.Lists.{loaded}
 use Rattle.contest_store.specs.StoreErrors.{refusal_of}
 use Rattle.contest_store.specs.declared.store_error.StoreError.{StoreError}
-use Rattle.contest_store_fixed_rows.specs.Laws.{IsWritableItem}
+use Rattle.contest_store_reading.specs.Laws.{IsWritableItem}
 use Rattle.contest_store_tables.specs.Connected.{IsBare}
 use Rattle.contest_store_tables.specs.Steps.{Content, Holding, Holds, OnlyMade, Showing, Within}
 use Rattle.contest_store_tables.specs.Tables.{rows_in}

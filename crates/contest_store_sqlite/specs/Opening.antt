@@ -13,7 +13,7 @@ use Rattle.contest_store_tables.specs.Tables.{rows_in, with_cells_back}
 use Rattle.contest_store_tables.specs.declared.counts.Counts.{Counts}
 use Rattle.contest_store_tables.specs.declared.later_table.LaterTable.{LaterTable}
 use Rattle.contest_store_tables.specs.declared.table_name.TableName.TheVariants.{Cells, Desk}
-use Rattle.contest_store_fixed_rows.specs.FixedParts.{is_desk}
+use Rattle.contest_store_reading.specs.FixedParts.{is_desk}
 use Rattle.contest_store_rows.specs.declared.versions.Version.TheVariants.{First}
 use Rattle.contest_store_sqlite.specs.Contests.{HoldsContests, contest_in_trees, listed_in_trees, may_leave_of}
 use Rattle.contest_store_sqlite.specs.Value.{StoreValue}

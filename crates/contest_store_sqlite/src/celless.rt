@@ -3,7 +3,7 @@
 //! belongs.
 ghost use Rattle.std.specs.Prelude.{◌≡◌, [], IfOk, IfSome, IsTrue, OnOk, Some, false};
 ghost use Rattle.sqlite.specs.State.{HasCleanDisk, Survives};
-ghost use Rattle.contest_store_fixed_rows.specs.Spelling.{lists_in_version, tables_of};
+ghost use Rattle.contest_store_reading.specs.Spelling.{lists_in_version, tables_of};
 ghost use Rattle.contest_store_rows.specs.declared.versions.TheConstants.{VERSION};
 ghost use Rattle.contest_store_tables.specs.Celless.{FullCelless};
 ghost use Rattle.contest_store_tables.specs.Connected.{counts_of, shown_by};
@@ -21,7 +21,7 @@ use crate::opening::{keep_settled, keep_valid};
 use crate::reads::{load_rows, put, read_scored};
 use contest_store::{ScoredLists, StoreError};
 use contest_store_changes::insert_notices;
-use contest_store_fixed_rows::LoadedRows;
+use contest_store_reading::LoadedRows;
 use contest_store_rows::VERSION;
 use contest_store_tables::{TableName, Tables};
 use sqlite::{Alter, Row};

@@ -10,7 +10,7 @@
 ghost use Rattle.std.specs.Prelude.{◌≡◌, IfOk, IsTrue, false, true};
 ghost use Rattle.sqlite.specs.Effect.{IsDatabase};
 ghost use Rattle.sqlite.specs.State.{HasCleanDisk, Survives};
-ghost use Rattle.contest_store_fixed_rows.specs.FixedParts.{is_desk};
+ghost use Rattle.contest_store_reading.specs.FixedParts.{is_desk};
 ghost use Rattle.contest_store_rows.specs.declared.versions.Version.TheVariants.{First};
 ghost use Rattle.contest_store_tables.specs.Connected.{IsAtRest, IsLacking, shown_by, counts_of};
 ghost use Rattle.contest_store_tables.specs.Numbered.{IsNumbered};
@@ -25,7 +25,7 @@ ghost use Rattle.contest_store_sqlite.specs.Steps.{HasAll, HoldsLacking};
 
 use crate::open_error::OpenError;
 use contest_store::StoreError;
-use contest_store_fixed_rows::is_desk;
+use contest_store_reading::is_desk;
 use contest_store_rows::Version;
 use contest_store_tables::{LaterTable, TableName, Tables};
 use sqlite::Alter;

@@ -1,7 +1,7 @@
 //! The contest whose lists the tables of a connection show, where it is a valid one, and its cells.
 ghost use Rattle.std.specs.Prelude.{◌≡◌, IfErr, IfOk, IfSome, IsTrue, OnOk, Some, false, true};
 ghost use Rattle.sqlite.specs.State.{HasCleanDisk, Survives};
-ghost use Rattle.contest_store_fixed_rows.specs.Spelling.{lists_in_version};
+ghost use Rattle.contest_store_reading.specs.Spelling.{lists_in_version};
 ghost use Rattle.contest_store_tables.specs.Connected.{shown_by, counts_of};
 ghost use Rattle.contest_store_tables.specs.Numbered.{IsNumbered};
 ghost use Rattle.contest_store_tables.specs.Steps.{Call, Content, Full, Holds, IsLive, MakesNone};

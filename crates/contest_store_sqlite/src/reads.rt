@@ -3,7 +3,7 @@ ghost use Rattle.std.specs.Prelude.{◌≡◌, IfOk};
 ghost use Rattle.sqlite.specs.State.{HasCleanDisk};
 ghost use Rattle.contest_types.specs.State.{ContestState};
 ghost use Rattle.contest_lists.specs.Lists.{loaded};
-ghost use Rattle.contest_store_fixed_rows.specs.Spelling.{lists_in, lists_in_version, tables_of};
+ghost use Rattle.contest_store_reading.specs.Spelling.{lists_in, lists_in_version, tables_of};
 ghost use Rattle.contest_store_tables.specs.Connected.{shown_by, counts_of};
 ghost use Rattle.contest_store_tables.specs.Steps.{Call, Step, Content, Full, Holds, MakesNone};
 ghost use Rattle.contest_store_tables.specs.Steps.{Showing, Within};
@@ -15,7 +15,7 @@ ghost use Rattle.contest_store_sqlite.specs.Loading.{AllRise, no_rows, with_load
 ghost use Rattle.contest_store_sqlite.specs.Steps.{HoldsDesk};
 
 use contest_store::{ScoredLists, StoreError};
-use contest_store_fixed_rows::{LoadedRows, read_lists};
+use contest_store_reading::{LoadedRows, read_lists};
 use contest_store_rows::{VERSION, Version};
 use contest_store_tables::{LIST_TABLES, TableName, Tables};
 use sqlite::{Alter, Row};

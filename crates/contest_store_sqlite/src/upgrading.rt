@@ -2,7 +2,7 @@
 ghost use Rattle.std.specs.Prelude.{◌≡◌, IfOk, IfSome, IsTrue, OnOk, Some, false, true};
 ghost use Rattle.sqlite.specs.State.{HasCleanDisk, Survives};
 ghost use Rattle.contest_types.specs.State.{ContestState};
-ghost use Rattle.contest_store_fixed_rows.specs.Spelling.{lists_in_version};
+ghost use Rattle.contest_store_reading.specs.Spelling.{lists_in_version};
 ghost use Rattle.contest_store_rows.specs.declared.versions.Version.TheVariants.{First};
 ghost use Rattle.contest_store_tables.specs.Connected.{shown_by, counts_of};
 ghost use Rattle.contest_store_tables.specs.Numbered.{IsNumbered};

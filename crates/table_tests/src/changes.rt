@@ -5,7 +5,7 @@ use contest_fixtures::rehearsal;
 use contest_lists::Lists;
 use contest_store::StoreError;
 use contest_store_changes::write_entry;
-use contest_store_fixed_rows::{contest_cells, desk_cells};
+use contest_store_reading::{contest_cells, desk_cells};
 use contest_store_rows::{VERSION, is_row};
 use contest_store_tables::{Counts, TableName, Tables};
 use contest_types::{Entry, Fixed, Rows};

@@ -2,7 +2,7 @@ use Rattle.std.proofs.Common.{◌≡◌, ◌∙◌, List, [], Some, ap, arith, s
 use Rattle.std.specs.Prelude.{IfSome}
 use Rattle.sqlite.specs.State.{HasCleanDisk}
 use Rattle.sqlite_value.specs.Order.{Row}
-use Rattle.contest_store_fixed_rows.specs.Spelling.{lists_in_version}
+use Rattle.contest_store_reading.specs.Spelling.{lists_in_version}
 use Rattle.contest_store_rows.specs.Tables.{Tables}
 use Rattle.contest_store_rows.specs.declared.versions.TheConstants.{VERSION}
 use Rattle.contest_store_tables.specs.Connected.{shown_by}

@@ -1,4 +1,4 @@
-use Rattle.contest_store_fixed_rows.specs.Spelling.{without_rows}
+use Rattle.contest_store_reading.specs.Spelling.{without_rows}
 use Rattle.contest_store_tables.specs.Connected.{shown_by}
 use Rattle.contest_store_sqlite.proofs.MadeContests.{not_made, then_committed}
 use Rattle.contest_store_sqlite.proofs.creation.make_desk.Goals as goal

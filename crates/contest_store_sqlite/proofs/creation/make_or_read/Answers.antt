@@ -1,4 +1,4 @@
-use Rattle.contest_store_fixed_rows.specs.Spelling.{without_rows}
+use Rattle.contest_store_reading.specs.Spelling.{without_rows}
 use Rattle.contest_store_tables.specs.Connected.{shown_by}
 use Rattle.contest_store_sqlite.proofs.MadeContests.{either_filled, either_whole, not_bare}
 use Rattle.contest_store_sqlite.proofs.creation.make_or_read.Goals as goal

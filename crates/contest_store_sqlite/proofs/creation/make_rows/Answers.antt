@@ -1,4 +1,4 @@
-use Rattle.contest_store_fixed_rows.specs.Spelling.{without_rows}
+use Rattle.contest_store_reading.specs.Spelling.{without_rows}
 use Rattle.contest_store_tables.specs.Connected.{counts_of, shown_by}
 use Rattle.contest_store_tables.specs.Steps.{HasFirst}
 use Rattle.contest_store_sqlite.specs.Creation.{HasContest, HoldsNone}

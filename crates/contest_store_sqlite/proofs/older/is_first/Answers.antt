@@ -1,6 +1,6 @@
 use Rattle.std.proofs.Common.{◌∙◌, ap}
 use Rattle.std.proofs.lemmas.List.{map-id}
-use Rattle.contest_store_fixed_rows.specs.FixedParts.{is_desk}
+use Rattle.contest_store_reading.specs.FixedParts.{is_desk}
 use Rattle.contest_store_rows.specs.declared.versions.Version.TheVariants.{First}
 use Rattle.contest_store_tables.specs.Connected.{shown_by}
 use Rattle.contest_store_tables.specs.Steps.{Full}

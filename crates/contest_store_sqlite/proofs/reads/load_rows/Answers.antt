@@ -1,4 +1,4 @@
-use Rattle.contest_store_fixed_rows.specs.Spelling.{tables_of}
+use Rattle.contest_store_reading.specs.Spelling.{tables_of}
 use Rattle.contest_store_tables.specs.Connected.{shown_by}
 use Rattle.contest_store_tables.specs.Steps.{Full}
 use Rattle.contest_store_tables.specs.declared.table_name.TableName.TheVariants.{Desk}

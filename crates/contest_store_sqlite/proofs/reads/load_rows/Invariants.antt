@@ -1,4 +1,4 @@
-use Rattle.contest_store_fixed_rows.specs.Spelling.{tables_of}
+use Rattle.contest_store_reading.specs.Spelling.{tables_of}
 use Rattle.contest_store_tables.specs.Connected.{shown_by, counts_of}
 use Rattle.contest_store_sqlite.proofs.RowsLoaded.{LoadsFirst}
 use Rattle.contest_store_sqlite.proofs.reads.load_rows.Given as goal

@@ -1,7 +1,7 @@
 use Rattle.std.proofs.Common.{◌≡◌, Some, subst, arith}
 use Rattle.std.specs.Prelude.{IfSome}
 use Rattle.sqlite.specs.State.{HasCleanDisk}
-use Rattle.contest_store_fixed_rows.specs.Spelling.{lists_in_version}
+use Rattle.contest_store_reading.specs.Spelling.{lists_in_version}
 use Rattle.contest_store_rows.specs.declared.versions.Version.TheVariants.{First}
 use Rattle.contest_store_tables.specs.Connected.{shown_by}
 use Rattle.contest_store_changes.specs.ContestTables.{loaded_tables}

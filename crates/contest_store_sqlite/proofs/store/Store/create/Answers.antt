@@ -2,7 +2,7 @@ use Rattle.std.proofs.Common.{IsTrue, true, ap, subst, subst₂, sym}
 use Rattle.sqlite.specs.State.{HasCleanDisk}
 use Rattle.sqlite.specs.Held.{state}
 use Rattle.contest_types.specs.State.{ContestState}
-use Rattle.contest_store_fixed_rows.specs.Spelling.{without_rows}
+use Rattle.contest_store_reading.specs.Spelling.{without_rows}
 use Rattle.contest_store_tables.specs.Connected.{IsBare, counts_of, shown_by}
 use Rattle.contest_store_sqlite.specs.Creation.{Created, KeepsLists, LeavesEither, StoodEqual, StoodOther}
 use Rattle.contest_store_sqlite.specs.Keeping.{kept_of}

@@ -1,8 +1,0 @@
-use Rattle.contest_store_fixed_rows.proofs.FixedLaws.{fixed_reads_back, fixed_writes_back}
-use Rattle.contest_store_fixed_rows.proofs.laws.fixed_parts_are_their_rows.Goals as goal
-
-pub returns-clause-read : goal.returns-clause-read
-returns-clause-read c = fixed_reads_back
-
-pub returns-clause-written : goal.returns-clause-written
-returns-clause-written c = fixed_writes_back
