@@ -12,7 +12,7 @@ use Rattle.contest_score.specs.Awards.{shown_awards}
 use Rattle.contest_score.specs.Contest.{board_for, seen_board}
 use Rattle.contest_score.specs.Ranking.{Scoreboard}
 use Rattle.contest_view.specs.Scoreboards.{board_found}
-use Rattle.contest_text.specs.ResultsTsv.{results_tsv}
+use Rattle.contest_exports.specs.ResultsTsv.{results_tsv}
 use Rattle.contest_desk.specs.Boards.{found_told}
 use Rattle.contest_desk.specs.Serving.{OnlyReads}
 use Rattle.contest_store.specs.Keeping.{Kept, LeavesNoMore}

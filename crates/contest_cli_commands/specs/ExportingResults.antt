@@ -11,7 +11,7 @@ use Rattle.contest_score.specs.Contest.{board_for}
 use Rattle.contest_store.specs.Keeping.{Kept, LeavesNoMore}
 use Rattle.contest_store_sqlite.specs.Contests.{may_leave_of}
 use Rattle.contest_store_sqlite.specs.Opening.{FindsContest, may_leave_filled}
-use Rattle.contest_text.specs.ResultsTsv.{results_tsv}
+use Rattle.contest_exports.specs.ResultsTsv.{results_tsv}
 use Rattle.contest_cli_words.specs.declared.command_error.CommandError.{CommandError}
 use Rattle.contest_cli_words.specs.declared.command_error.CommandError.TheVariants.{Refused}
 use Rattle.contest_cli_commands.specs.Exporting.{TellsWritten}

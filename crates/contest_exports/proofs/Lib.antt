@@ -4,3 +4,4 @@ pub mod ExportReads
 pub mod ExportWritten
 pub mod ExportLaws
 mod ExamplesExport
+mod ExamplesResults

@@ -1,4 +1,5 @@
 pub mod Walks
 pub mod SubmissionsCsv
+pub mod ResultsTsv
 pub mod Exports
 pub mod Laws

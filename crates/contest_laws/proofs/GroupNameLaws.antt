@@ -5,7 +5,7 @@ use Rattle.std.specs.List.{cons_option, filter_map}
 use Rattle.std.specs.Option.{option_map_or}
 use Rattle.contest_types.specs.SettingsNames.{group_name_at}
 use Rattle.contest_score.specs.AwardLaws.{has_award}
-use Rattle.contest_text.specs.ResultsTsv.{group_of_award, group_text}
+use Rattle.contest_exports.specs.ResultsTsv.{group_of_award, group_text}
 use Rattle.contest_laws.specs.GroupsWon.{FirstGroupIsNamed}
 
 abbrev first_of : List (List ℕ) → List ℕ

@@ -6,7 +6,7 @@ use Rattle.contest_types.specs.Setup.{Setup}
 use Rattle.contest_types.specs.SettingsNames.{group_name_at}
 use Rattle.contest_score.specs.AwardLaws.{has_award}
 use Rattle.contest_score.specs.declared.award.Award.{Award}
-use Rattle.contest_text.specs.ResultsTsv.{group_of_award, group_text}
+use Rattle.contest_exports.specs.ResultsTsv.{group_of_award, group_text}
 
 -- the names of the groups that a team won, in the order of the awards
 abbrev pub groups_won : Setup → List Award → (team : ℕ) → List (List ℕ)

@@ -3,4 +3,3 @@ pub mod CellText
 pub mod BoardText
 pub mod BoardCsv
 pub mod AwardsText
-pub mod ResultsTsv

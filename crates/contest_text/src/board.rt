@@ -275,7 +275,11 @@ fn push_row(
 }
 
 /// A number in decimal digits.
-pub(crate) fn number_text(alloc: Global, number: u64) -> Result<String, AllocError>
+///
+/// # Errors
+///
+/// Want of memory alone.
+pub fn number_text(alloc: Global, number: u64) -> Result<String, AllocError>
     ensures { IfOk result (λ text. string_bytes text ≡ decimal number) }
 {
     format!(in alloc; "{number}")

@@ -1,5 +1,5 @@
-//! A contest's results as text: the board that a terminal shows, and as CSV; the awards; the results
-//! as ICPC's systems take them; records of CSV.
+//! A contest's results as text: the board that a terminal shows, and as CSV; the awards; records of
+//! CSV.
 #![tactic(auto)]
 
 mod awards;
@@ -8,10 +8,8 @@ mod cell_text;
 mod csv_board;
 mod csv_record;
 mod padding;
-mod results;
 
 pub use awards::awards_text;
-pub use board::board_text;
+pub use board::{board_text, number_text};
 pub use csv_board::board_csv;
 pub use csv_record::{push_fields, record_text};
-pub use results::results_tsv;

@@ -2,12 +2,12 @@
 ghost use Rattle.std.specs.Prelude.{◌≡◌, ◌++◌, None, OnOk, IfOk, if◌then◌else◌, map, string_bytes};
 ghost use Rattle.std.specs.List.{flat_map};
 ghost use Rattle.contest_score.specs.AwardLaws.{has_award};
-ghost use Rattle.contest_text.specs.ResultsTsv.{group_of_award, group_text, has_named};
-ghost use Rattle.contest_text.specs.ResultsTsv.{last_solve_text, medal_text, next_field};
-ghost use Rattle.contest_text.specs.ResultsTsv.{result_line, results_tsv, tab_line};
+ghost use Rattle.contest_exports.specs.ResultsTsv.{group_of_award, group_text, has_named};
+ghost use Rattle.contest_exports.specs.ResultsTsv.{last_solve_text, medal_text, next_field};
+ghost use Rattle.contest_exports.specs.ResultsTsv.{result_line, results_tsv, tab_line};
 
-use crate::board::number_text;
 use contest_score::{Award, Board, Row};
+use contest_text::number_text;
 use contest_types::{Minute, Settings};
 use std::alloc::{AllocError, Global};
 
