@@ -17,7 +17,7 @@ ghost use Rattle.contest_store_sqlite.specs.Loading.{AllRise, AreChecked, with_l
 ghost use Rattle.contest_store_sqlite.specs.Settling.{MakesRightOfTables, ReadsTables};
 
 use crate::older::make_both;
-use crate::opening::{keep_settled, keep_valid};
+use crate::opening::{check_valid, keep_mended};
 use crate::reads::{load_rows, put, read_scored};
 use contest_store::{ScoredLists, StoreError};
 use contest_store_changes::insert_notices;
@@ -71,7 +71,7 @@ fn put_back<S: Alter>(
     ensures survives { Survives (shown_by S.Store tables.old) (shown_by S.Store tables.new) (MakesBack lists (shown_by S.Store tables.old)) }
 {
     match insert_notices(tables, lists.lists()) {
-        Ok(()) => keep_settled(tables, alloc, lists),
+        Ok(()) => keep_mended(tables, alloc, lists),
         Err(error) => {
             drop(lists);
             Err(error)
@@ -179,7 +179,7 @@ fn check_rows<S: Alter>(
     ensures step { Step result (shown_by S.Store tables.old) (shown_by S.Store tables.new) (counts_of tables.old) (counts_of tables.new) Full Full (MakesNone (shown_by S.Store tables.old) Full) }
 {
     match read_scored(alloc, VERSION, &rows) {
-        Ok(found) => keep_valid(tables, alloc, found),
+        Ok(found) => check_valid(tables, alloc, found),
         Err(AllocError) => Err(tables.out_of_memory()),
     }
 }

@@ -20,7 +20,7 @@ use std::alloc::{AllocError, Global};
 /// # Errors
 ///
 /// `Memory` where a growth was refused; `Fault` where the connection failed for another cause.
-pub(crate) fn settle_cells<S: Alter>(
+pub(crate) fn mend_cells<S: Alter>(
     tables: &mut Tables<S>,
     alloc: Global,
     lists: &ScoredLists,

@@ -17,10 +17,10 @@ ghost use Rattle.contest_store_rows.specs.declared.versions.TheConstants.{VERSIO
 ghost use Rattle.contest_store_sqlite.specs.Steps.{HoldsDesk};
 
 use crate::celless::read_celless;
-use crate::cells::settle_cells;
+use crate::cells::mend_cells;
 use crate::older::older_error;
 use crate::open_error::OpenError;
-use crate::reads::find_within;
+use crate::reads::read_within;
 use contest_lists::Lists;
 use contest_store::{ScoredLists, StoreError};
 use contest_store_changes::are_of_kinds;
@@ -81,9 +81,9 @@ pub(crate) fn read_tables<S: Alter>(
     ensures rest { HasCleanDisk (shown_by S.Store tables.new) → OnOk result ((shown_by S.Store tables.new).in_transaction ≡ false) }
     ensures survives { Survives (shown_by S.Store tables.old) (shown_by S.Store tables.new) (MakesRightOfTables Showing (shown_by S.Store tables.old)) }
 {
-    match find_valid(tables, alloc) {
+    match begin_and_read(tables, alloc) {
         Ok(found) => match found {
-            Some(lists) => keep_settled(tables, alloc, lists),
+            Some(lists) => keep_mended(tables, alloc, lists),
             None => {
                 tables.roll_back();
                 Err(StoreError::Fault)
@@ -94,7 +94,7 @@ pub(crate) fn read_tables<S: Alter>(
 }
 
 /// The lists, whose cells are right and committed.
-pub(crate) fn keep_settled<S: Alter>(
+pub(crate) fn keep_mended<S: Alter>(
     tables: &mut Tables<S>,
     alloc: Global,
     lists: ScoredLists,
@@ -105,7 +105,7 @@ pub(crate) fn keep_settled<S: Alter>(
     ensures rest { HasCleanDisk (shown_by S.Store tables.new) → OnOk result ((shown_by S.Store tables.new).in_transaction ≡ false) }
     ensures survives { Survives (shown_by S.Store tables.old) (shown_by S.Store tables.new) (MakesRight lists (shown_by S.Store tables.old)) }
 {
-    match commit_settled(tables, alloc, &lists) {
+    match mend_and_commit(tables, alloc, &lists) {
         Ok(()) => Ok(lists),
         Err(error) => {
             drop(lists);
@@ -115,7 +115,7 @@ pub(crate) fn keep_settled<S: Alter>(
 }
 
 /// Settles the cells of these lists, and commits. Where there are other cells, no call failed.
-pub(crate) fn commit_settled<S: Alter>(
+pub(crate) fn mend_and_commit<S: Alter>(
     tables: &mut Tables<S>,
     alloc: Global,
     lists: &ScoredLists,
@@ -125,7 +125,7 @@ pub(crate) fn commit_settled<S: Alter>(
     ensures rest { HasCleanDisk (shown_by S.Store tables.new) → OnOk result ((shown_by S.Store tables.new).in_transaction ≡ false) }
     ensures survives { Survives (shown_by S.Store tables.old) (shown_by S.Store tables.new) (MakesRight lists.now (shown_by S.Store tables.old)) }
 {
-    match settle_cells(tables, alloc, lists) {
+    match mend_cells(tables, alloc, lists) {
         Ok(true) => tables.commit(),
         Ok(false) => {
             tables.roll_back();
@@ -135,9 +135,9 @@ pub(crate) fn commit_settled<S: Alter>(
     }
 }
 
-// The lists in a transaction, if they are a valid contest's. No file of theirs is too large, since
+// Begins a transaction, and gives the lists, if they are a valid contest's. No file of theirs is too large, since
 // none is read then.
-fn find_valid<S: Alter>(
+fn begin_and_read<S: Alter>(
     tables: &mut Tables<S>,
     alloc: Global,
 ) -> Result<Option<ScoredLists>, StoreError>
@@ -146,14 +146,14 @@ fn find_valid<S: Alter>(
     ensures call { Call result (shown_by S.Store tables.old) (shown_by S.Store tables.new) (counts_of tables.old) (counts_of tables.new) HoldsDesk Full (MakesNone (shown_by S.Store tables.old) HoldsDesk) }
 {
     match tables.begin() {
-        Ok(()) => check_within(tables, alloc, VERSION),
+        Ok(()) => read_valid_within(tables, alloc, VERSION),
         Err(error) => Err(error),
     }
 }
 
 /// The lists that the tables show in a version of the schema, within a transaction, if they are a
 /// valid contest's.
-pub(crate) fn check_within<S: Alter>(
+pub(crate) fn read_valid_within<S: Alter>(
     tables: &mut Tables<S>,
     alloc: Global,
     version: Version,
@@ -162,14 +162,14 @@ pub(crate) fn check_within<S: Alter>(
     ensures checked { IfOk result (λ found. IfSome found AreChecked) }
     ensures step { Step result (shown_by S.Store tables.old) (shown_by S.Store tables.new) (counts_of tables.old) (counts_of tables.new) Full Full (MakesNone (shown_by S.Store tables.old) Full) }
 {
-    match find_within(tables, alloc, version) {
-        Ok(found) => keep_valid(tables, alloc, found),
+    match read_within(tables, alloc, version) {
+        Ok(found) => check_valid(tables, alloc, found),
         Err(error) => Err(error),
     }
 }
 
 /// Lists that were found within a transaction, if they are a valid contest's.
-pub(crate) fn keep_valid<S: Alter>(
+pub(crate) fn check_valid<S: Alter>(
     tables: &mut Tables<S>,
     alloc: Global,
     found: Option<ScoredLists>,

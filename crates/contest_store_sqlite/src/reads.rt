@@ -59,13 +59,13 @@ pub(crate) fn find_lists<S: Alter>(
     ensures call { Call result (shown_by S.Store tables.old) (shown_by S.Store tables.new) (counts_of tables.old) (counts_of tables.new) HoldsDesk Full (MakesNone (shown_by S.Store tables.old) HoldsDesk) }
 {
     match tables.begin() {
-        Ok(()) => find_within(tables, alloc, VERSION),
+        Ok(()) => read_within(tables, alloc, VERSION),
         Err(error) => Err(error),
     }
 }
 
 /// The same within a transaction, in a version of the schema.
-pub(crate) fn find_within<S: Alter>(
+pub(crate) fn read_within<S: Alter>(
     tables: &mut Tables<S>,
     alloc: Global,
     version: Version,

@@ -18,7 +18,7 @@ ghost use Rattle.contest_store_sqlite.specs.Upgrading.{MakesUpgraded, MovesUp, U
 
 use crate::celless::read_celless;
 use crate::older::begin_whole;
-use crate::opening::{check_within, commit_settled, read_tables};
+use crate::opening::{mend_and_commit, read_tables, read_valid_within};
 use contest_store::{ScoredLists, StoreError};
 use contest_store_changes::upgrade;
 use contest_store_rows::Version;
@@ -105,7 +105,7 @@ fn find_first<S: Alter>(
     ensures call { Call result (shown_by S.Store tables.old) (shown_by S.Store tables.new) (counts_of tables.old) (counts_of tables.new) (HoldsLacking table) (HasAll table) (MakesNone (shown_by S.Store tables.old) (HoldsLacking table)) }
 {
     match begin_whole(tables, table) {
-        Ok(()) => check_within(tables, alloc, Version::First),
+        Ok(()) => read_valid_within(tables, alloc, Version::First),
         Err(error) => Err(error),
     }
 }
@@ -135,7 +135,7 @@ fn move_lists<S: Alter>(
     ensures survives { Survives (shown_by S.Store tables.old) (shown_by S.Store tables.new) (MakesMoved lists.now (shown_by S.Store tables.old)) }
 {
     match upgrade(tables, lists.lists()) {
-        Ok(()) => commit_settled(tables, alloc, lists),
+        Ok(()) => mend_and_commit(tables, alloc, lists),
         Err(error) => Err(error),
     }
 }

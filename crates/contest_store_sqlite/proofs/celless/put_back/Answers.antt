@@ -11,18 +11,18 @@ returns-in-Ok-clause-back g c =
     let old = shown_by g.S.Store c.args.tables.now in
     let mid = shown_by g.S.Store c.insert_notices.new.tables in
     let one = subst (λ (l : ContestState). Step c.insert_notices.result old mid (counts_of c.args.tables.now) (counts_of c.insert_notices.new.tables) (ShowsNoticeless l) (HasMoved l (length l.clarifications)) (MakesNone old (ShowsNoticeless l))) c.lists.ensures c.insert_notices.ensures in
-    puts_back c.args.lists c.in-Ok.field-0 c.keep_settled.result old mid (shown_by g.S.Store c.keep_settled.new.tables) _ (counts_of c.insert_notices.new.tables)
+    puts_back c.args.lists c.in-Ok.field-0 c.keep_mended.result old mid (shown_by g.S.Store c.keep_mended.new.tables) _ (counts_of c.insert_notices.new.tables)
     (subst (λ r. Step r old mid (counts_of c.args.tables.now) (counts_of c.insert_notices.new.tables) (ShowsNoticeless c.args.lists) (HasMoved c.args.lists (length c.args.lists.clarifications)) (MakesNone old (ShowsNoticeless c.args.lists))) c.in-Ok.is one)
-    c.keep_settled.ensures.survives c.keep_settled.ensures.keeps
+    c.keep_mended.ensures.survives c.keep_mended.ensures.keeps
 
 pub returns-in-Ok-clause-survives : goal.returns-in-Ok-clause-survives
 returns-in-Ok-clause-survives g c =
     let old = shown_by g.S.Store c.args.tables.now in
     let mid = shown_by g.S.Store c.insert_notices.new.tables in
     let one = subst (λ (l : ContestState). Step c.insert_notices.result old mid (counts_of c.args.tables.now) (counts_of c.insert_notices.new.tables) (ShowsNoticeless l) (HasMoved l (length l.clarifications)) (MakesNone old (ShowsNoticeless l))) c.lists.ensures c.insert_notices.ensures in
-    makes_back c.args.lists c.in-Ok.field-0 c.keep_settled.result old mid (shown_by g.S.Store c.keep_settled.new.tables) _ (counts_of c.insert_notices.new.tables)
+    makes_back c.args.lists c.in-Ok.field-0 c.keep_mended.result old mid (shown_by g.S.Store c.keep_mended.new.tables) _ (counts_of c.insert_notices.new.tables)
     (subst (λ r. Step r old mid (counts_of c.args.tables.now) (counts_of c.insert_notices.new.tables) (ShowsNoticeless c.args.lists) (HasMoved c.args.lists (length c.args.lists.clarifications)) (MakesNone old (ShowsNoticeless c.args.lists))) c.in-Ok.is one)
-    c.keep_settled.ensures.survives
+    c.keep_mended.ensures.survives
 
 pub returns-in-Err-clause-survives : goal.returns-in-Err-clause-survives
 returns-in-Err-clause-survives g c =

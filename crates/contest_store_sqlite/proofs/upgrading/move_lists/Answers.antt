@@ -8,16 +8,16 @@ returns-in-Ok-clause-moves g c =
     let old = shown_by g.S.Store c.args.tables.now in
     let mid = shown_by g.S.Store c.upgrade.new.tables in
     let moves = same_lists (Ok c.in-Ok.field-0) old mid _ (counts_of c.upgrade.new.tables) c.lists.result.now c.args.lists.now c.lists.ensures c.in-Ok.ensures in
-    moves_up c.in-Ok.field-0 c.commit_settled.result old mid (shown_by g.S.Store c.commit_settled.new.tables) _ (counts_of c.upgrade.new.tables) c.args.lists.now moves
-    c.commit_settled.ensures.survives c.commit_settled.ensures.keeps
+    moves_up c.in-Ok.field-0 c.mend_and_commit.result old mid (shown_by g.S.Store c.mend_and_commit.new.tables) _ (counts_of c.upgrade.new.tables) c.args.lists.now moves
+    c.mend_and_commit.ensures.survives c.mend_and_commit.ensures.keeps
 
 pub returns-in-Ok-clause-survives : goal.returns-in-Ok-clause-survives
 returns-in-Ok-clause-survives g c =
     let old = shown_by g.S.Store c.args.tables.now in
     let mid = shown_by g.S.Store c.upgrade.new.tables in
     let moves = same_lists (Ok c.in-Ok.field-0) old mid _ (counts_of c.upgrade.new.tables) c.lists.result.now c.args.lists.now c.lists.ensures c.in-Ok.ensures in
-    makes_moved c.in-Ok.field-0 c.commit_settled.result old mid (shown_by g.S.Store c.commit_settled.new.tables) _ (counts_of c.upgrade.new.tables) c.args.lists.now moves
-    c.commit_settled.ensures.survives
+    makes_moved c.in-Ok.field-0 c.mend_and_commit.result old mid (shown_by g.S.Store c.mend_and_commit.new.tables) _ (counts_of c.upgrade.new.tables) c.args.lists.now moves
+    c.mend_and_commit.ensures.survives
 
 pub returns-in-Err-clause-survives : goal.returns-in-Err-clause-survives
 returns-in-Err-clause-survives g c =

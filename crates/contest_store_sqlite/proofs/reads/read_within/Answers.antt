@@ -3,7 +3,7 @@ use Rattle.contest_store_reading.specs.Spelling.{lists_in_version}
 use Rattle.contest_store_tables.specs.Connected.{shown_by}
 use Rattle.contest_store_tables.specs.Steps.{Full}
 use Rattle.contest_store_sqlite.proofs.LaterSteps.{given_up_then}
-use Rattle.contest_store_sqlite.proofs.reads.find_within.Goals as goal
+use Rattle.contest_store_sqlite.proofs.reads.read_within.Goals as goal
 
 pub returns-in-Ok-read_scored-clause-lists : goal.returns-in-Ok-read_scored-clause-lists
 returns-in-Ok-read_scored-clause-lists g c clean now kept within up = c.in-Ok-read_scored.ensures ∙ ap (lists_in_version c.args.version) (c.in-Ok.ensures.rows clean now kept within up)

@@ -1,7 +1,7 @@
 use Rattle.std.proofs.Common.{◌∙◌}
 use Rattle.contest_store_tables.specs.Connected.{shown_by}
 use Rattle.contest_store_sqlite.proofs.SettledCells.{settled_rows, settles_unloaded}
-use Rattle.contest_store_sqlite.proofs.cells.settle_cells.Goals as goal
+use Rattle.contest_store_sqlite.proofs.cells.mend_cells.Goals as goal
 
 pub returns-in-Ok : goal.returns-in-Ok
 returns-in-Ok g c =

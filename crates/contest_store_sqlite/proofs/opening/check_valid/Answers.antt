@@ -4,7 +4,7 @@ use Rattle.contest_store_tables.specs.Connected.{counts_of, shown_by}
 use Rattle.contest_store_tables.specs.Counts.{counted}
 use Rattle.contest_store_tables.specs.Steps.{Full, MakesNone}
 use Rattle.contest_store_tables.proofs.StepLemmas.{ran}
-use Rattle.contest_store_sqlite.proofs.opening.keep_valid.Goals as goal
+use Rattle.contest_store_sqlite.proofs.opening.check_valid.Goals as goal
 
 pub returns-in-Err-clause-step : goal.returns-in-Err-clause-step
 returns-in-Err-clause-step g c =
