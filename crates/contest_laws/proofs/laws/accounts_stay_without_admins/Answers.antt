@@ -1,5 +1,0 @@
-use Rattle.contest_laws.proofs.AdminLaws as lemmas
-use Rattle.contest_laws.proofs.laws.accounts_stay_without_admins.Goals as goal
-
-pub returns : goal.returns
-returns c = lemmas.accounts_stay_without_admins

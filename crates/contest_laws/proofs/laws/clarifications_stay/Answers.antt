@@ -1,5 +1,0 @@
-use Rattle.contest_laws.proofs.ClarificationLaws as lemmas
-use Rattle.contest_laws.proofs.laws.clarifications_stay.Goals as goal
-
-pub returns : goal.returns
-returns c = lemmas.clarifications_stay

@@ -1,5 +1,0 @@
-use Rattle.contest_laws.proofs.StandingLaws as lemmas
-use Rattle.contest_laws.proofs.laws.closed_rejudgings_stay.Goals as goal
-
-pub returns : goal.returns
-returns c = lemmas.closed_rejudgings_stay

@@ -1,5 +1,0 @@
-use Rattle.contest_laws.proofs.CsvRows as lemmas
-use Rattle.contest_laws.proofs.laws.csv_rows_join.Goals as goal
-
-pub returns : goal.returns
-returns c = lemmas.csv_rows_join

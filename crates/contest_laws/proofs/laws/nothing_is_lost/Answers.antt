@@ -1,5 +1,0 @@
-use Rattle.contest_laws.proofs.CrashLaws as lemmas
-use Rattle.contest_laws.proofs.laws.nothing_is_lost.Goals as goal
-
-pub returns : goal.returns
-returns c = lemmas.nothing_is_lost
