@@ -1,5 +1,6 @@
-//! What is said for people of a command that was refused (`--explain`): it looks, once the command
-//! has ended, at what was refused, and has lines for behind the one that tells of the refusal.
+//! Tested, and not proved: only the reading of its own word has a contract. What is said of a command that
+//! was refused (`--explain`), for people: it looks, once the command has ended, at what was refused,
+//! and has lines for behind the one that tells of the refusal.
 #![tactic(auto)]
 
 mod asked;

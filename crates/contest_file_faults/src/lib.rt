@@ -1,6 +1,6 @@
-//! What is off in a file that was refused, in words for people: the line, the field, what it holds,
-//! and what would be right. The readers of the files are asked themselves, so no rule of a form
-//! stands here.
+//! Tested, and not proved: no function here has a contract. What is off in a file that was refused,
+//! in words for people: the line, the field, what it holds, and what would be right. The readers of
+//! the files are asked themselves, so no rule of a form stands here.
 #![tactic(auto)]
 
 mod csv_file;
