@@ -4,6 +4,7 @@ mod OpeningLemmas
 mod ImportLemmas
 mod PrintLemmas
 mod ExportLemmas
+mod ShownLemmas
 mod ResultsLemmas
 mod FeedLemmas
 mod ClientLemmas

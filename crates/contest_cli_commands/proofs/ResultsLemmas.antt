@@ -1,62 +1,59 @@
--- What is told of the results of a contest, and what is left then.
-use Rattle.std.proofs.Common.{◌≡◌, ◌∙◌, ap, subst, sym, inl, inr, ℕ, Option, Some, None, Result, Ok, Err}
-use Rattle.std.specs.Prelude.{IfOk}
-use Rattle.std.specs.Global.{Vec}
+-- What is told of the results of a contest.
+use Rattle.std.proofs.Common.{◌≡◌, ◌∙◌, ap, inl, inr, refl, ℕ, List, Option, Some, None, arith}
+use Rattle.std.specs.Prelude.{◌≤◌}
 use Rattle.sqlite.specs.State.{HasCleanDisk, State}
 use Rattle.contest_types.specs.Setup.{Setup}
 use Rattle.contest_types.specs.State.{ContestState}
+use Rattle.contest_types.specs.declared.audience.Audience.{Audience}
 use Rattle.contest_types.specs.declared.audience.Audience.TheVariants.{Jury}
-use Rattle.contest_types.specs.declared.refusal.Refusal.{Refusal}
 use Rattle.contest_streams.specs.Streams.{Stream}
 use Rattle.contest_score.specs.Awards.{shown_awards}
 use Rattle.contest_score.specs.Contest.{board_for, seen_board}
 use Rattle.contest_score.specs.Ranking.{Scoreboard}
-use Rattle.contest_view.specs.Scoreboards.{board_found}
+use Rattle.contest_score.specs.declared.award.Award.{Award}
+use Rattle.contest_view.specs.Awards.{audience_awards}
 use Rattle.contest_exports.specs.ResultsTsv.{results_tsv}
-use Rattle.contest_desk.specs.Boards.{found_told}
-use Rattle.contest_desk.specs.Serving.{OnlyReads}
-use Rattle.contest_store.specs.Keeping.{Kept, LeavesNoMore}
-use Rattle.contest_store.specs.declared.store_error.StoreError.{StoreError}
-use Rattle.contest_store_sqlite.specs.Contests.{may_leave_of}
-use Rattle.contest_store_sqlite.specs.Opening.{FindsContest, Opened}
+use Rattle.contest_store_sqlite.specs.Opening.{FindsContest}
+use Rattle.contest_cli_words.specs.CommandErrors.{exit_status_of}
 use Rattle.contest_cli_words.specs.declared.command_error.CommandError.{CommandError}
-use Rattle.contest_cli_commands.specs.ExportingResults.{ExportsResults, ExportsResultsKept, GivesResults, StopsResults, results_at}
-use Rattle.contest_cli_commands.specs.Printing.{IsStoreStop, StopsOpening}
-use Rattle.contest_cli_commands.proofs.ExportLemmas.{told_of}
+use Rattle.contest_cli_words.specs.declared.command_error.CommandError.TheVariants.{File}
+use Rattle.contest_cli_commands.specs.ExportingResults.{ExportsResults, GivesResults, LacksResults, SaysNothingElse, StopsResults, TellsResults, results_at}
+use Rattle.contest_cli_commands.specs.Printing.{StopsOpening}
+use Rattle.contest_cli_commands.specs.Showing.{ShowsText, TellsShown}
+use Rattle.contest_cli_commands.proofs.ExportLemmas.{cut_off}
 
--- what was found leaves the contest
-pub found_same : {T : Type 0} (v : T) (r : Result (Option T) StoreError) (old new : Kept) → Ok v ≡ found_told r → OnlyReads r old new → new.is_clean → new.contest ≡ old.contest
-found_same v (Ok w) old new told l clean = (l.ok clean).now_is
-found_same v (Err e) old new told l clean = absurd (cc told)
-
--- why nothing is written of one contest is why nothing is of another that is the same
-stops_of : (Is Was : ContestState → Type 0) (Stops More : CommandError → Type 0) (stop : CommandError) → ((x : ContestState) → Is x → Was x) → (Stops stop → More stop)
-    → StopsResults Is Stops stop → StopsResults Was More stop
-stops_of Is Was Stops More stop same more (inl why) = inl (more why)
-stops_of Is Was Stops More stop same more (inr (not_open, none)) = inr (not_open, (none.0, same none.0 none.1, none.2))
-
--- what a desk shows is what the tables show from which it was opened, and a crash leaves no more than it could before that
-pub results_by_desk : (out_old out_new err_old err_new : Stream) (status : ℕ) (old new : State) (first last : Kept)
-    → ExportsResultsKept out_old out_new err_old err_new first last status
-    → (HasCleanDisk new → last.is_clean) → (HasCleanDisk new → Opened old first) → (HasCleanDisk new → LeavesNoMore last.may_leave (may_leave_of new))
-    → ExportsResults out_old out_new err_old err_new old new status
-results_by_desk out_old out_new err_old err_new status old new first last shows as_clean opened kept = record {
-  statuses = shows.statuses;
-  told = told_of GivesResults last.is_clean (HasCleanDisk new) (λ x. x ≡ first.contest) (FindsContest old) (λ stop. last.is_clean → StopsResults (λ x. x ≡ first.contest) IsStoreStop stop)
-      (λ stop. HasCleanDisk new → StopsResults (FindsContest old) (StopsOpening old new) stop) out_old out_new err_old err_new status as_clean same
-      (λ stop why clean. stops_of (λ x. x ≡ first.contest) (FindsContest old) IsStoreStop (StopsOpening old new) stop (same clean) (λ is. inl is) (why (as_clean clean))) shows.told;
-  leaves = λ clean d left. (opened clean).crash d (shows.crash (as_clean clean) d (kept clean d left));
-} where
-  same : HasCleanDisk new → (x : ContestState) → x ≡ first.contest → FindsContest old x
-  same clean x is = let o = opened clean in subst (FindsContest old) (sym (is ∙ o.shows.now_is)) o.found
-
--- the results by a board and awards that were found are those of the contest
-pub results_found : (r : Result (Vec ℕ) Refusal) (s : Setup) (b : Scoreboard) (moment : ℕ) (x y : ContestState) → y ≡ x → s ≡ x.fixed.settings → board_found Jury moment None x ≡ Some b
-    → IfOk r (λ text. text.items ≡ results_tsv s b.rows (shown_awards Jury moment y)) → IfOk r (λ text. text.items ≡ results_at x moment)
-results_found (Ok text) s b moment x y same own found is =
-    let board : seen_board Jury moment None x ≡ b = cc found in
-    let rows : b.rows ≡ board_for Jury moment None x = sym (ap (λ (q : Scoreboard). q.rows) board) in
+-- the results by the jury's board and its awards are those of the contest
+pub results_found : (text : List ℕ) (s : Setup) (b : Scoreboard) (ws : List Award) (who : Audience) (now : ℕ) (x : ContestState) → who ≡ Jury → s ≡ x.fixed.settings
+    → b ≡ seen_board who now None x → Some ws ≡ audience_awards who now x → text ≡ results_tsv s b.rows ws → text ≡ results_at x now
+results_found text s b ws who now x jury own board awards is =
+    let rows : b.rows ≡ board_for Jury now None x = ap (λ (q : Scoreboard). q.rows) (rw jury at board) in
+    let found : ◌≡◌ {A = Option (List Award)} (Some ws) (Some (shown_awards Jury now x)) = rw jury at awards in
+    let list : ws ≡ shown_awards Jury now x = cc found in
     is
-    ∙ (ap (λ t. results_tsv t b.rows (shown_awards Jury moment y)) own
-    ∙ (ap (λ them. results_tsv x.fixed.settings them (shown_awards Jury moment y)) rows ∙ ap (λ z. results_tsv x.fixed.settings (board_for Jury moment None x) (shown_awards Jury moment z)) same))
-results_found (Err e) s b moment x y same own found is = tt
+    ∙ (ap (λ t. results_tsv t b.rows ws) own
+    ∙ (ap (λ them. results_tsv x.fixed.settings them ws) rows ∙ ap (λ them. results_tsv x.fixed.settings (board_for Jury now None x) them) list))
+
+module _ (out_old out_new err_old err_new : Stream) (status : ℕ) (old new : State) where
+  abbrev Told : Type 0
+  Told = (status ≤ 1) × TellsResults (HasCleanDisk new) (FindsContest old) (StopsOpening old new) out_old out_new err_old err_new status
+
+  told_results : TellsShown GivesResults LacksResults SaysNothingElse (HasCleanDisk new) (FindsContest old) (StopsOpening old new) out_old out_new err_old err_new status → Told
+  told_results (inl (text, gives, shows)) = (
+    shows.statuses,
+    record {
+      done = λ e. ((λ c. let g = gives c in (g.0, g.1, text, g.2, (shows.done e).0)), (shows.done e).1);
+      refused = λ e. (File, (shows.cut e).2, inr (refl, (shows.cut e).0), inr (λ c. let g = gives c in (g.0, g.1, text, g.2, (shows.cut e).1)));
+    },
+  )
+  told_results (inr (stop, is, told, keeps, says, why)) =
+      let one : exit_status_of stop ≡ 1 = elim says [ inl once ↦ once | inr never ↦ absurd never ] in
+      let because : HasCleanDisk new → StopsResults (FindsContest old) (StopsOpening old new) stop =
+      λ c. elim (why c) [ inl stops ↦ inl stops | inr lacks ↦ inr (lacks.2.0, (lacks.0, lacks.1, lacks.2.1)) ] in (
+        omega (arith, one, is),
+        cut_off GivesResults (HasCleanDisk new) (FindsContest old) (λ (s : CommandError). HasCleanDisk new → StopsResults (FindsContest old) (StopsOpening old new) s) out_old out_new err_old err_new stop status
+            (inl because) one (inl keeps) is told,
+      )
+
+  -- how the command ends
+  pub exports_results : ShowsText GivesResults LacksResults SaysNothingElse out_old out_new err_old err_new old new status → ExportsResults out_old out_new err_old err_new old new status
+  exports_results s = let t = told_results s.told in record { statuses = t.0; told = t.1; leaves = s.leaves }

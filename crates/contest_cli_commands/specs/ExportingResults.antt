@@ -8,14 +8,14 @@ use Rattle.contest_types.specs.declared.refusal.Refusal.TheVariants.{NotOpen}
 use Rattle.contest_streams.specs.Streams.{Stream}
 use Rattle.contest_score.specs.Awards.{shown_awards}
 use Rattle.contest_score.specs.Contest.{board_for}
-use Rattle.contest_store.specs.Keeping.{Kept, LeavesNoMore}
+use Rattle.contest_store.specs.Keeping.{LeavesNoMore}
 use Rattle.contest_store_sqlite.specs.Contests.{may_leave_of}
 use Rattle.contest_store_sqlite.specs.Opening.{FindsContest, may_leave_filled}
 use Rattle.contest_exports.specs.ResultsTsv.{results_tsv}
 use Rattle.contest_cli_words.specs.declared.command_error.CommandError.{CommandError}
 use Rattle.contest_cli_words.specs.declared.command_error.CommandError.TheVariants.{Refused}
 use Rattle.contest_cli_commands.specs.Exporting.{TellsWritten}
-use Rattle.contest_cli_commands.specs.Printing.{IsStoreStop, StopsOpening}
+use Rattle.contest_cli_commands.specs.Printing.{StopsOpening}
 
 -- the results by the jury's board and its awards at a moment
 abbrev pub results_at : ContestState → (moment : ℕ) → List ℕ
@@ -27,6 +27,13 @@ results_of x = option_map (results_at x) x.fixed.marks.finalized
 
 abbrev pub GivesResults : ContestState → List ℕ → Type 0
 GivesResults x text = results_of x ≡ Some text
+
+-- no results are written of a contest of which they weren't made final, and nothing else is told of that
+abbrev pub LacksResults : ContestState → CommandError → Type 0
+LacksResults x stop = (stop ≡ Refused NotOpen) × (x.fixed.marks.finalized ≡ None)
+
+abbrev pub SaysNothingElse : CommandError → Type 0
+SaysNothingElse stop = ⊥
 
 -- of some contest which is this one the results weren't made final
 abbrev pub HasNoResults : (Is : ContestState → Type 0) → Type 0
@@ -47,10 +54,3 @@ pub record ExportsResults (out_old out_new err_old err_new : Stream) (old new : 
   pub statuses : status ≤ 1
   pub told : TellsResults (HasCleanDisk new) (FindsContest old) (StopsOpening old new) out_old out_new err_old err_new status
   pub leaves : HasCleanDisk new → LeavesNoMore (may_leave_filled old) (may_leave_of new)
-
--- the same of a contest that a desk keeps
-pub record ExportsResultsKept (out_old out_new err_old err_new : Stream) (old new : Kept) (status : ℕ) : Type 0 where
-  pub statuses : status ≤ 1
-  pub told : TellsResults new.is_clean (λ x. x ≡ old.contest) IsStoreStop out_old out_new err_old err_new status
-  pub crash : new.is_clean → LeavesNoMore old.may_leave new.may_leave
-  pub clean : new.is_clean → old.is_clean

@@ -1,14 +1,9 @@
 -- How `feed` ends (own; the feed is the Contest API 2023-06's).
-use Rattle.std.specs.Prelude.{◌≡◌, ◌≤◌, ◌⊎◌, ℕ, true, List, Option, Some, None}
+use Rattle.std.specs.Prelude.{◌≡◌, ◌≤◌, ◌⊎◌, ℕ, List, Option, Some, None}
 use Rattle.std.specs.Io.KnownBytes.{Keeps}
 use Rattle.std.specs.Option.{option_map}
 use Rattle.sqlite.specs.State.{HasCleanDisk, State}
 use Rattle.contest_types.specs.State.{ContestState}
-use Rattle.contest_types.specs.Valid.{is_valid}
-use Rattle.contest_lists.specs.Lists.{loaded}
-use Rattle.contest_score.specs.CachedCells.{cell_cached}
-use Rattle.contest_score.specs.declared.cached_cells.CachedCells.{CachedCells}
-use Rattle.contest_score.specs.Contest.{contest_cell}
 use Rattle.contest_streams.specs.Streams.{Fails, Stream, Tells}
 use Rattle.contest_objects.specs.EventFeed.{feed_text}
 use Rattle.contest_view.specs.Feeds.{feed_events}
@@ -54,11 +49,3 @@ pub record FeedsKept (now : ℕ) (who : Who) (out_old out_new err_old err_new : 
   pub told : TellsFeed new.is_clean (λ x. x ≡ old.contest) (StopsKept old new) now who out_old out_new err_old err_new status
   pub crash : new.is_clean → LeavesNoMore old.may_leave new.may_leave
   pub clean : new.is_clean → old.is_clean
-
--- A word of private functions: nothing public is said with it.
-
--- these are the lists and the cells of this valid contest
-pub record IsShown (lists : ContestState) (cells : CachedCells) (x : ContestState) : Type 0 where
-  pub valid : is_valid x ≡ true
-  pub lists_are : lists ≡ loaded x
-  pub cells_are : cell_cached cells ≡ (λ mask. contest_cell mask x)

@@ -5,6 +5,7 @@ pub mod Looking
 pub mod Printing
 pub mod Exporting
 pub mod ExportingResults
+pub mod Showing
 pub mod Feeding
 pub mod Clients
 pub mod Served

@@ -11,7 +11,7 @@ use Rattle.contest_types.specs.declared.refusal.Refusal.TheVariants.{Memory, Old
 use Rattle.contest_score.specs.Ranking.{Scoreboard}
 use Rattle.contest_view.specs.Awards.{audience_awards}
 use Rattle.contest_view.specs.Scoreboards.{board_found}
-use Rattle.contest_store.specs.Keeping.{Kept, LeavesNoMore}
+use Rattle.contest_store.specs.Keeping.{LeavesNoMore}
 use Rattle.contest_store_sqlite.specs.Contests.{may_leave_of}
 use Rattle.contest_store_sqlite.specs.Opening.{FindsContest, FindsFirst, may_leave_filled}
 use Rattle.contest_text.specs.AwardsText.{awards_text}
@@ -42,9 +42,16 @@ text_seen now (Awards who) x l = option_map (awards_text x.fixed.settings) (audi
 abbrev pub asked_text : (now : ℕ) → AskedText → ContestState → Option (List ℕ)
 asked_text now asked x = option_and_then (text_seen now asked x) (look_of x.fixed.settings asked)
 
--- these are a contest's settings and marks
-abbrev pub AreOf : Setup → Marks → ContestState → Type 0
-AreOf s m x = ◌≡◌ {A = Setup × Marks} (s, m) (x.fixed.settings, x.fixed.marks)
+-- a contest has this text, or none, since no team or no group has the id that is asked for
+abbrev pub GivesText : (now : ℕ) → AskedText → ContestState → List ℕ → Type 0
+GivesText now asked x text = asked_text now asked x ≡ Some text
+
+abbrev pub LacksText : AskedText → ContestState → CommandError → Type 0
+LacksText asked x stop = IsWords stop × (look_of x.fixed.settings asked ≡ None)
+
+-- that may be told in any way
+abbrev pub SaysAny : CommandError → Type 0
+SaysAny stop = Unit {0}
 
 -- the store failed, or memory was refused
 abbrev pub IsStoreStop : CommandError → Type 0
@@ -64,10 +71,6 @@ module _ (Is : ContestState → Type 0) where
   abbrev pub HasNone : AskedText → Type 0
   HasNone asked = (x : ContestState) × Is x × (look_of x.fixed.settings asked ≡ None)
 
-  -- why nothing is written
-  abbrev pub StopsText : AskedText → CommandError → Type 0
-  StopsText asked stop = IsStoreStop stop ⊎ (IsWords stop × HasNone asked)
-
 -- what is told, by the status, while the disk is as `clean` says: 0 with the whole text on `out`; 1 with a line on `err`
 -- of what stops it without words, as the store's fault, or of `out`, which failed and took a front of the text; 2 where no team or
 -- no group has the id that is asked for
@@ -84,9 +87,3 @@ pub record TellsText (clean : Type 0) (Is : ContestState → Type 0) (Stops : Co
 pub record Prints (now : ℕ) (asked : AskedText) (out_old out_new err_old err_new : Stream) (old new : State) (status : ℕ) : Type 0 where
   pub told : TellsText (HasCleanDisk new) (FindsContest old) (StopsOpening old new) now asked out_old out_new err_old err_new status
   pub leaves : HasCleanDisk new → LeavesNoMore (may_leave_filled old) (may_leave_of new)
-
--- the same of a contest that a desk keeps
-pub record PrintsKept (now : ℕ) (asked : AskedText) (out_old out_new err_old err_new : Stream) (old new : Kept) (status : ℕ) : Type 0 where
-  pub told : TellsText new.is_clean (λ x. x ≡ old.contest) IsStoreStop now asked out_old out_new err_old err_new status
-  pub crash : new.is_clean → LeavesNoMore old.may_leave new.may_leave
-  pub clean : new.is_clean → old.is_clean

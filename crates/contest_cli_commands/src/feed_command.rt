@@ -7,7 +7,8 @@ ghost use Rattle.contest_streams.specs.Streams.{stream};
 ghost use Rattle.contest_store_tables.specs.Numbered.{IsNumbered};
 ghost use Rattle.contest_desk.specs.Serving.{IsSettled};
 ghost use Rattle.contest_cli_words.specs.CommandErrors.{IsMemory};
-ghost use Rattle.contest_cli_commands.specs.Feeding.{Feeds, FeedsKept, IsShown, TellsFeed};
+ghost use Rattle.contest_cli_commands.specs.Feeding.{Feeds, FeedsKept, TellsFeed};
+ghost use Rattle.contest_cli_commands.specs.Showing.{IsShown};
 
 use crate::look::audience_of;
 use crate::opening::open_desk;

@@ -14,6 +14,7 @@ mod print_command;
 mod results_command;
 mod serve_command;
 mod serving;
+mod shown;
 mod upgrade_command;
 
 pub use export_command::run_export;

@@ -1,33 +1,29 @@
 //! The commands `board` and `awards`: a text of the contest that a connection holds, as somebody
 //! sees it.
-ghost use Rattle.std.specs.Prelude.{◌≡◌, Option, Result, Some, None, Err, IfErr, IfOk, true};
+ghost use Rattle.std.specs.Prelude.{◌≡◌, Some, IfErr, IfOk, true};
 ghost use Rattle.std.specs.Option.{option_map};
 ghost use Rattle.sqlite.specs.Held.{state};
+ghost use Rattle.contest_types.specs.State.{ContestState};
 ghost use Rattle.contest_text.specs.AwardsText.{awards_text};
 ghost use Rattle.contest_view.specs.Awards.{audience_awards};
 ghost use Rattle.contest_view.specs.Scoreboards.{board_found};
+ghost use Rattle.contest_view.specs.SeenLists.{Shows};
 ghost use Rattle.contest_streams.specs.Streams.{stream};
-ghost use Rattle.contest_score.specs.Ranking.{Scoreboard};
-ghost use Rattle.contest_desk.specs.Boards.{found_told};
-ghost use Rattle.contest_desk.specs.Serving.{OnlyReads};
-ghost use Rattle.contest_store.specs.Keeping.{LeavesNoMore};
-ghost use Rattle.contest_store.specs.declared.store_error.StoreError.{StoreError};
 ghost use Rattle.contest_store_tables.specs.Numbered.{IsNumbered};
 ghost use Rattle.contest_cli_commands.specs.Looking.{is_there};
-ghost use Rattle.contest_cli_commands.specs.Printing.{AreOf, IsStoreStop, Prints, PrintsKept};
-ghost use Rattle.contest_cli_commands.specs.Printing.{StopsText, asked_text, text_seen, written};
+ghost use Rattle.contest_cli_commands.specs.Printing.{Prints, text_seen, written};
 
 use crate::look::{Look, look_of};
-use crate::opening::open_desk;
-use contest_cli_words::{AskedText, BoardFormat, CommandError, show};
-use contest_desk::Desk;
-use contest_score::{Award, Board};
-use contest_store::ContestStore;
+use crate::shown::{Shown, run_shown};
+use contest_cli_words::{AskedText, BoardFormat, CommandError};
+use contest_lists::Lists;
+use contest_score::{Board, CachedCells};
 use contest_streams::Counted;
 use contest_text::{awards_text, board_csv, board_text};
-use contest_types::{Audience, Marks, Moment, Refusal, Settings};
+use contest_types::{Moment, Refusal};
+use contest_view::{Seen, audience_awards, board_found};
 use sqlite::{Alter, Connection};
-use std::alloc::{AllocError, Global};
+use std::alloc::Global;
 use std::io::Write;
 
 /// Runs `board` or `awards`: opens the desk of a contest, and writes what somebody sees at a
@@ -46,148 +42,86 @@ pub fn run_print<S: Alter, O: Write, E: Write>(
     ensures { Prints now asked.entry (stream O.contents out.old) (stream O.contents out.new)
         (stream E.contents err.old) (stream E.contents err.new) (state S.Store conn) (state S.Store result.1) result.0 }
 {
-    match open_desk(alloc, conn) {
-        Ok(mut desk) => {
-            let status = print_text(alloc, &mut desk, now, asked, out, err);
-            (status, desk.into_store().into_connection())
+    run_shown(alloc, conn, &TextAt { now, asked }, out, err)
+}
+
+/// A board or the awards, as somebody is shown them at a moment.
+#[derive(Clone, Copy)]
+struct TextAt<'a> {
+    /// The moment.
+    now: Moment,
+    /// What is asked for.
+    asked: AskedText<'a>,
+}
+
+impl Shown for TextAt<'_> {
+    ghost use Rattle.contest_cli_commands.specs.Printing.{GivesText, LacksText, SaysAny};
+
+    ghost gives = { λ it. GivesText it.now it.asked };
+
+    ghost lacks = { λ it. LacksText it.asked };
+
+    ghost says = { SaysAny };
+
+    fn text(
+        &self,
+        alloc: Global,
+        lists: &Lists,
+        cells: &CachedCells,
+    ) -> Result<Vec<u8>, CommandError> {
+        let look = look_of(alloc, &lists.fixed().settings, self.asked)?;
+        let seen = Seen {
+            lists,
+            cells,
+            audience: look.audience,
+            now: self.now,
+        };
+        match text_seen(alloc, &seen, look, self.asked) {
+            Ok(text) => Ok(text),
+            Err(refusal) => Err(CommandError::Refused(refusal)),
         }
-        Err((error, conn)) => (CommandError::Refused(error.refusal()).refuse(err), conn),
     }
 }
 
-// The same of a desk that is open.
-fn print_text<S: ContestStore, O: Write, E: Write>(
+// What is written for who looks. The error is want of memory, where they and their group are there.
+fn text_seen(
     alloc: Global,
-    desk: &mut Desk<S>,
-    now: Moment,
-    asked: AskedText<'_>,
-    out: &mut Counted<O>,
-    err: &mut Counted<E>,
-) -> u8
-    ensures { PrintsKept now asked.entry (stream O.contents out.old) (stream O.contents out.new)
-        (stream E.contents err.old) (stream E.contents err.new) (S.kept desk.old) (S.kept desk.new) result }
-{
-    match text_in(alloc, desk, now, asked) {
-        Ok(text) => show(&text, out, err),
-        Err(stop) => stop.refuse(err),
-    }
-}
-
-// The text that is asked for.
-fn text_in<S: ContestStore>(
-    alloc: Global,
-    desk: &mut Desk<S>,
-    now: Moment,
-    asked: AskedText<'_>,
-) -> Result<Vec<u8>, CommandError>
-    ensures text { (S.kept desk.new).is_clean → IfOk result (λ text. asked_text now asked.entry (S.kept desk.old).contest ≡ Some text.items) }
-    ensures stops { (S.kept desk.new).is_clean → IfErr result (StopsText (λ x. x ≡ (S.kept desk.old).contest) asked.entry) }
-    ensures crash { (S.kept desk.new).is_clean → LeavesNoMore (S.kept desk.old).may_leave (S.kept desk.new).may_leave }
-    ensures clean { (S.kept desk.new).is_clean → (S.kept desk.old).is_clean }
-{
-    let (settings, marks) = desk.fixed(alloc)?;
-    text_for(alloc, desk, &settings, &marks, now, asked)
-}
-
-// The same, where these are the contest's settings and marks.
-fn text_for<S: ContestStore>(
-    alloc: Global,
-    desk: &mut Desk<S>,
-    settings: &Settings,
-    marks: &Marks,
-    now: Moment,
-    asked: AskedText<'_>,
-) -> Result<Vec<u8>, CommandError>
-    ensures text { (S.kept desk.new).is_clean → AreOf settings.now marks.now (S.kept desk.old).contest → IfOk result (λ text. asked_text now asked.entry (S.kept desk.old).contest ≡ Some text.items) }
-    ensures stops { (S.kept desk.new).is_clean → AreOf settings.now marks.now (S.kept desk.old).contest → IfErr result (StopsText (λ x. x ≡ (S.kept desk.old).contest) asked.entry) }
-    ensures crash { (S.kept desk.new).is_clean → LeavesNoMore (S.kept desk.old).may_leave (S.kept desk.new).may_leave }
-    ensures clean { (S.kept desk.new).is_clean → (S.kept desk.old).is_clean }
-{
-    let look = look_of(alloc, settings, asked)?;
-    let text = text_seen(alloc, desk, settings, marks, now, look, asked)?;
-    Ok(text)
-}
-
-// What is written for who looks, where they and their group are there.
-fn text_seen<S: ContestStore>(
-    alloc: Global,
-    desk: &mut Desk<S>,
-    settings: &Settings,
-    marks: &Marks,
-    now: Moment,
+    seen: &Seen<'_>,
     look: Look,
     asked: AskedText<'_>,
 ) -> Result<Vec<u8>, Refusal>
-    ensures text { (S.kept desk.new).is_clean → AreOf settings.now marks.now (S.kept desk.old).contest → IfOk result (λ text. text_seen now asked.entry (S.kept desk.old).contest look ≡ Some text.items) }
-    ensures stops { (S.kept desk.new).is_clean → AreOf settings.now marks.now (S.kept desk.old).contest → is_there settings.now look ≡ true → IfErr result (λ refusal. IsStoreStop (CommandError.Refused refusal)) }
-    ensures crash { (S.kept desk.new).is_clean → LeavesNoMore (S.kept desk.old).may_leave (S.kept desk.new).may_leave }
-    ensures clean { (S.kept desk.new).is_clean → (S.kept desk.old).is_clean }
+    ensures text { (x : ContestState) → Shows seen.entry.now x → seen.entry.now.audience ≡ look.audience → IfOk result (λ text. text_seen seen.entry.now.now asked.entry x look ≡ Some text.items) }
+    ensures err { (x : ContestState) → Shows seen.entry.now x → seen.entry.now.audience ≡ look.audience → is_there x.fixed.settings look ≡ true → IfErr result (λ e. e ≡ Refusal.Memory) }
 {
     match asked {
-        AskedText::Board(asked) => {
-            board_seen(alloc, desk, settings, marks, now, look, asked.format)
-        }
-        AskedText::Awards(_) => awards_seen(alloc, desk, settings, now, look),
+        AskedText::Board(asked) => board_seen(alloc, seen, look, asked.format),
+        AskedText::Awards(_) => awards_seen(alloc, seen),
     }
 }
 
-fn board_seen<S: ContestStore>(
+fn board_seen(
     alloc: Global,
-    desk: &mut Desk<S>,
-    settings: &Settings,
-    marks: &Marks,
-    now: Moment,
+    seen: &Seen<'_>,
     look: Look,
     format: BoardFormat,
 ) -> Result<Vec<u8>, Refusal>
-    ensures text { (S.kept desk.new).is_clean → IfOk result (λ text. option_map (written format settings.now marks.now now look) (board_found look.audience now look.group (S.kept desk.old).contest) ≡ Some text.items) }
-    ensures stops { (S.kept desk.new).is_clean → is_there (S.kept desk.old).contest.fixed.settings look ≡ true → IfErr result (λ refusal. IsStoreStop (CommandError.Refused refusal)) }
-    ensures crash { (S.kept desk.new).is_clean → LeavesNoMore (S.kept desk.old).may_leave (S.kept desk.new).may_leave }
-    ensures clean { (S.kept desk.new).is_clean → (S.kept desk.old).is_clean }
+    ensures text { (x : ContestState) → Shows seen.entry.now x → IfOk result (λ text. option_map (written format x.fixed.settings x.fixed.marks seen.entry.now.now look) (board_found seen.entry.now.audience seen.entry.now.now look.group x) ≡ Some text.items) }
+    ensures err { (x : ContestState) → Shows seen.entry.now x → seen.entry.now.audience ≡ look.audience → is_there x.fixed.settings look ≡ true → IfErr result (λ e. e ≡ Refusal.Memory) }
 {
-    let board = board_of(alloc, desk, now, look)?;
-    written(alloc, format, settings, marks, now, look, &board)
-}
-
-// The whole board, or that of a group.
-fn board_of<S: ContestStore>(
-    alloc: Global,
-    desk: &mut Desk<S>,
-    now: Moment,
-    look: Look,
-) -> Result<Board, Refusal>
-    ensures board { (S.kept desk.new).is_clean → IfOk result (λ b. board_found look.audience now look.group (S.kept desk.old).contest ≡ Some b) }
-    ensures missing { (S.kept desk.new).is_clean → result ≡ Err Refusal.NotFound → board_found look.audience now look.group (S.kept desk.old).contest ≡ None }
-    ensures leaves { (r : Result (Option Scoreboard) StoreError) × (result ≡ found_told r) × OnlyReads r (S.kept desk.old) (S.kept desk.new) }
-{
-    match look.group {
-        Some(group) => desk.group_board(alloc, now, look.audience, group),
-        None => desk.board(alloc, now, look.audience),
+    match board_found(alloc, seen, look.group)? {
+        Some(board) => written(alloc, format, seen, look, &board),
+        None => Err(Refusal::NotFound),
     }
 }
 
-fn awards_seen<S: ContestStore>(
-    alloc: Global,
-    desk: &mut Desk<S>,
-    settings: &Settings,
-    now: Moment,
-    look: Look,
-) -> Result<Vec<u8>, Refusal>
-    ensures text { (S.kept desk.new).is_clean → IfOk result (λ text. option_map (awards_text settings.now) (audience_awards look.audience now (S.kept desk.old).contest) ≡ Some text.items) }
-    ensures stops { (S.kept desk.new).is_clean → is_there (S.kept desk.old).contest.fixed.settings look ≡ true → IfErr result (λ refusal. IsStoreStop (CommandError.Refused refusal)) }
-    ensures crash { (S.kept desk.new).is_clean → LeavesNoMore (S.kept desk.old).may_leave (S.kept desk.new).may_leave }
-    ensures clean { (S.kept desk.new).is_clean → (S.kept desk.old).is_clean }
+fn awards_seen(alloc: Global, seen: &Seen<'_>) -> Result<Vec<u8>, Refusal>
+    ensures text { (x : ContestState) → Shows seen.entry.now x → IfOk result (λ text. option_map (awards_text x.fixed.settings) (audience_awards seen.entry.now.audience seen.entry.now.now x) ≡ Some text.items) }
+    ensures err { (x : ContestState) → Shows seen.entry.now x → (look : Look) → seen.entry.now.audience ≡ look.audience → is_there x.fixed.settings look ≡ true → IfErr result (λ e. e ≡ Refusal.Memory) }
 {
-    let awards = desk.awards(alloc, now, look.audience)?;
-    awards_written(alloc, settings, awards.as_slice())
-}
-
-// The error is want of memory.
-fn awards_written(alloc: Global, settings: &Settings, awards: &[Award]) -> Result<Vec<u8>, Refusal>
-    ensures text { IfOk result (λ text. text.items ≡ awards_text settings.now awards.now) }
-    ensures err { IfErr result (λ e. e ≡ Refusal.Memory) }
-{
-    let text = awards_text(alloc, settings, awards)?;
+    let Some(awards) = audience_awards(alloc, seen)? else {
+        return Err(Refusal::NotFound);
+    };
+    let text = awards_text(alloc, &seen.lists.fixed().settings, awards.as_slice())?;
     Ok(text.into_bytes())
 }
 
@@ -195,22 +129,21 @@ fn awards_written(alloc: Global, settings: &Settings, awards: &[Award]) -> Resul
 fn written(
     alloc: Global,
     format: BoardFormat,
-    settings: &Settings,
-    marks: &Marks,
-    now: Moment,
+    seen: &Seen<'_>,
     look: Look,
     board: &Board,
 ) -> Result<Vec<u8>, Refusal>
-    ensures text { IfOk result (λ text. text.items ≡ written format settings.now marks.now now look board.now) }
+    ensures text { (x : ContestState) → Shows seen.entry.now x → IfOk result (λ text. text.items ≡ written format x.fixed.settings x.fixed.marks seen.entry.now.now look board.now) }
     ensures err { IfErr result (λ e. e ≡ Refusal.Memory) }
 {
+    let fixed = seen.lists.fixed();
     match format {
         BoardFormat::Text => {
             let text = board_text(
                 alloc,
-                settings,
-                marks,
-                now,
+                &fixed.settings,
+                &fixed.marks,
+                seen.now,
                 look.audience,
                 look.group,
                 board,
@@ -218,7 +151,7 @@ fn written(
             Ok(text.into_bytes())
         }
         BoardFormat::Csv => {
-            let text = board_csv(alloc, settings, board)?;
+            let text = board_csv(alloc, &fixed.settings, board)?;
             Ok(text)
         }
     }

@@ -1,24 +1,21 @@
 //! The command `export` where the final results are asked for: those of the contest that a
 //! connection holds, as ICPC's systems take them.
-ghost use Rattle.std.specs.Prelude.{◌≡◌, IfErr, IfOk, None, Some};
+ghost use Rattle.std.specs.Prelude.{◌≡◌, IfErr, IfOk};
 ghost use Rattle.sqlite.specs.Held.{state};
-ghost use Rattle.contest_score.specs.Awards.{shown_awards};
-ghost use Rattle.contest_exports.specs.ResultsTsv.{results_tsv};
+ghost use Rattle.contest_types.specs.State.{ContestState};
 ghost use Rattle.contest_streams.specs.Streams.{stream};
-ghost use Rattle.contest_store.specs.Keeping.{LeavesNoMore};
 ghost use Rattle.contest_store_tables.specs.Numbered.{IsNumbered};
-ghost use Rattle.contest_cli_commands.specs.ExportingResults.{ExportsResults, ExportsResultsKept};
-ghost use Rattle.contest_cli_commands.specs.ExportingResults.{StopsResults, results_at, results_of};
-ghost use Rattle.contest_cli_commands.specs.Printing.{AreOf, IsStoreStop};
+ghost use Rattle.contest_view.specs.SeenLists.{Shows};
+ghost use Rattle.contest_cli_commands.specs.ExportingResults.{ExportsResults, results_at};
 
-use crate::opening::open_desk;
-use contest_cli_words::{CommandError, show};
-use contest_desk::Desk;
+use crate::shown::{Shown, run_shown};
+use contest_cli_words::CommandError;
 use contest_exports::results_tsv;
-use contest_score::{Award, Board};
-use contest_store::ContestStore;
+use contest_lists::Lists;
+use contest_score::CachedCells;
 use contest_streams::Counted;
-use contest_types::{Audience, Marks, Moment, Refusal, Settings};
+use contest_types::{Audience, Refusal};
+use contest_view::{Seen, audience_awards, board_for};
 use sqlite::{Alter, Connection};
 use std::alloc::Global;
 use std::io::Write;
@@ -38,104 +35,56 @@ pub fn run_results<S: Alter, O: Write, E: Write>(
     ensures { ExportsResults (stream O.contents out.old) (stream O.contents out.new)
         (stream E.contents err.old) (stream E.contents err.new) (state S.Store conn) (state S.Store result.1) result.0 }
 {
-    match open_desk(alloc, conn) {
-        Ok(mut desk) => {
-            let status = print_results(alloc, &mut desk, out, err);
-            (status, desk.into_store().into_connection())
+    run_shown(alloc, conn, &Results, out, err)
+}
+
+// The final results.
+struct Results;
+
+impl Shown for Results {
+    ghost use Rattle.contest_cli_commands.specs.ExportingResults.{GivesResults, LacksResults};
+    ghost use Rattle.contest_cli_commands.specs.ExportingResults.{SaysNothingElse};
+
+    ghost gives = { λ _. GivesResults };
+
+    ghost lacks = { λ _. LacksResults };
+
+    ghost says = { SaysNothingElse };
+
+    fn text(
+        &self,
+        alloc: Global,
+        lists: &Lists,
+        cells: &CachedCells,
+    ) -> Result<Vec<u8>, CommandError> {
+        let Some(now) = lists.fixed().marks.finalized else {
+            return Err(CommandError::Refused(Refusal::NotOpen));
+        };
+        let audience = Audience::Jury;
+        let seen = Seen {
+            lists,
+            cells,
+            audience,
+            now,
+        };
+        match results_seen(alloc, &seen) {
+            Ok(text) => Ok(text),
+            Err(refusal) => Err(CommandError::Refused(refusal)),
         }
-        Err((error, conn)) => (CommandError::Refused(error.refusal()).refuse(err), conn),
     }
 }
 
-// The same of a desk that is open.
-fn print_results<S: ContestStore, O: Write, E: Write>(
-    alloc: Global,
-    desk: &mut Desk<S>,
-    out: &mut Counted<O>,
-    err: &mut Counted<E>,
-) -> u8
-    ensures { ExportsResultsKept (stream O.contents out.old) (stream O.contents out.new)
-        (stream E.contents err.old) (stream E.contents err.new) (S.kept desk.old) (S.kept desk.new) result }
+// The results by the board and the awards of the jury, which looks. The error is want of memory: the
+// jury is there.
+fn results_seen(alloc: Global, seen: &Seen<'_>) -> Result<Vec<u8>, Refusal>
+    ensures text { (x : ContestState) → Shows seen.entry.now x → seen.entry.now.audience ≡ Audience.Jury → IfOk result (λ text. text.items ≡ results_at x seen.entry.now.now) }
+    ensures err { (x : ContestState) → Shows seen.entry.now x → seen.entry.now.audience ≡ Audience.Jury → IfErr result (λ e. e ≡ Refusal.Memory) }
 {
-    match results_in(alloc, desk) {
-        Ok(text) => show(&text, out, err),
-        Err(refusal) => CommandError::Refused(refusal).refuse(err),
-    }
-}
-
-// The results.
-fn results_in<S: ContestStore>(alloc: Global, desk: &mut Desk<S>) -> Result<Vec<u8>, Refusal>
-    ensures text { (S.kept desk.new).is_clean → IfOk result (λ text. results_of (S.kept desk.old).contest ≡ Some text.items) }
-    ensures stops { (S.kept desk.new).is_clean → IfErr result (λ refusal. StopsResults (λ x. x ≡ (S.kept desk.old).contest) IsStoreStop (CommandError.Refused refusal)) }
-    ensures crash { (S.kept desk.new).is_clean → LeavesNoMore (S.kept desk.old).may_leave (S.kept desk.new).may_leave }
-    ensures clean { (S.kept desk.new).is_clean → (S.kept desk.old).is_clean }
-{
-    let (settings, marks) = desk.fixed(alloc)?;
-    results_for(alloc, desk, &settings, &marks)
-}
-
-// The same, where these are the contest's settings and marks.
-fn results_for<S: ContestStore>(
-    alloc: Global,
-    desk: &mut Desk<S>,
-    settings: &Settings,
-    marks: &Marks,
-) -> Result<Vec<u8>, Refusal>
-    ensures text { (S.kept desk.new).is_clean → AreOf settings.now marks.now (S.kept desk.old).contest → IfOk result (λ text. results_of (S.kept desk.old).contest ≡ Some text.items) }
-    ensures stops { (S.kept desk.new).is_clean → AreOf settings.now marks.now (S.kept desk.old).contest → IfErr result (λ refusal. StopsResults (λ x. x ≡ (S.kept desk.old).contest) IsStoreStop (CommandError.Refused refusal)) }
-    ensures crash { (S.kept desk.new).is_clean → LeavesNoMore (S.kept desk.old).may_leave (S.kept desk.new).may_leave }
-    ensures clean { (S.kept desk.new).is_clean → (S.kept desk.old).is_clean }
-{
-    match marks.finalized {
-        Some(moment) => results_at(alloc, desk, settings, moment),
-        None => Err(Refusal::NotOpen),
-    }
-}
-
-// The results by the jury's board and its awards at a moment, where these are the contest's
-// settings.
-fn results_at<S: ContestStore>(
-    alloc: Global,
-    desk: &mut Desk<S>,
-    settings: &Settings,
-    moment: Moment,
-) -> Result<Vec<u8>, Refusal>
-    ensures text { (S.kept desk.new).is_clean → settings.now ≡ (S.kept desk.old).contest.fixed.settings → IfOk result (λ text. text.items ≡ results_at (S.kept desk.old).contest moment) }
-    ensures stops { (S.kept desk.new).is_clean → IfErr result (λ refusal. IsStoreStop (CommandError.Refused refusal)) }
-    ensures crash { (S.kept desk.new).is_clean → LeavesNoMore (S.kept desk.old).may_leave (S.kept desk.new).may_leave }
-    ensures clean { (S.kept desk.new).is_clean → (S.kept desk.old).is_clean }
-{
-    let board = desk.board(alloc, moment, Audience::Jury)?;
-    results_of_board(alloc, desk, settings, moment, &board)
-}
-
-// The results by a board and by the jury's awards at a moment.
-fn results_of_board<S: ContestStore>(
-    alloc: Global,
-    desk: &mut Desk<S>,
-    settings: &Settings,
-    moment: Moment,
-    board: &Board,
-) -> Result<Vec<u8>, Refusal>
-    ensures text { (S.kept desk.new).is_clean → IfOk result (λ text. text.items ≡ results_tsv settings.now board.now.rows (shown_awards Audience.Jury moment (S.kept desk.old).contest)) }
-    ensures stops { (S.kept desk.new).is_clean → IfErr result (λ refusal. IsStoreStop (CommandError.Refused refusal)) }
-    ensures crash { (S.kept desk.new).is_clean → LeavesNoMore (S.kept desk.old).may_leave (S.kept desk.new).may_leave }
-    ensures clean { (S.kept desk.new).is_clean → (S.kept desk.old).is_clean }
-{
-    let awards = desk.awards(alloc, moment, Audience::Jury)?;
-    results_written(alloc, settings, board, awards.as_slice())
-}
-
-// The error is want of memory.
-fn results_written(
-    alloc: Global,
-    settings: &Settings,
-    board: &Board,
-    awards: &[Award],
-) -> Result<Vec<u8>, Refusal>
-    ensures text { IfOk result (λ text. text.items ≡ results_tsv settings.now board.now.rows awards.now) }
-    ensures err { IfErr result (λ e. e ≡ Refusal.Memory) }
-{
-    let text = results_tsv(alloc, settings, board, awards)?;
+    let board = board_for(alloc, seen, None)?;
+    let Some(awards) = audience_awards(alloc, seen)? else {
+        return Err(Refusal::NotFound);
+    };
+    let settings = &seen.lists.fixed().settings;
+    let text = results_tsv(alloc, settings, &board, awards.as_slice())?;
     Ok(text.into_bytes())
 }

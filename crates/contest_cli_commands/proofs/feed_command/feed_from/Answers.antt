@@ -1,14 +1,13 @@
-use Rattle.std.proofs.Common.{◌≡◌, ◌∙◌, ap, inl, inr, refl, subst, sym}
+use Rattle.std.proofs.Common.{◌≡◌, inl, inr, refl, subst, sym}
 use Rattle.contest_types.specs.declared.refusal.Refusal.{Refusal}
-use Rattle.contest_lists.specs.Lists.{loaded}
 use Rattle.contest_streams.specs.Streams.{stream}
-use Rattle.contest_desk.proofs.ScoredStores.{scored_as}
 use Rattle.contest_cli_words.specs.CommandErrors.{IsMemory}
 use Rattle.contest_cli_words.specs.declared.command_error.CommandError.TheVariants.{Refused}
 use Rattle.contest_cli_commands.specs.Exporting.{StopsKept}
-use Rattle.contest_cli_commands.specs.Feeding.{IsShown}
+use Rattle.contest_cli_commands.specs.Showing.{IsShown}
 use Rattle.contest_cli_commands.proofs.ExportLemmas.{counted_stops}
 use Rattle.contest_cli_commands.proofs.FeedLemmas.{fed_of, not_fed}
+use Rattle.contest_cli_commands.proofs.ShownLemmas.{shown_now}
 use Rattle.contest_cli_commands.proofs.feed_command.feed_from.Goals as goal
 
 pub returns-in-Ok-clause-told : goal.returns-in-Ok-clause-told
@@ -17,10 +16,8 @@ returns-in-Ok-clause-told g c =
     let new = g.S.ContestStore.kept c.load.new.self in
     let leaves = c.in-Ok.ensures.leaves in
     let x = old.contest in
-    let shown : new.is_clean → IsShown c.lists.result.now c.cells.result.now x = λ clean.
-    (let shows = leaves.ok clean in
-    let settled = c.requires (leaves.clean clean) (leaves.up clean shows.up) in
-    record { valid = settled.1; lists_are = c.lists.ensures clean ∙ ap loaded shows.now_is; cells_are = scored_as c.cells.result.now x new.contest shows.now_is settled.1 (c.cells.ensures clean) }) in
+    let shown : new.is_clean → IsShown c.lists.result.now c.cells.result.now x =
+    shown_now old new c.lists.result.now c.cells.result.now c.lists.ensures c.cells.ensures (λ clean. (leaves.ok clean).now_is) (λ clean. (c.requires (leaves.clean clean) (leaves.up clean (leaves.ok clean).up)).1) in
     record {
       told = fed_of (IsShown c.lists.result.now c.cells.result.now x) new.is_clean (λ y. y ≡ x) (λ y. y ≡ x) IsMemory (StopsKept old new) c.args.now c.args.who
           (stream g.O.Write.contents c.args.out.now) (stream g.O.Write.contents c.feed_of.new.out) (stream g.E.Write.contents c.args.err.now) (stream g.E.Write.contents c.feed_of.new.err) c.feed_of.result

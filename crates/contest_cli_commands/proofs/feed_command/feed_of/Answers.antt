@@ -4,7 +4,7 @@ use Rattle.contest_streams.specs.Streams.{AppendsFront, Fails, stream}
 use Rattle.contest_objects.specs.EventFeed.{feed_text}
 use Rattle.contest_view.specs.Feeds.{feed_events}
 use Rattle.contest_cli_words.specs.declared.command_error.CommandError.TheVariants.{File, Refused}
-use Rattle.contest_cli_commands.specs.Feeding.{IsShown}
+use Rattle.contest_cli_commands.specs.Showing.{IsShown}
 use Rattle.contest_cli_commands.specs.Looking.{audience_of}
 use Rattle.contest_cli_commands.proofs.FeedLemmas.{cut_in_feed, stopped_looking}
 use Rattle.contest_cli_commands.proofs.feed_command.feed_of.Goals as goal
