@@ -4,9 +4,10 @@ says what they try, beside each other.
 
     gate_scripts.py
 
-Each is in all three, its head names each option that it is run with, and the words of .ci/run are those of the table. Also,
-the kit and the logic that `desk --version` and README.md name are those that `rt version` does, and nothing of the
-repository is a symbolic link: `rt ci` refuses those wherever they stand. Ends with the line 'N passed, N failed'.
+Each is in all three, and its head names each option that it is run with. Those with a browser or nginx may be run once more, and
+no others. Each browser beside the usual one has a row. Also, the kit and the logic that `desk --version` and README.md name are
+those that `rt version` does, and nothing of the repository is a symbolic link: `rt ci` refuses those wherever they stand. Ends
+with the line 'N passed, N failed'.
 """
 
 import re
@@ -15,16 +16,18 @@ import sys
 
 from lib.program import ROOT, TESTS
 from lib.tally import Tally
+from parts import table
 
 # The test command runs them itself: they need no program.
-GATE = {"tests/gate_scripts.py", "tests/gate_wrong_bodies.py", "tests/wrong_bodies", "tests/drawn_browsers"}
+GATE = {"tests/gate_scripts.py", "tests/run_parts.py", "tests/wrong_bodies"}
 BESIDE = {"examples/day/follow_guide.py"}
+# What stands in each script that has a browser or nginx.
+WITH_OTHERS = re.compile(r"\bNginx\(|\bPages\b|chromium")
+SCRIPTS = table.rows(TESTS / "scripts.tsv")
 
 
-def rows():
-    """The word and the command of each row of the table."""
-    lines = (TESTS / "scripts.tsv").read_text(encoding="utf-8").splitlines()
-    return [line.split("\t") for line in lines if not line.startswith("#")]
+def text_of(script):
+    return (ROOT / script.words[0]).read_text(encoding="utf-8")
 
 
 def told():
@@ -39,22 +42,31 @@ def try_names(tally):
     files = [path for path in [*TESTS.iterdir(), *TESTS.glob("*/*.py"), *TESTS.glob("*/*.sh")] if path.is_file()]
     files = [path for path in files if path.stat().st_mode & 0o111 and path.parent.name != "lib"]
     there = {str(path.relative_to(ROOT)) for path in files} | BESIDE
-    run = {command.split()[0] for _, command in rows()}
+    run = {script.words[0] for script in SCRIPTS}
     tally.same("scripts that the table doesn't run, or that aren't there", there ^ (run | GATE), set())
     tally.same("scripts of which the page doesn't tell, or that aren't there", there ^ told(), set())
 
 
 def try_options(tally):
-    for _, command in rows():
-        name, *words = command.split()
-        head = (ROOT / name).read_text(encoding="utf-8")
-        for option in (word for word in words if word.startswith("--")):
-            tally.note(option in head, f"{name}: {option} stands nowhere in it")
+    for script in SCRIPTS:
+        head = text_of(script)
+        for option in (word for word in script.words if word.startswith("--")):
+            tally.note(option in head, f"{script.command}: {option} stands nowhere in it")
 
 
-def try_words(tally):
-    asked = re.findall(r"scripts_of (\w+)", (ROOT / ".ci/run").read_text(encoding="utf-8"))
-    tally.same("words of the test command", asked, list(dict.fromkeys(word for word, _ in rows())))
+def try_repeats(tally):
+    for script in SCRIPTS:
+        has_others = WITH_OTHERS.search(text_of(script)) is not None
+        tally.same(f"{script.command}: whether it may be run once more", script.may_repeat, has_others)
+
+
+def try_browsers(tally):
+    usual = {script.command for script in SCRIPTS}
+    there = [script for script in table.in_other_browsers(ROOT, SCRIPTS) if script.is_other]
+    for name in table.OTHERS:
+        rows = [script for script in there if script.command.endswith(name)]
+        tally.same(f"rows for {name}", sum(script.command in usual for script in rows), 1)
+        tally.note(len(rows) > 10, f"only {len(rows)} scripts for {name}")
 
 
 def try_kit(tally):
@@ -70,5 +82,5 @@ def try_links(tally):
 
 if __name__ == "__main__":
     counts = Tally()
-    counts.run_parts((try_names, try_options, try_words, try_kit, try_links))
+    counts.run_parts((try_names, try_options, try_repeats, try_browsers, try_kit, try_links))
     sys.exit(counts.end())
