@@ -9,7 +9,7 @@ import signal
 import subprocess
 import tempfile
 
-from .tally import Tally
+from .tally import BREAKS, Tally
 
 LIB = pathlib.Path(__file__).resolve().parent
 TESTS, ROOT = LIB.parent, LIB.parent.parent
@@ -49,12 +49,18 @@ def options_of(about, usual):
 
 
 def main(about, kind, parts, **usual):
-    """A script: runs its parts over a tally of this kind, which is made of its options and a folder, and ends with what was
-    counted."""
+    """A script: runs its parts over a tally of this kind, which is made of its options and a folder, and ends with what
+    was counted. A tally that can't be made is a failed case. What still writes to the folder ends with the script."""
     options = options_of(about, usual)
-    with tempfile.TemporaryDirectory() as folder:
-        tally = kind(options, pathlib.Path(folder))
-        tally.run_parts(parts)
+    with tempfile.TemporaryDirectory(ignore_cleanup_errors=True) as folder:
+        try:
+            tally = kind(options, pathlib.Path(folder))
+        except BREAKS as error:
+            tally = Tally()
+            tally.broke("before its parts", error)
+            tally.leave(parts)
+        else:
+            tally.run_parts(parts)
     return tally.end()
 
 
