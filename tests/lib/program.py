@@ -5,16 +5,21 @@ import concurrent.futures
 import os
 import pathlib
 import resource
+import select
 import signal
 import subprocess
 import tempfile
+import time
 
 from .tally import BREAKS, Tally
 
 LIB = pathlib.Path(__file__).resolve().parent
 TESTS, ROOT = LIB.parent, LIB.parent.parent
 DATA = TESTS / "data"
-PIPES = {"stdout": subprocess.PIPE, "stderr": subprocess.PIPE, "timeout": 120}
+# Seconds for what comes unless something is broken: for a server or a browser, and for a command. They cost nothing
+# while all is well.
+PATIENCE, LONGEST = 90, 600
+PIPES = {"stdout": subprocess.PIPE, "stderr": subprocess.PIPE, "timeout": LONGEST}
 
 
 def refused(line):
@@ -62,6 +67,18 @@ def main(about, kind, parts, **usual):
         else:
             tally.run_parts(parts)
     return tally.end()
+
+
+def line_of(stream, seconds=PATIENCE):
+    """The next line of a pipe that nothing was read from but by this; or what came of one within some seconds."""
+    end, line, ready = time.monotonic() + seconds, b"", select.poll()
+    ready.register(stream, select.POLLIN)
+    while not line.endswith(b"\n") and ready.poll(1000 * max(0, end - time.monotonic())):
+        byte = os.read(stream.fileno(), 1)
+        if not byte:
+            break
+        line += byte
+    return line
 
 
 def ran(words, **how):

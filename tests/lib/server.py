@@ -7,6 +7,7 @@ import socket
 import subprocess
 
 from . import clock
+from .program import PATIENCE, line_of
 
 
 def heed_interrupts():
@@ -26,7 +27,7 @@ class Server:
             words, cwd=folder, env={**clock.shown_by(self.clock, libraries), **env}, stdout=subprocess.PIPE, stderr=subprocess.PIPE,
             preexec_fn=heed_interrupts)  # fmt: skip
         atexit.register(self.process.kill)
-        line = self.process.stdout.readline().decode()
+        line = line_of(self.process.stdout).decode(errors="replace")
         found = re.fullmatch(r"listening on 127\.0\.0\.1:(\d+)\n", line)
         desk.note(found is not None, f"the line of the port: {line!r}")
         self.port = int(found[1]) if found else 0
@@ -37,7 +38,7 @@ class Server:
 
     def connected(self):
         """A client's end of a new connection."""
-        return socket.create_connection(("127.0.0.1", self.port), timeout=60)
+        return socket.create_connection(("127.0.0.1", self.port), timeout=PATIENCE)
 
     def ask(self, data, ends=True):
         """What comes back for these bytes; the client says that no more comes, unless it waits for the reply first."""
@@ -52,7 +53,7 @@ class Server:
 
     def ended(self):
         """The status with which it ends."""
-        status = self.process.wait(60)
+        status = self.process.wait(PATIENCE)
         self.process.stdout.close()
         self.process.stderr.close()
         return status

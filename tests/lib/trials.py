@@ -9,7 +9,7 @@ from . import cells_opinion, clock, demo, first_schema
 from .clock import text_of
 from .demo import AT_REHEARSAL, START
 from .import_opinion import compact
-from .program import Program, ran
+from .program import PATIENCE, Program, line_of, ran
 from .rehearsal import END, FREEZE, files_of, judged, posted, sent
 from .server import Server, read_all
 from .sqlite import asked, dump
@@ -124,16 +124,20 @@ def request(desk, data):
     def done(folder, how):
         words = [desk.path, "serve", "cup.db", "--requests", "1"]
         with subprocess.Popen(words, cwd=folder, env=how, stdout=subprocess.PIPE, stderr=subprocess.PIPE) as server:
-            line = server.stdout.readline().decode()
+            line = line_of(server.stdout).decode()
             said = asked_at(int(line.rsplit(":", 1)[1]), data) if line else b""
-            return server.wait(60), (said + server.stderr.read()).decode()
+            try:
+                return server.wait(PATIENCE), (said + server.stderr.read()).decode()
+            except subprocess.TimeoutExpired:
+                server.kill()
+                raise
 
     return done
 
 
 def asked_at(port, data):
     try:
-        with socket.create_connection(("127.0.0.1", port), timeout=60) as client:
+        with socket.create_connection(("127.0.0.1", port), timeout=PATIENCE) as client:
             client.sendall(data)
             client.shutdown(socket.SHUT_WR)
             return read_all(client)
