@@ -3,7 +3,8 @@ answers for a desk that is away at some of its paths."""
 
 import time
 
-from .nginx import HERE, Client, Nginx
+from .nginx import HERE, TOLD, Client, Nginx
+from .program import PATIENCE
 
 PAGES = "include desk/pages.conf;\n}\nlocation ^~"
 # A browser that has a page already gets it anew, with the script in it.
@@ -59,11 +60,12 @@ class LedNginx(Nginx):
         for contest, port in self.desks.items():
             self.lead(contest, port)
         self.reload()
-        for _ in range(200):
+        end = time.monotonic() + PATIENCE
+        while time.monotonic() < end:
             client = Client(self.port)
             status = client.ask("GET", path)[0]
             client.close()
             if is_so(status):
                 return
             time.sleep(0.05)
-        raise SystemExit(f"nginx doesn't take up what it is told of {path}: {self.errors()}")
+        raise SystemExit(f"nginx doesn't take up what it is told of {path}: {self.errors()[-TOLD:]}")

@@ -17,7 +17,7 @@ import subprocess
 import time
 
 from .import_opinion import compact
-from .program import ROOT
+from .program import PATIENCE, ROOT
 
 # Where nginx has the demo contest, and what a team posts there.
 HERE, POSTED = "/demo/contests/demo", {"problem_id": "a", "language_id": "cpp", "files": [{"data": "YWJj"}]}
@@ -48,6 +48,8 @@ CERTIFICATE = re.search(r"^openssl req .*?certificate\.pem$", GUIDE, re.M | re.S
 CONNECTIONS = re.search(r"s/worker_connections \.\*/worker_connections (\d+);/", GUIDE)[1]
 # What desk.conf and the files of the contests include.
 OWN_FILES = ("ask.conf", "public.conf", "long.conf", "replies.conf", "refusals.conf", "account.conf", "account.js", "pages.conf")
+# So much of what nginx says is told where it isn't as it should be.
+TOLD = 2_000
 # The files that a worker may have open if nothing is said of them.
 FILES_OF_DEBIAN = 1_024
 FIRST_PORT, ALL_PORTS, OWN_PORTS = 10_000, 20_000, 20
@@ -109,16 +111,20 @@ class Started:
         self.wait()
 
     def write(self, name, text):
-        (self.folder / name).write_text(text, encoding="utf-8")
+        """Writes a file, of which nginx reads the whole or the one before, also where it takes up another just then."""
+        new = self.folder / f"{name}.new"
+        new.write_text(text, encoding="utf-8")
+        new.replace(self.folder / name)
 
     def wait(self):
-        """Waits until it listens."""
-        for _ in range(100):
+        """Waits until it listens, unless it has ended."""
+        end = time.monotonic() + PATIENCE
+        while self.process.poll() is None and time.monotonic() < end:
             with socket.socket() as client:
                 if client.connect_ex(("127.0.0.1", self.port)) == 0:
                     return
             time.sleep(0.05)
-        raise SystemExit(f"nginx doesn't listen: {self.errors()}")
+        raise SystemExit(f"nginx doesn't listen: {self.errors()[-TOLD:]}")
 
     def errors(self):
         return (self.folder / "error.log").read_text(encoding="utf-8")
@@ -151,15 +157,15 @@ class Started:
 
     def stop(self):
         self.process.terminate()
-        self.process.wait(20)
+        self.process.wait(PATIENCE)
 
     def connected_plainly(self):
         """A client's end of a new connection without TLS."""
-        return socket.create_connection(("127.0.0.1", self.plain_port), timeout=60)
+        return socket.create_connection(("127.0.0.1", self.plain_port), timeout=PATIENCE)
 
     def connected(self, address="127.0.0.1"):
         """A client's end of a new connection, for bytes, of an address of this machine."""
-        return TRUSTING.wrap_socket(socket.create_connection(("127.0.0.1", self.port), 60, (address, 0)))
+        return TRUSTING.wrap_socket(socket.create_connection(("127.0.0.1", self.port), PATIENCE, (address, 0)))
 
 
 class Nginx(Started):
@@ -217,7 +223,7 @@ class Client:
 
     def __init__(self, port, token=None, is_plain=False):
         kind = http.client.HTTPConnection if is_plain else http.client.HTTPSConnection
-        self.client = kind("127.0.0.1", port, timeout=60, **({} if is_plain else {"context": TRUSTING}))
+        self.client = kind("127.0.0.1", port, timeout=PATIENCE, **({} if is_plain else {"context": TRUSTING}))
         self.fields = {} if token is None else {"Authorization": f"Bearer {token}"}
 
     def ask(self, method, path, body=None, **fields):
