@@ -5,7 +5,7 @@ import os
 import signal
 import subprocess
 
-from .program import ROOT
+from .program import PATIENCE, ROOT
 
 JUDGE = ROOT / "examples/judge/judge.py"
 # A program is a word, and says what the command does. `LATER` is said nothing of when the command sees it first.
@@ -72,4 +72,4 @@ class Bridge:
     def stop(self, number=signal.SIGTERM):
         """The status with which it ends by a signal."""
         self.process.send_signal(number)
-        return self.process.wait(20)
+        return self.process.wait(PATIENCE)

@@ -5,6 +5,7 @@ import re
 import socket
 import threading
 
+from .program import PATIENCE
 from .server import read_all
 
 CUT = b"HTTP/1.1 200 OK\r\nContent-Type: application/json\r\nContent-Length: 100\r\n\r\n"
@@ -78,7 +79,7 @@ class Breaker(Cutter):
             return
 
     def handed(self, request):
-        with socket.create_connection(("127.0.0.1", self.target), timeout=60) as server:
+        with socket.create_connection(("127.0.0.1", self.target), timeout=PATIENCE) as server:
             server.sendall(request)
             return read_all(server)
 

@@ -4,6 +4,8 @@ import contextlib
 import socket
 import threading
 
+from .program import PATIENCE
+
 
 class Relay:
     """Hands connections on to a port, and keeps the bytes of each that went there."""
@@ -24,14 +26,14 @@ class Relay:
 
     def relay(self, client):
         refused = contextlib.suppress(OSError)
-        with client, refused, socket.create_connection(("127.0.0.1", self.target), timeout=60) as server:
+        with client, refused, socket.create_connection(("127.0.0.1", self.target), timeout=PATIENCE) as server:
             back = threading.Thread(target=carry, args=(server, client, bytearray()), daemon=True)
             back.start()
             kept = bytearray()
             with self.lock:
                 self.streams.append(kept)
             carry(client, server, kept)
-            back.join(60)
+            back.join(PATIENCE)
 
     def take(self):
         """What each connection sent since this was called last."""
