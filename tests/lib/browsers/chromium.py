@@ -4,8 +4,10 @@ import atexit
 import base64
 import re
 import subprocess
+import time
 
-from .common import BrowserError, environment
+from ..program import line_of
+from .common import PATIENCE, BrowserError, environment
 from .webdriver import Driven
 
 WORDS = [
@@ -20,7 +22,8 @@ WORDS = [
 
 def port_of(driver):
     """The port that chromedriver tells."""
-    for line in driver.stdout:
+    end = time.monotonic() + PATIENCE
+    while line := line_of(driver.stdout, end - time.monotonic()):
         if found := re.search(rb"successfully on port (\d+)", line):
             return int(found[1])
     raise BrowserError("chromedriver told no port")
@@ -34,7 +37,8 @@ class Chromium(Driven):
         driver = subprocess.Popen(["chromedriver", "--port=0"], stdout=subprocess.PIPE, env=environment(folder))
         atexit.register(driver.terminate)
         options = {"args": WORDS, "binary": "/usr/bin/chromium"}
-        self.begin(driver, port_of(driver), {"browserName": "chrome", "acceptInsecureCerts": True, "goog:chromeOptions": options})
+        wanted = {"browserName": "chrome", "goog:chromeOptions": options, "goog:loggingPrefs": {"browser": "ALL"}}
+        self.begin(driver, port_of(driver), {**wanted, "acceptInsecureCerts": True})
 
     def tell(self, command, **values):
         return self.call("POST", "/goog/cdp/execute", {"cmd": command, "params": values})
@@ -49,6 +53,11 @@ class Chromium(Driven):
     def as_usual(self):
         self.tell("Emulation.clearDeviceMetricsOverride")
         self.is_as_usual()
+
+    def console(self):
+        """A line for each of what pages have written to the console since this was asked last."""
+        said = self.call("POST", "/se/log", {"type": "browser"})
+        return [f"{one['level']}: {one['message']}" for one in said]
 
     def sheets(self):
         """How many sheets of paper the page takes."""

@@ -1,11 +1,18 @@
 """What every browser of the page tests does: windows, clicks, keys, choices, and waiting. Each back says how its browser is
 told so."""
 
+import contextlib
 import os
 import pathlib
+import re
+import signal
+import subprocess
 import time
 
-PATIENCE = 20
+from ..program import PATIENCE
+
+# Seconds for a command, such as a page that is loaded; and until what doesn't end by itself is killed.
+COMMAND, ENDING = 180, 20
 # Keys that write nothing, as WebDriver names them.
 KEYS = {"Enter": "\ue007", "Escape": "\ue00c", "Tab": "\ue004", "Shift": "\ue008", "ArrowDown": "\ue015", "ArrowLeft": "\ue012",
         "ArrowRight": "\ue014", "PageUp": "\ue00e", "PageDown": "\ue00f", "Backspace": "\ue003"}  # fmt: skip
@@ -34,12 +41,25 @@ class CantDo(BrowserError):
     """What this browser has no way to do, by name."""
 
 
+class Gone(BrowserError):
+    """The browser has ended, or what drives it."""
+
+
 def words_of(process):
     """The words by which a process was started, unless it has ended."""
     try:
         return (process / "cmdline").read_bytes()
     except OSError:
         return b""
+
+
+def is_ended(process):
+    """Waits until a process that was told to end has; one that doesn't is killed."""
+    try:
+        process.wait(ENDING)
+    except subprocess.TimeoutExpired:
+        process.kill()
+        process.wait()
 
 
 def environment(folder, **more):
@@ -62,10 +82,23 @@ class Browser:
     def cannot(self, what):
         raise CantDo(f"{self.NAME} has no {what}")
 
-    def is_running(self):
-        """Whether a process of the browser still is, which may write to the folder."""
-        folder = str(self.folder).encode()
-        return any(folder in words_of(process) for process in pathlib.Path("/proc").glob("[0-9]*"))
+    def running(self):
+        """The processes of the browser that still are, which may write to the folder."""
+        folder = re.compile(re.escape(str(self.folder).encode()) + rb"(?!\d)")
+        return [process for process in pathlib.Path("/proc").glob("[0-9]*") if folder.search(words_of(process))]
+
+    def is_gone(self):
+        """Waits until none of them is left; what doesn't end is killed."""
+        end = time.monotonic() + ENDING
+        while (left := self.running()) and time.monotonic() < end:
+            time.sleep(0.1)
+        for process in left:
+            with contextlib.suppress(OSError):
+                os.kill(int(process.name), signal.SIGKILL)
+
+    def console(self):
+        """What pages have written to the console since this was asked last; None, where the driver doesn't tell."""
+        return None
 
     def look_at(self, name, address=None):
         """Goes to a window by its name, and opens an address in it."""
@@ -122,7 +155,7 @@ class Browser:
             try:
                 if is_so():
                     return True
-            except CantDo:
+            except (CantDo, Gone):
                 raise
             except BrowserError as error:
                 last = str(error)
@@ -133,7 +166,7 @@ class Browser:
         """Whether something comes to be so within some seconds."""
         try:
             return self.until(is_so, "")
-        except CantDo:
+        except (CantDo, Gone):
             raise
         except BrowserError:
             return False

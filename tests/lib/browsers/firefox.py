@@ -9,7 +9,7 @@ import zlib
 
 from ..nginx import free_port
 from .by_nginx import Served
-from .common import PATIENCE, BrowserError, environment
+from .common import PATIENCE, BrowserError, environment, is_ended
 from .marionette import Marionette
 from .webdriver import ELEMENT
 
@@ -72,8 +72,8 @@ class Firefox(Served):
             self.port.tell("Marionette:Quit", flags=["eForceQuit"])
         except (BrowserError, OSError):
             self.process.terminate()
-        self.process.wait(20)
-        self.comes(lambda: not self.is_running())
+        is_ended(self.process)
+        self.is_gone()
 
     def new_window(self):
         return self.port.tell("WebDriver:NewWindow", type="tab")["handle"]

@@ -4,6 +4,8 @@ protocol."""
 import socket
 import struct
 
+from .common import PATIENCE
+
 NAME, THEMES = b"Net/ThemeName", {"light": b"Adwaita", "dark": b"Adwaita-dark"}
 # The numbers of requests of the protocol.
 CREATE_WINDOW, INTERN_ATOM, CHANGE_PROPERTY, SET_SELECTION_OWNER = 1, 16, 18, 22
@@ -24,6 +26,7 @@ class Theme:
 
     def __init__(self, display):
         self.socket, self.serial = socket.socket(socket.AF_UNIX), 0
+        self.socket.settimeout(PATIENCE)
         self.socket.connect(f"/tmp/.X11-unix/X{display.removeprefix(':')}")
         self.socket.sendall(struct.pack("<cxHHHHxx", b"l", 11, 0, 0, 0))
         self.window, root = self.greeted()

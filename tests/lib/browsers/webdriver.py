@@ -1,13 +1,23 @@
 """A browser that is told what to do by the WebDriver protocol (W3C) over HTTP."""
 
 import base64
+import http.client
 import json
 import urllib.error
 import urllib.request
 
-from .common import Browser, BrowserError
+from .common import COMMAND, Browser, BrowserError, Gone, is_ended
 
 ELEMENT = "element-6066-11e4-a52e-4f735466cecf"
+
+
+def told_in(error):
+    """The name of what a driver says of a command that it refuses, and that in words."""
+    try:
+        told = json.load(error)["value"]
+        return told["error"], told["message"] or told["error"]
+    except (OSError, http.client.HTTPException, ValueError, KeyError, TypeError):
+        return "", str(error)
 
 
 class Driven(Browser):
@@ -21,21 +31,24 @@ class Driven(Browser):
     def end(self):
         try:
             self.call("DELETE", "")
-        except (BrowserError, OSError):
+        except BrowserError:
             pass
         self.driver.terminate()
-        self.driver.wait(20)
-        self.comes(lambda: not self.is_running())
+        is_ended(self.driver)
+        self.is_gone()
 
     def call(self, method, path, value=None):
         body = None if value is None else json.dumps(value).encode()
         request = urllib.request.Request(self.base + path, body, {"Content-Type": "application/json"}, method=method)
         try:
-            with urllib.request.urlopen(request, timeout=60) as reply:
+            with urllib.request.urlopen(request, timeout=COMMAND) as reply:
                 return json.load(reply)["value"]
         except urllib.error.HTTPError as error:
-            told = json.load(error)["value"]
-            raise BrowserError(f"{method} {path}: {told['message'] or told['error']}")
+            name, words = told_in(error)
+            raise (Gone if name == "invalid session id" else BrowserError)(f"{method} {path}: {words}") from None
+        except (OSError, http.client.HTTPException, ValueError) as error:
+            is_refused = isinstance(getattr(error, "reason", error), ConnectionRefusedError)
+            raise (Gone if is_refused else BrowserError)(f"{method} {path}: {type(error).__name__}: {error}") from None
 
     def new_window(self):
         return self.call("POST", "/window/new", {"type": "tab"})["handle"]

@@ -8,8 +8,9 @@ import time
 import urllib.request
 
 from ..nginx import free_port
+from ..program import line_of
 from .by_nginx import Served
-from .common import environment
+from .common import PATIENCE, environment, is_ended
 from .theme import Theme
 from .webdriver import ELEMENT, Driven
 
@@ -30,7 +31,6 @@ DRAWN = "return new Promise((done) => requestAnimationFrame(() => requestAnimati
 TAKEN = """const [file] = document.querySelector(arguments[0])?.files ?? [];
 return file?.slice(0, 1).arrayBuffer().then(() => true, () => false);"""
 BY_CONTENT = ("cell", "columnheader", "rowheader")
-PATIENCE = 60
 
 
 def screen(folder):
@@ -40,8 +40,8 @@ def screen(folder):
     process = subprocess.Popen(words, pass_fds=[writer], stderr=subprocess.DEVNULL, env=environment(folder))
     atexit.register(process.terminate)
     os.close(writer)
-    with os.fdopen(reader, encoding="ascii") as told:
-        return f":{told.readline().strip()}", process
+    with os.fdopen(reader, "rb") as told:
+        return f":{line_of(told).decode().strip()}", process
 
 
 def is_ready(port):
@@ -76,7 +76,7 @@ class WebKit(Served, Driven):
         super().end()
         self.theme.end()
         self.screen.terminate()
-        self.screen.wait(20)
+        is_ended(self.screen)
 
     def new_window(self):
         """A window of its own, since a tab that is gone to isn't shown by that."""
