@@ -1,8 +1,13 @@
 """The pages of web/ before the demo contest, in a browser with a tab for each person."""
 
 import contextlib
+import functools
 import json
+import os
 import pathlib
+import sys
+import tempfile
+import threading
 
 from . import demo
 from .browsers import BACKS, BrowserError, CantDo
@@ -14,17 +19,26 @@ from .server import Server
 
 SIZES = {"wide": (1600, 900), "narrow": (390, 844)}
 KEPT = "return Object.entries(sessionStorage).map((one) => one.join(' '))"
+# Of so many failed cases a picture is kept. At the first so many lines of each log are told, none of them longer.
+PICTURES, LINES, LONGEST_LINE = 3, 16, 300
+
+
+def in_short(text):
+    """A text in one line, which isn't too long."""
+    return " ".join(str(text).split())[:LONGEST_LINE]
 
 
 class Pages(Program):
-    """The program behind nginx, and a browser. The clock stands at a moment. Parts rest on each other: once one can't go on,
-    that is told and the rest isn't tried."""
+    """The program behind nginx, and a browser. The clock stands at a moment. Pictures of the first failed cases are
+    kept in the folder that the environment names as GATE_KEPT, or in a new one. What the console and nginx say is told.
+    """
 
     FILES = demo.FILES
     BROWSERS = tuple(BACKS)
     MOMENT = "2024-03-02 09:05:00"
 
     def __init__(self, options, folder):
+        self.browser, self.nginx, self.pictures, self.keeping = None, None, 0, threading.Lock()
         super().__init__(options, folder)
         self.place, self.port = demo.made(self, self.FILES), free_port()
         self.begin(self.MOMENT)
@@ -36,11 +50,67 @@ class Pages(Program):
     def run_parts(self, parts):
         try:
             super().run_parts(parts)
-        except BrowserError as error:
-            self.note(False, f"the pages can't go on: {error}")
-            self.shoot("failed")
         finally:
-            self.browser.end()
+            self.tries("the browser's end", self.browser.end)
+
+    def broke(self, what, error):
+        super().broke(what, error)
+        if isinstance(error, BrowserError):
+            self.tries("pictures", lambda: self.shoot("failed"))
+
+    def note(self, is_right, what):
+        super().note(is_right, what)
+        # What another thread keeps just then, or this one, needs no second picture.
+        if not is_right and self.browser is not None and self.keeping.acquire(blocking=False):
+            try:
+                self.keep_failed()
+            finally:
+                self.keeping.release()
+
+    def tries(self, what, does):
+        """Does what tells of failures and is no case itself. If it fails that is told in a line; whether it didn't."""
+        try:
+            does()
+        except Exception as error:
+            print(f"  {what}: {type(error).__name__}: {in_short(error)}", flush=True)
+            return False
+        return True
+
+    def keep_failed(self):
+        """Keeps a picture of the page as it stands. A browser that makes none isn't asked again."""
+        self.pictures += 1
+        if self.pictures > PICTURES:
+            return
+        is_first = self.pictures == 1
+        if not self.tries("no picture", self.keep_picture):
+            self.pictures = PICTURES
+        elif is_first:
+            self.tell_last("the console", self.browser.console)
+        if is_first:
+            self.tell_last("nginx's error log", lambda: self.nginx.errors().splitlines())
+
+    @functools.cached_property
+    def pictures_folder(self):
+        folder = pathlib.Path(os.environ.get("GATE_KEPT") or tempfile.mkdtemp(prefix="failed-pages-")).resolve()
+        folder.mkdir(parents=True, exist_ok=True)
+        return folder
+
+    def keep_picture(self):
+        browser = "" if self.browser.NAME == self.BROWSERS[0] else f"-{self.browser.NAME}"
+        number = "" if self.pictures == 1 else f"-{self.pictures}"
+        file = self.pictures_folder / f"{pathlib.Path(sys.argv[0]).stem}{browser}-failed{number}.png"
+        file.write_bytes(self.browser.picture())
+        print(f"  its picture: {file}", flush=True)
+
+    def tell_last(self, what, log):
+        """Prints the last lines of a log, if there is one."""
+
+        def tell():
+            lines = log()
+            if lines is not None:
+                print("\n    ".join([f"  {what}:", *map(in_short, lines[-LINES:])]), flush=True)
+
+        self.tries(what, tell)
 
     @contextlib.contextmanager
     def if_it_can(self, what, count=1):
