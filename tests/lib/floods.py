@@ -1,5 +1,7 @@
-"""Clients of nginx that ask without a pause, and how long a team's posts take beside them."""
+"""Clients of nginx that ask without a pause, and a team's posts beside them. How long these take is told and isn't
+judged: it says as much of the machine, and of what else runs there."""
 
+import atexit
 import collections
 import resource
 import signal
@@ -9,14 +11,11 @@ import time
 
 from .import_opinion import compact
 from .nginx import HERE, POSTED, Client
-from .program import LIB
+from .program import LIB, PATIENCE
 
-# How long a post may take beside a flood: the median, and the 99th of a hundred. On a machine on which one takes longer than
-# usual with no flood, as much longer. A machine that had something else to do is asked once more.
-MEDIAN, FAR, USUAL, TRIES = 0.05, 0.25, 0.02, 2
 POSTS, GAP = 100, 0.01
 # Seconds until all clients of a flood are connected; and how long it lasts at most, for it ends once the posts are done.
-BEGUN, LONGEST = 1.5, 60
+BEGUN, LONGEST = 1.5, 300
 
 
 def many_files():
@@ -35,6 +34,7 @@ class Flood:
         self.nginx = nginx
         nginx.statuses()
         self.process = subprocess.Popen(words, stdout=subprocess.PIPE, stderr=subprocess.STDOUT, preexec_fn=many_files)
+        atexit.register(self.process.kill)
 
     def __enter__(self):
         time.sleep(BEGUN)
@@ -42,7 +42,7 @@ class Flood:
 
     def __exit__(self, *_):
         self.process.send_signal(signal.SIGINT)
-        self.said = self.process.communicate(timeout=20)[0].decode()
+        self.said = self.process.communicate(timeout=PATIENCE)[0].decode()
 
 
 def posts_of(nginx, token, count=POSTS, problem=POSTED["problem_id"]):
@@ -58,36 +58,14 @@ def posts_of(nginx, token, count=POSTS, problem=POSTED["problem_id"]):
 
 
 def times_of(posts):
-    """The median, the 99th of a hundred and the longest of the seconds of posts."""
-    took = sorted(seconds for _, seconds in posts)
-    return statistics.median(took), took[len(took) * 99 // 100 - 1], took[-1]
+    """The median, the 99th of a hundred and the longest of the milliseconds of posts, as words."""
+    took = sorted(seconds * 1000 for _, seconds in posts)
+    median, far, longest = statistics.median(took), took[len(took) * 99 // 100 - 1], took[-1]
+    return f"{median:.0f} ms, the 99th of 100 {far:.0f}, the longest {longest:.0f}"
 
 
-def slowness(alone):
-    """How many times as long as usual a post takes with no flood; 1 if it takes no longer."""
-    return max(1, times_of(alone)[0] / USUAL)
-
-
-def are_quick(posts, alone):
-    median, far, _ = times_of(posts)
-    return median <= MEDIAN * slowness(alone) and far <= FAR * slowness(alone)
-
-
-def note_taken(tally, what, posts):
-    """Notes whether posts were all taken, and prints how long they took."""
+def note_taken(tally, what, posts, alone=None):
+    """Notes whether posts were all taken, and prints how long they took, beside those of a run without a flood."""
     statuses = collections.Counter(status for status, _ in posts)
     tally.same(f"{what}: what another team's posts are answered", statuses, {200: len(posts)})
-    median, far, longest = (f"{seconds * 1000:.0f}" for seconds in times_of(posts))
-    times = f"{what}: a post takes {median} ms, the 99th of 100 {far}, the longest {longest}"
-    print(f"  {times}")
-    return times
-
-
-def note_quick(tally, what, measure, alone):
-    """Notes whether the posts of a run beside a flood are all taken, and soon, beside those of a run without one."""
-    for _ in range(TRIES):
-        posts = measure()
-        times = note_taken(tally, what, posts)
-        if are_quick(posts, alone):
-            break
-    tally.note(are_quick(posts, alone), f"{times}; alone {times_of(alone)[0] * 1000:.0f} ms")
+    print(f"  {what}: a post takes {times_of(posts)}" + (f"; alone {times_of(alone)}" if alone else ""))

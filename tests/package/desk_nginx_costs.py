@@ -5,10 +5,10 @@
 
 The contest has 500 teams and N submissions (10,000), each with a verdict. One token asks without a pause on 30
 connections, and eight tokens on 30 each: for the event feed, and for each long list and the scoreboard, as they are and
-compressed. Another team's post then takes 50 ms at the median and 250 ms at the 99th of a hundred, at most; each is
-printed beside a run without a flood, and may take longer by as much as that one. Pages go on beside the worst of these:
-the ceremony gets its feed, and the page of the balloons its lists. The limits of the event feed and of long lists are
-those that desk.conf names: of a token, of an address without one, and of all.
+compressed. Another team's posts are all taken meanwhile; how long they take is printed beside a run without a flood,
+and isn't judged. Pages go on beside the worst of these: the ceremony gets its feed, and the page of the balloons its
+lists. The limits of the event feed and of long lists are those that desk.conf names: of a token, of an address without
+one, and of all.
 
 Takes nginx, openssl, wrk, sqlite3 and faketime. Ends with the line `N passed, M failed`; the exit status is 0 if M is 0.
 """
@@ -20,7 +20,7 @@ import sys
 import time
 
 from lib import large_hall, program
-from lib.floods import Flood, note_quick, note_taken, posts_of
+from lib.floods import Flood, note_taken, posts_of
 from lib.large_hall import token
 from lib.nginx import HERE, Client, Nginx
 from lib.program import Program
@@ -72,7 +72,7 @@ def try_floods(hall):
         nginx = hall.nginx()
         name = f"beside {tokens} at /{what}{', pressed' if is_pressed else ''}"
         with Flood(nginx, f"{HERE}/{what}", tokens, tokens * CONNECTIONS, "tokens.lua", is_pressed):
-            note_quick(hall, name, lambda: hall.posts(nginx, place), alone)
+            note_taken(hall, name, hall.posts(nginx, place), alone)
         print(f"    it was answered {dict(nginx.statuses())}")
         nginx.stop()
 

@@ -7,9 +7,9 @@ What nginx answers strangers itself: who changes something or sends a body witho
 account has, whatever the path; the desk sees none of it. Ever new tokens on eight connections keep out no team that signs
 in behind the same address, at an nginx that knows nobody yet. 300 clients that send most of a body and then nothing leave
 nginx's memory as it was. A head that isn't whole after five seconds is dropped. 1,900 connections without a credential,
-at paths that aren't kept, let teams' posts through within 50 ms at the median and 250 ms at the 99th of a hundred; each is
-printed beside a run without, and may take longer by as much as that one. Floods last N seconds each (6). The guide's
-firewall counts the connections of each address; without root's rights that counts as skipped.
+at paths that aren't kept, keep no team's post from being taken. How long posts take beside a flood is printed beside a
+run without one, and isn't judged. Floods last N seconds each (6). The guide's firewall counts the connections of each
+address; without root's rights that counts as skipped.
 
 Takes nginx, openssl, wrk, curl, faketime, unshare and nft. Ends with the line `N passed, M failed` and, if something
 couldn't be tried, `, K skipped`; the exit status is 0 if M is 0.
@@ -24,9 +24,9 @@ import sys
 import time
 
 from lib import demo, program
-from lib.floods import Flood, note_quick, note_taken, posts_of
+from lib.floods import Flood, note_taken, posts_of
 from lib.nginx import GUIDE, HERE, Client, Nginx
-from lib.program import Program, ran
+from lib.program import PATIENCE, Program, ran
 from lib.relay import Relay
 from lib.server import Server, read_all
 
@@ -129,7 +129,7 @@ def try_sign_in(hall):
             hall.same(f"{token} signs in", Client(nginx.port, token).ask("GET", f"{HERE}/account")[0], 200)
             took.append(time.monotonic() - start)
             time.sleep(hall.options.seconds / 40)
-        note_quick(hall, "beside ever new tokens", lambda: posts_of(nginx, TEAMS[0]), alone)
+        note_taken(hall, "beside ever new tokens", posts_of(nginx, TEAMS[0]), alone)
     hall.note(max(took) < 1, f"a team signs in within {max(took):.2f} s")
     print(f"  a team signs in within {max(took) * 1000:.0f} ms; the flood was answered {dict(nginx.statuses())}")
     hall.note("requests in" in flood.said, f"the flood: {flood.said}")
@@ -147,7 +147,7 @@ def keep_body(nginx, fields):
 
 def answered(client):
     """The first line that a client was sent; nothing if none came."""
-    client.settimeout(3)
+    client.settimeout(PATIENCE)
     try:
         return client.recv(65_536).partition(b"\r\n")[0].decode()
     except OSError:
@@ -220,7 +220,7 @@ def try_public(hall):
     with Flood(nginx, f"{HERE}/teams/nobody-", 2, FLOODING, "other_paths.lua"):
         time.sleep(hall.options.seconds / 3)
         what = f"six teams, beside {FLOODING} connections of the public"
-        note_quick(hall, what, lambda: posts_of_all(nginx, tokens), alone)
+        note_taken(hall, what, posts_of_all(nginx, tokens), alone)
     print(f"    which were answered {dict(nginx.statuses())}")
     nginx.stop()
 
