@@ -20,7 +20,7 @@ import sys
 import time
 
 from lib import program
-from lib.program import ROOT, TESTS
+from lib.program import PATIENCE, ROOT, TESTS
 from lib.server import heed_interrupts
 from lib.tally import Tally
 
@@ -89,7 +89,7 @@ class Made:
     def build(self, name="quick_replay", **how):
         """The status of a build, and what it tells."""
         running = self.start("python3", "-B", "tools/build_desk.py", name, **how)
-        told = running.communicate(timeout=60)[1]
+        told = running.communicate(timeout=PATIENCE)[1]
         return running.returncode, told
 
     def left_apart(self):
@@ -97,7 +97,7 @@ class Made:
 
     def wait_for(self, event, *crates):
         """Waits until rt has done this, and these crates are proved."""
-        until, marks = time.monotonic() + 30, [self.top / "crates" / it / "out/proved" for it in crates]
+        until, marks = time.monotonic() + PATIENCE, [self.top / "crates" / it / "out/proved" for it in crates]
         while time.monotonic() < until:
             if event in (self.top / "said").read_text(encoding="utf-8") and all(it.is_file() for it in marks):
                 return
@@ -208,7 +208,7 @@ def try_words(builds):
     running = made.start("python3", "-B", "tools/build_desk.py", "quick_replay", stderr=theirs, stdout=subprocess.DEVNULL)
     os.close(theirs)
     shown = read_all(ours)
-    builds.same("on a terminal", running.wait(60), 0)
+    builds.same("on a terminal", running.wait(PATIENCE), 0)
     builds.note(shown.count("\n") == 3 and shown.count("\r\033[K") > 5 and "of 8 crates proved" in shown, shown)
 
 
@@ -261,7 +261,7 @@ def try_stops(builds):
         running = made.start("python3", "-B", "tools/build_desk.py", "quick_replay", start_new_session=True)
         made.wait_for("begin score", *QUICK[:2], "files", "words")
         os.killpg(running.pid, number) if number == signal.SIGINT else running.send_signal(number)
-        told = running.communicate(timeout=20)[1]
+        told = running.communicate(timeout=PATIENCE)[1]
         builds.same(f"{what}: status", running.returncode, wanted)
         if number != signal.SIGKILL:
             builds.note("the build was stopped; the next one goes on from there" in told, told)
@@ -308,7 +308,7 @@ def try_two(builds):
     first = made.start("python3", "-B", "tools/build_desk.py", "quick_replay")
     made.wait_for("begin base")
     status, told = made.build("desk")
-    first.communicate(timeout=30)
+    first.communicate(timeout=PATIENCE)
     begun = begun_in(made.said())
     builds.same("two builds", (first.returncode, status), (0, 0))
     builds.note("another run of rt is at work on these crates; waiting for it" in told, told)
@@ -318,7 +318,7 @@ def try_two(builds):
 def run_desk(made, *words):
     """What ./desk prints, its status, and which programs it built."""
     running = made.start("./desk", *words, stdin=subprocess.PIPE)
-    out, _ = running.communicate("a line\n", timeout=60)
+    out, _ = running.communicate("a line\n", timeout=PATIENCE)
     return out, running.returncode, [it for it in begun_in(made.said()) if it in ("desk", "quick_replay")]
 
 
