@@ -23,7 +23,7 @@ import threading
 import time
 
 from lib import clock, demo, program
-from lib.program import FAULT, Program, ran, refused
+from lib.program import FAULT, PATIENCE, Program, ran, refused
 from lib.server import Server, read_all
 
 INTERIM = b"HTTP/1.1 100 Continue\r\n\r\n"
@@ -223,7 +223,7 @@ def try_many(desk):
     _, server = served(desk)
     right = 0
     for number in range(desk.options.requests):
-        client = http.client.HTTPConnection("127.0.0.1", server.port, timeout=60)
+        client = http.client.HTTPConnection("127.0.0.1", server.port, timeout=PATIENCE)
         if number % 10 == 9 and number < 4_000:
             client.request("POST", "/contests/demo/submissions", POSTED, {"Authorization": "Bearer token-a1"})
             wanted = f"s1-{number // 10 + 1}"
@@ -248,7 +248,7 @@ def try_clients(desk):
         desk.note(not answers, "the second client waits for the first")
         first.sendall(get(b"/contests/demo/state"))
         desk.same("the first client", read_all(first), reply(b"200 OK", STATE))
-        second.join(60)
+        second.join(PATIENCE)
     desk.same("the second client", answers and answers[0], reply(b"200 OK", STATE))
     server.connected().close()
     desk.same("after one that said nothing", server.ask(get(b"/contests/demo/state")), reply(b"200 OK", STATE))

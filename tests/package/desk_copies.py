@@ -37,7 +37,7 @@ from lib.copier import TOOL, bytes_in, copied, edited, lacking, rows_of, words_o
 from lib.demo import START
 from lib.import_opinion import compact
 from lib.nginx import Client, free_port
-from lib.program import Program, limited_to, ran
+from lib.program import PATIENCE, Program, limited_to, ran
 from lib.server import Server
 
 TEAMS, CLIENTS, KEPT = 32, 4, 4
@@ -236,7 +236,7 @@ def moved(desk, texts):
         fill(day, 1)
     fill(day, 3)
     (day.folder / "go").touch()
-    said = running.communicate(timeout=60)[1].decode()
+    said = running.communicate(timeout=PATIENCE)[1].decode()
     day.end()
     return said or lacking(rows_of(desk, day.folder, "copy.db"), wanted)
 

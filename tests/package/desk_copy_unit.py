@@ -30,7 +30,7 @@ import time
 from lib import demo, program
 from lib.copier import TOOL
 from lib.nginx import GUIDE, Client, Nginx, free_port
-from lib.program import ROOT, Program, ran
+from lib.program import PATIENCE, ROOT, Program, ran
 from lib.units import calls_in, try_exposure, try_filter
 
 UNIT = ROOT / "examples/nginx/desk-copy@.service"
@@ -89,9 +89,8 @@ class Machines:
             file.write(f"{line}\n")
 
     def wait_for_sshd(self):
-        for _ in range(100):
-            if (self.second / "pid").exists():
-                return
+        end = time.monotonic() + PATIENCE
+        while not (self.second / "pid").exists() and self.sshd.poll() is None and time.monotonic() < end:
             time.sleep(0.05)
 
     def shell(self, key):

@@ -28,7 +28,7 @@ from lib import demo, program, sqlite
 from lib.bridge import LEFT, Bridge, Calls
 from lib.import_opinion import compact
 from lib.nginx import Client, Nginx, free_port
-from lib.program import Program
+from lib.program import PATIENCE, Program
 from lib.server import Server
 
 TWICE = demo.STARTED.replace('"duration"', '"verification":true,"duration"')
@@ -91,7 +91,7 @@ class Place:
     def left(self):
         return sorted(which for which, word in self.words.items() if word in LEFT)
 
-    def comes(self, what, is_there, seconds=60):
+    def comes(self, what, is_there, seconds=300):
         """Waits until something holds."""
         end = time.monotonic() + seconds
         while not is_there() and time.monotonic() < end:
@@ -303,14 +303,14 @@ def try_ends(desk):
              ("token-j1", {"contest": "another"}, "nothing of a desk")]  # fmt: skip
     for token, how, wanted in cases:
         bridge = place.bridge(token=token, **how)
-        desk.same(f"the status with {token}", bridge.process.wait(20), 1)
+        desk.same(f"the status with {token}", bridge.process.wait(PATIENCE), 1)
         desk.note(len(bridge.told()) == 1 and wanted in bridge.told()[0], f"{token}: {bridge.told()}")
     bridge = Bridge(place.calls.folder, place.address, place.calls.path)
-    desk.same("the status without trust", bridge.process.wait(20), 1)
+    desk.same("the status without trust", bridge.process.wait(PATIENCE), 1)
     desk.note("certificate" in bridge.told()[0], f"without trust: {bridge.told()}")
     for address, command, wanted in (("http://desk.example/demo", "true", "https://"), (place.address, "no-such-program", "--run")):
         bridge = Bridge(place.calls.folder, address, command)
-        desk.same(f"the status of {address} and {command}", bridge.process.wait(20), 2)
+        desk.same(f"the status of {address} and {command}", bridge.process.wait(PATIENCE), 2)
         desk.note(wanted in bridge.told()[-1], f"{address} and {command}: {bridge.told()}")
     place.words[which] = "FAIL"
     place.stop([])
@@ -345,7 +345,7 @@ def try_patience(desk):
     threading.Thread(target=server.serve_forever, daemon=True).start()
     folder = desk.new_folder()
     bridge = Bridge(folder, f"127.0.0.1:{server.server_address[1]}", "true")
-    end = time.monotonic() + 60
+    end = time.monotonic() + 300
     while len(server.moments) < 12 and time.monotonic() < end:
         time.sleep(0.1)
     desk.same("the status of a bridge that is ended", bridge.stop(), 0)

@@ -32,7 +32,7 @@ import time
 from lib import demo, program
 from lib.import_opinion import compact
 from lib.nginx import HERE, POSTED, Client, Nginx, free_port, post_until_taken
-from lib.program import ROOT, Program, ran
+from lib.program import PATIENCE, ROOT, Program, ran
 from lib.relay import Relay
 from lib.server import Server, read_all
 from lib.wire_opinion import asked
@@ -87,7 +87,7 @@ def try_many_clients(desk):
     server = Server(desk, demo.made(desk, demo.FILES))
     nginx = Nginx(desk.new_folder(), {"demo": server.port}, is_limited=False)
     for who, fields in (("the public", []), ("a team", ["-H", "Authorization: Bearer token-a1"])):
-        words = ["wrk", "-t", "2", "-c", "200", "-d", f"{desk.options.seconds}s", "--timeout", "20s", *fields]
+        words = ["wrk", "-t", "2", "-c", "200", "-d", f"{desk.options.seconds}s", "--timeout", f"{PATIENCE}s", *fields]
         status, out, _ = ran([*words, f"https://127.0.0.1:{nginx.port}{HERE}/scoreboard"])
         count = int(re.search(rb"(\d+) requests in", out)[1])
         rate = float(re.search(rb"Requests/sec: +([\d.]+)", out)[1])
@@ -113,8 +113,8 @@ def hold(nginx, data, are_there, is_over):
     """Sends data, joins the others that hold a connection, and goes once it is over. Nothing is read."""
     with nginx.connected() as client:
         client.sendall(data)
-        are_there.wait(60)
-        return is_over.wait(60)
+        are_there.wait(PATIENCE)
+        return is_over.wait(PATIENCE)
 
 
 def try_slow_clients(desk):
@@ -132,7 +132,7 @@ def try_slow_clients(desk):
     with concurrent.futures.ThreadPoolExecutor(3 * SLOW) as pool:
         slow = [pool.submit(sent_slowly, nginx, post) for _ in range(SLOW)]
         held = [pool.submit(hold, nginx, data, are_there, is_over) for data in (post[:-9], get * 4) for _ in range(SLOW)]
-        are_there.wait(60)
+        are_there.wait(PATIENCE)
         client = Client(nginx.port, "token-a2")
         took = [
             seconds_of(lambda: desk.same("a quick one", client.ask("GET", f"{HERE}/scoreboard")[0], 200))
@@ -354,7 +354,7 @@ def try_large_replies(desk):
         nginx = Nginx(desk.new_folder(), {"demo": large.getsockname()[1]})
         with nginx.connected() as client:
             client.sendall(b"GET /demo/contests/demo/submissions HTTP/1.1\r\n" + HOST + b"\r\n")
-            desk.same("the desk's own part of it", LARGE_DONE.wait(20), True)
+            desk.same("the desk's own part of it", LARGE_DONE.wait(PATIENCE), True)
             desk.same("where the rest lies", [nginx.open_files(name) > 0 for name in ("replies", "proxy")], [True, False])
         time.sleep(0.5)
         desk.same("and afterwards", [nginx.open_files(name) for name in ("replies", "proxy")], [0, 0])
@@ -440,7 +440,7 @@ def try_certificate(desk):
     trusting.hostname_checks_common_name = False
     for host, wanted in ((name, "TLSv1.3"), ("another.example", "CERTIFICATE_VERIFY_FAILED")):
         try:
-            with socket.create_connection(("127.0.0.1", nginx.port), timeout=20) as client:
+            with socket.create_connection(("127.0.0.1", nginx.port), timeout=PATIENCE) as client:
                 said = trusting.wrap_socket(client, server_hostname=host).version()
         except ssl.SSLError as error:
             said = error.reason

@@ -27,10 +27,11 @@ import signal
 import socket
 import subprocess
 import sys
+import threading
 
 from lib import program
 from lib.nginx import free_port
-from lib.program import ROOT, Program
+from lib.program import LONGEST, ROOT, Program, line_of
 from lib.units import calls_in, try_exposure, try_filter
 
 sys.path.insert(0, str(ROOT / "examples/day"))
@@ -287,7 +288,7 @@ def try_unit(package):
         package.note(package.run(folder, "import", "cup.db", kind, file)[0] == 0, f"import of {kind}")
     words = ["strace", "-f", "-qq", "-o", folder / "calls", package.path, "serve", folder / "cup.db", "--requests", "2"]
     with subprocess.Popen([*words, "--port", str(port)], stdout=subprocess.PIPE) as server:
-        server.stdout.readline()
+        line_of(server.stdout)
         here = f"127.0.0.1:{port}/contests/riverside"
         start = '{"start_time":"2031-01-01T00:00:00Z"}'
         said("curl", "-s", "--oauth2-bearer", "example-director", "-X", "PATCH", "-d", start, here)
@@ -334,15 +335,19 @@ class Inside:
         self.shell = subprocess.Popen([*apart, "bash", "-c", start], env={**env, "DEBIAN_FRONTEND": "noninteractive"}, **pipes)
 
     def does(self, script):
-        """The status of a script, and what it prints."""
+        """The status of a script, and what it prints. One that doesn't end ends the root."""
         self.shell.stdin.write(f"( set -e; cd /root\n{script}\n) </dev/null\nprintf '\\n=%d=\\n' $?\n")
         self.shell.stdin.flush()
-        lines = []
-        for line in self.shell.stdout:
-            if re.fullmatch(r"=\d+=\n", line):
-                return int(line.strip("=\n")), "".join(lines).removesuffix("\n")
-            lines.append(line)
-        return -1, "".join(lines)
+        lines, limit = [], threading.Timer(LONGEST, self.shell.kill)
+        limit.start()
+        try:
+            for line in self.shell.stdout:
+                if re.fullmatch(r"=\d+=\n", line):
+                    return int(line.strip("=\n")), "".join(lines).removesuffix("\n")
+                lines.append(line)
+            return -1, "".join(lines)
+        finally:
+            limit.cancel()
 
     def end(self):
         self.shell.stdin.close()

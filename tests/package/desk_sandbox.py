@@ -31,7 +31,7 @@ import time
 from lib import demo, program
 from lib.import_opinion import compact
 from lib.nginx import Client
-from lib.program import DATA, ROOT, Program, ran
+from lib.program import DATA, PATIENCE, ROOT, Program, line_of, ran
 from lib.server import Server
 
 # A user who runs nothing else, as the guide has it.
@@ -263,13 +263,13 @@ def try_contest(desk):
         answer = Client(server.port, "token-a1", True).ask("POST", "/contests/demo/submissions", compact(body))
         wanted[json.loads(answer[2])["id"]] = name.partition(".")[0]
     bridge = bridge_to(desk, server, "--jobs", "2")
-    given, end = {}, time.monotonic() + 60
+    given, end = {}, time.monotonic() + 300
     while len(given) < len(wanted) and time.monotonic() < end:
         time.sleep(0.2)
         served = json.loads(Client(server.port, "token-j1", True).ask("GET", "/contests/demo/judgements")[2])
         given = {one["submission_id"]: one["judgement_type_id"] for one in served}
     bridge.terminate()
-    said = bridge.communicate(timeout=20)[0]
+    said = bridge.communicate(timeout=PATIENCE)[0]
     desk.same(f"the verdicts, of a bridge that says {said}", given, wanted)
     server.stop()
 
@@ -283,10 +283,10 @@ def try_too_long(desk):
     body = compact({"problem_id": "a", "language_id": "cpp", "files": [{"data": data}]})
     Client(server.port, "token-a1", True).ask("POST", "/contests/demo/submissions", body)
     bridge = bridge_to(desk, server, "--limit", "2")
-    said = bridge.stdout.readline()
+    said = line_of(bridge.stdout)
     desk.note(b"s1-1 is left for people: the command took longer than 2 seconds" in said, f"what the bridge says: {said}")
     bridge.terminate()
-    desk.same("the status of a bridge that is ended", bridge.wait(20), 0)
+    desk.same("the status of a bridge that is ended", bridge.wait(PATIENCE), 0)
     bridge.stdout.close()
     time.sleep(0.5)
     desk.same("processes that are left", processes_of(USER), [])
@@ -319,9 +319,9 @@ def try_token(desk):
     command.write_text(LOOKS, encoding="utf-8")
     command.chmod(0o755)
     bridge = bridge_to(desk, server, command=str(command))
-    desk.same("what a command finds", bridge.stdout.readline(), b"s1-1 AC\n")
+    desk.same("what a command finds", line_of(bridge.stdout), b"s1-1 AC\n")
     bridge.terminate()
-    bridge.communicate(timeout=20)
+    bridge.communicate(timeout=PATIENCE)
     server.stop()
 
 

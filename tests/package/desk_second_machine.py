@@ -182,7 +182,7 @@ class Machine:
     """A machine that has nothing but a network of its own."""
 
     def __init__(self):
-        words = ["unshare", "--net", "sh", "-c", "echo; exec sleep 60"]
+        words = ["unshare", "--net", "sh", "-c", "echo; exec sleep 600"]
         self.process = subprocess.Popen(words, stdout=subprocess.PIPE, stderr=subprocess.DEVNULL)
         self.works = self.process.stdout.readline() == b"\n"
 

@@ -28,7 +28,7 @@ from lib import demo, program
 from lib.browsers import BACKS
 from lib.import_opinion import compact
 from lib.nginx import HERE, POSTED, Client, Front, Nginx
-from lib.program import ROOT, TESTS, Program
+from lib.program import PATIENCE, ROOT, TESTS, Program
 from lib.relay import Relay
 from lib.server import Server
 
@@ -91,8 +91,9 @@ class Contest:
 
 def spectators(desk, port, folder):
     """Clients that ask a port for the board, and keep each different body in a folder."""
-    words = ["wrk", "-t", "2", "-c", str(desk.options.clients), "-d", f"{desk.options.seconds}s", "--timeout", "20s"]
-    words += ["-s", TESTS / "lib/bodies.lua", "-H", "Accept-Encoding: gzip", f"https://127.0.0.1:{port}{HERE}/scoreboard"]
+    words = ["wrk", "-t", "2", "-c", str(desk.options.clients), "-d", f"{desk.options.seconds}s"]
+    words += ["--timeout", f"{PATIENCE}s", "-s", TESTS / "lib/bodies.lua", "-H", "Accept-Encoding: gzip"]
+    words.append(f"https://127.0.0.1:{port}{HERE}/scoreboard")
     return subprocess.Popen(words, env={**os.environ, "BODIES": str(folder)}, stdout=subprocess.PIPE)
 
 

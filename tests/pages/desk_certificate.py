@@ -33,7 +33,7 @@ OF_DEBIAN = pathlib.Path("/etc/ssl/certs/ca-certificates.crt")
 # What would make the same certificate one of an authority, which Chromium then trusts as one.
 NO_AUTHORITY, IS_TRUSTED, AS_AUTHORITY = "-addext basicConstraints=critical,CA:FALSE ", "-t P,,", "-t C,,"
 TITLE = "<title>Scoreboard</title>"
-BROWSER = ["timeout", "60", "chromium", "--headless=new", "--no-sandbox", "--disable-gpu", "--disable-dev-shm-usage"]
+BROWSER = ["timeout", "180", "chromium", "--headless=new", "--no-sandbox", "--disable-gpu", "--disable-dev-shm-usage"]
 
 
 class Page(http.server.BaseHTTPRequestHandler):

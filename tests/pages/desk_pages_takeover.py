@@ -24,6 +24,7 @@ import urllib.request
 from lib import demo, program
 from lib.nginx import free_port
 from lib.pages import Pages
+from lib.program import PATIENCE
 from lib.server import Server
 
 AT = "contests/demo"
@@ -45,7 +46,7 @@ class Desk:
     def post(self, account, path, **value):
         request = urllib.request.Request(f"http://127.0.0.1:{self.server.port}/{path}", json.dumps(value).encode())
         request.add_header("Authorization", f"Bearer token-{account}")
-        with urllib.request.urlopen(request, timeout=60) as reply:
+        with urllib.request.urlopen(request, timeout=PATIENCE) as reply:
             return json.load(reply)
 
     def submit(self, account, problem):
