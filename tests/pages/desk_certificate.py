@@ -123,7 +123,7 @@ def try_authority(tally):
 
 
 def main():
-    with tempfile.TemporaryDirectory() as folder:
+    with tempfile.TemporaryDirectory(ignore_cleanup_errors=True) as folder:
         tally = Certificates(pathlib.Path(folder))
         tally.run_parts((try_guide, try_authority))
         return tally.end()
