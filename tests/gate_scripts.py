@@ -5,9 +5,9 @@ says what they try, beside each other.
     gate_scripts.py
 
 Each is in all three, and its head names each option that it is run with. Those with a browser or nginx may be run once more, and
-no others. Each browser beside the usual one has a row. Also, the kit and the logic that `desk --version` and README.md name are
-those that `rt version` does, and nothing of the repository is a symbolic link: `rt ci` refuses those wherever they stand. Ends
-with the line 'N passed, N failed'.
+no others. Each browser beside the usual one has a row. Also, `desk --version` and README.md name one kit, which is that of
+`rt version` or else proves beside it, as docs/GATE.md says; and nothing of the repository is a symbolic link: `rt ci` refuses
+those wherever they stand. Ends with the line 'N passed, N failed' and, if another kit is here, what counts as skipped.
 """
 
 import re
@@ -23,6 +23,9 @@ GATE = {"tests/gate_scripts.py", "tests/run_parts.py", "tests/wrong_bodies"}
 BESIDE = {"examples/day/follow_guide.py"}
 # What stands in each script that has a browser or nginx.
 WITH_OTHERS = re.compile(r"\bNginx\(|\bPages\b|chromium")
+# What `rt version` says, and what names it.
+KIT = re.compile(r"rattle-kit-\w+ logic \w+")
+NAMING = ("README.md", "docs/GUIDE.md", "crates/contest_cli/src/help.rt", "crates/contest_cli/specs/Commands.antt")
 SCRIPTS = table.rows(TESTS / "scripts.tsv")
 
 
@@ -70,9 +73,16 @@ def try_browsers(tally):
 
 
 def try_kit(tally):
-    kit = subprocess.run(["rt", "version"], stdout=subprocess.PIPE, text=True, check=True).stdout.strip()
-    for name in ("README.md", "docs/GUIDE.md", "crates/contest_cli/src/help.rt", "crates/contest_cli/specs/Commands.antt"):
-        tally.note(kit in (ROOT / name).read_text(encoding="utf-8"), f"{name}: names another kit than {kit}")
+    """README.md names the kit that the desk names. It is this machine's, or else one that docs/GATE.md names, too."""
+    here = subprocess.run(["rt", "version"], stdout=subprocess.PIPE, text=True, check=True).stdout.strip()
+    named = KIT.search((ROOT / NAMING[0]).read_text(encoding="utf-8"))[0]
+    for name in NAMING:
+        found = set(KIT.findall((ROOT / name).read_text(encoding="utf-8")))
+        tally.same(f"{name}: the kit that is named", found, {named})
+    able = set(KIT.findall((ROOT / "docs/GATE.md").read_text(encoding="utf-8")))
+    tally.note(here in able, f"docs/GATE.md names {sorted(able)}, and not {here}")
+    if here != named:
+        tally.skip(f"this machine has {here}, and what it builds says of itself that {named} proved it")
 
 
 def try_links(tally):
