@@ -9,7 +9,11 @@ import importlib.machinery
 import importlib.util
 import os
 import shutil
+import signal
 import sys
+
+# How a check ends that the system killed, most often for want of memory.
+KILLED = (-signal.SIGKILL, 128 + signal.SIGKILL)
 
 
 def load():
@@ -43,9 +47,12 @@ def are_libraries_built(crate, jobs):
 
 def check(crate, texts, paths, jobs, kept):
     """Checks a copy of the crate with these texts, by path, in place of its own: these functions and modules and all
-    that they call, or the whole crate where none is named. Gives the status and what was said."""
+    that they call, or the whole crate where none is named. A check that was killed is made once more, by one process.
+    Gives the status and what was said."""
     only = [word for it in paths for word in ("--only", it)]
     ran = RT.checked(crate, texts, ["--jobs", str(jobs), *only], str(kept))
+    if ran.returncode in KILLED:
+        ran = RT.checked(crate, texts, ["--jobs", "1", *only], str(kept))
     return ran.returncode, ran.stdout
 
 
