@@ -1,118 +1,39 @@
 #!/usr/bin/env -S python3 -B
-"""Judges tests/wrong_bodies on a small crate that it writes into a temporary folder.
+"""Judges tests/wrong_bodies on a small crate that it writes into a temporary folder, and its choices on crates made up.
 
     gate_wrong_bodies.py
 
-A wrong body has to be found refused, a harmless one not refused, also if a hand-written answer names a goal that it took
-away, and an unreadable one unreadable; two bodies of one function are told apart; a round in which a function is refused
-that no edit touches is not believed; an edit may name the goal that refuses it. What was refused isn't tried again until
-a byte changes that the verdict rests on, but for a tenth, which finds what passes now. Beside `rt ci` a crate waits for
-the libraries below it, and isn't tried over one that isn't proved. Ends with the line 'N passed, N failed'.
+A wrong body has to be found refused, a harmless one not refused, also if a hand-written answer names a goal that it
+took away, and an unreadable one unreadable; two bodies of one function are told apart; a round in which a function is
+refused that no edit touches is not believed; an edit may name the goal that refuses it. What was refused isn't tried
+again until a byte changes that the verdict rests on, but as a control, which finds what passes now. What is stale is
+told apart by why, and is tried in the order of the day and within a bound; what that leaves out is named. A check that
+was killed is made once more. After `rt ci` nothing is tried over a library that isn't proved, and one that stands isn't
+built anew. Ends with the line 'N passed, N failed'.
 """
 
-import collections
+import argparse
+import concurrent.futures
+import contextlib
 import importlib.machinery
 import importlib.util
+import io
+import os
 import re
 import shutil
 import subprocess
 import sys
+import threading
 import types
 
 from lib import program
 from lib.program import TESTS
 from lib.tally import Tally
-from rounds import judging, kit
-from rounds.digests import Digests, digest_of
+from rounds import judging, kit, lanes, libraries, turns
+from rounds.digests import JUDGES, Digests, State, Sums
 from rounds.edits import edits_of, rounds_of
-from rounds.sample import tenth_of
-
-SOURCE = """\
-//! A little arithmetic.
-#![tactic(auto)]
-
-ghost use Rattle.std.specs.Prelude.{◌≡◌, ◌+◌, ◌<◌, ◌≤◌, ◌↔◌, IsTrue};
-
-/// Whether a number is above a bound.
-pub fn is_above(number: u8, bound: u8) -> bool
-    ensures { IsTrue result ↔ bound < number }
-{
-    number > bound
-}
-
-/// One more, at most 200.
-pub fn one_more(number: u8) -> u8
-    ensures grows { number < 200 → result ≡ number + 1 }
-    ensures stays { 200 ≤ number → result ≡ 200 }
-{
-    if is_above(200, number) { number + 1 } else { 200 }
-}
-
-/// The larger of both.
-pub fn larger(a: u8, b: u8) -> u8
-    ensures first { a ≤ result }
-    ensures second { b ≤ result }
-{
-    if a >= b { a } else { b }
-}
-
-/// The smaller of both.
-pub fn smaller(a: u8, b: u8) -> u8
-    ensures first { result ≤ a }
-    ensures second { result ≤ b }
-{
-    if a < b { a } else { b }
-}
-"""
-
-# It holds where the branch is taken for `a < b`.
-ANSWERS = """\
-use Rattle.std.proofs.Math.Nat.{le_of_lt}
-use Rattle.toy.proofs.smaller.Goals as goal
-
-pub returns-then-a-b-clause-second : goal.returns-then-a-b-clause-second
-returns-then-a-b-clause-second c = le_of_lt c.if-a-b.true
-"""
-
-# Each edit with its old and its new text, and how what is said of it begins.
-EDITS = {
-    "above_at_the_bound": ("number > bound", "number >= bound", "refused: toy::is_above, `returns`"),
-    "larger_told_otherwise": ("a >= b", "a > b", "NOT REFUSED"),
-    "larger_is_smaller": ("if a >= b { a }", "if a >= b { b }", "refused: toy::larger, `returns-then-a-b-clause-first`"),
-    "not_to_be_read": ("{ number + 1 }", "{ numbre + 1 }", "NOT READABLE: it came to no verdict: src/lib.rt"),
-    "of_two_lines": ("a < b\n    {", "b < a", "NOT READABLE: a line of it is no 'goal:'"),
-    "goal_is_gone": ("a < b", "b > a", "NOT REFUSED: it is proved with it, without its hand-written answers"),
-    "wrong_and_gone": ("if a < b { a }", "if b > a { b }", "refused: toy::smaller, `returns-then-b-a-clause-first`"),
-}
-
-# A library and a crate that stands on it: the edit is wrong if the bound is 2, and harmless if it is 1.
-BOUND = """\
-//! A bound.
-#![tactic(auto)]
-
-ghost use Rattle.std.specs.Prelude.{◌≡◌};
-
-/// The bound.
-pub fn bound() -> u8
-    ensures { result ≡ 2 }
-{
-    2
-}
-"""
-WITHIN = """\
-//! What is within a bound.
-#![tactic(auto)]
-
-ghost use Rattle.std.specs.Prelude.{◌≤◌, IsTrue};
-use low::bound;
-
-/// Whether a number is within the bound, of those that are at most 2.
-pub fn is_within(number: u8) -> bool
-    ensures { IsTrue result → number ≤ 2 }
-{
-    number <= bound()
-}
-"""
+from rounds.toys import BOUND, EDITS, add_byte, crate_of, keep_digest, lay_out, put, put_two, write
+from rounds.trying import Outcome
 
 
 class Judge(Tally):
@@ -122,36 +43,19 @@ class Judge(Tally):
         super().__init__()
         kit.prepare()
         self.folder, self.root = folder.resolve(), folder.resolve() / "one"
+        self.script = loaded()
         write(self.root, EDITS)
 
     def see(self, what, holds, said=""):
         self.note(holds, f"{what}\n{said}")
 
 
-def write(root, edits):
-    folder = root / "crates/toy"
-    for path, text in [("src/lib.rt", SOURCE), ("proofs/smaller/Answers.antt", ANSWERS)]:
-        (folder / path).parent.mkdir(parents=True, exist_ok=True)
-        (folder / path).write_text(text, encoding="utf-8")
-    lay_out(root, "toy:\n")
-    put(root, edits)
-
-
-def lay_out(root, crates):
-    """What stands beside the crates of a repository."""
-    (root / "crates.txt").write_text(crates)
-    (root / "HANDLES").write_text("Handles allowed: none.\n")
-    (root / "tests").mkdir(exist_ok=True)
-    (root / ".git").mkdir(exist_ok=True)
-
-
-def put(root, edits):
-    folder = root / "crates/toy/wrong-bodies"
-    folder.mkdir(exist_ok=True)
-    for file in folder.iterdir():
-        file.unlink()
-    for name, (old, new, _) in edits.items():
-        (folder / f"{name}.edit").write_text(f"file: src/lib.rt\nold: {old}\nnew: {new}\n", encoding="utf-8")
+def loaded():
+    """The script as a module."""
+    loader = importlib.machinery.SourceFileLoader("wrong_bodies", str(TESTS / "wrong_bodies"))
+    script = importlib.util.module_from_spec(importlib.util.spec_from_loader("wrong_bodies", loader))
+    loader.exec_module(script)
+    return script
 
 
 def wrong_bodies(root, *words):
@@ -172,7 +76,8 @@ def try_verdicts(judge):
 
 
 def try_answers(judge):
-    """A body that only a hand-written answer refuses is found not refused, in a round and alone; a wrong one stays refused."""
+    """A body that only a hand-written answer refuses is found not refused, in a round and alone; a wrong one stays
+    refused."""
     told_otherwise = ("a < b", "a <= b", "NOT REFUSED: it is proved with it, without its hand-written answers")
     wrong = ("if a < b { a }", "if a < b { b }", "refused: toy::smaller, ")
     for beside in ({"wrong": wrong}, {"not_to_be_read": EDITS["not_to_be_read"]}):
@@ -186,53 +91,190 @@ def try_answers(judge):
 
 
 def try_digests(judge):
-    """What was refused isn't tried again but for a tenth, until a byte changes that the verdict depends on."""
+    """What was refused is tried again only as a control, until a byte changes that the verdict depends on."""
     put(judge.root, {name: EDITS[name] for name in ("above_at_the_bound", "larger_is_smaller")})
     status, said = wrong_bodies(judge.root)
     judge.see("all are refused in one round", status == 0 and said.endswith("\n2 passed, 0 failed, 0 skipped\n"), said)
-    status, said = wrong_bodies(judge.root)
-    judge.see("one is taken on its digest", status == 0 and said.endswith("toy (1)\n1 passed, 0 failed, 1 skipped\n"), said)
-    judge.see("the seed is told", re.search(r"--seed \d+: toy \(1\)\n", said) is not None, said)
-    tool = judge.folder / "tool"
+    status, said = wrong_bodies(judge.root, "toy")
+    wanted = "taken on their digests: toy (2)\n0 passed, 0 failed, 2 skipped\n"
+    judge.see("named, it is taken on its digest", status == 0 and said == wanted, said)
+    tool, crate = judge.folder / "tool", crate_of(judge.root, "toy")
     shutil.copytree(TESTS / "rounds", tool / "rounds", ignore=shutil.ignore_patterns("__pycache__"))
-    shutil.copy(TESTS / "wrong_bodies", tool)
-    seen = {digest_by(judge, tool)}
-    judge.see("a copy of the tool has the tool's digest", seen == {digest_of(judge.root, kit.crates_of(judge.root)[0])})
-    changed = [judge.root / path for path in ("crates/toy/src/lib.rt", "crates/toy/proofs/smaller/Answers.antt", "HANDLES")]
-    for file in [*changed, tool / "wrong_bodies", *(tool / "rounds").glob("*.py")]:
-        file.write_text(file.read_text(encoding="utf-8") + "\n", encoding="utf-8")
-        seen.add(digest_by(judge, tool))
-        judge.see(f"a byte more in {file.name}", len(seen) == 2)
-        seen = {digest_by(judge, tool)}
+    seen = sums_by(judge, tool)
+    judge.see("a copy of the tool has the tool's sums", seen == " ".join(Sums(judge.root).of(crate)), seen)
+    own = ("src/lib.rt", "proofs/smaller/Answers.antt", "wrong-bodies/above_at_the_bound.edit")
+    own = [judge.root / "crates/toy" / path for path in own]
+    judges = {tool / file.relative_to(TESTS) for file in JUDGES}
+    judge.same("what judges", {it.name for it in judges}, {"edits.py", "judging.py", "kit.py", "trying.py"})
+    for file in [*own, judge.root / "HANDLES", *sorted((tool / "rounds").glob("*.py"))]:
+        add_byte(file)
+        before, seen = seen.split(" "), sums_by(judge, tool)
+        is_own, is_other = "crates" in file.parts, file.parent.name == "rounds" and file not in judges
+        changed = [one != other for one, other in zip(before, seen.split(" "))]
+        judge.see(f"the sums with a byte more in {file.name}", changed == [is_own, not is_other], str(changed))
 
 
-def digest_by(judge, tool):
-    """The digest of the crate by a copy of the tool."""
-    words = "from rounds import kit; from rounds.digests import digest_of; import pathlib, sys; root = pathlib.Path(sys.argv[1]); "
-    words += "print(digest_of(root, kit.crates_of(root)[0]))"
-    ran = subprocess.run([sys.executable, "-B", "-c", words, judge.root], cwd=tool, capture_output=True, text=True, check=True)
-    return ran.stdout.strip()
+def sums_by(judge, tool):
+    """The sums of the crate by a copy of the tool."""
+    text = "from rounds import kit; from rounds.digests import Sums; import sys; root = sys.argv[1]; "
+    words = [sys.executable, "-B", "-c", text + "print(*Sums(root).of(kit.crates_of(root)[0]))", judge.root]
+    return subprocess.run(words, cwd=tool, capture_output=True, text=True, check=True).stdout.strip()
 
 
-def try_tenth(judge):
-    """A tenth of what is taken on its digest is tried all the same: a digest over a body that passes is found out."""
+def try_stale(judge):
+    """--stale tells which crates are stale: for their own files, or only for what is below them."""
+    root = judge.folder / "stale"
+    put_two(root)
+    file, low, toy = root / "tests/wrong_bodies.digests", root / "crates/low/src/lib.rt", root / "crates/toy/src/lib.rt"
+    whys = ("own files changed", "only what is below changed")
+    own, below = (f"wrong bodies to be tried anew: 1 of 1\n  {why}: toy (1)\n" for why in whys)
+    line = keep_digest(root)
+    name, count, own_sum, whole = line.split()
+    lines = [
+        ("no change", line, ""),
+        ("another sum of all", f"{name} {count} {own_sum} -\n", below),
+        ("another sum of its own", f"{name} {count} {whole} {whole}\n", own),
+        ("another count", f"{name} 2 {own_sum} {whole}\n", own),
+        ("a line of the old form", f"{name} {count} {own_sum}\n", own),
+        ("no line", "", own),
+    ]
+    for what, text, wanted in lines:
+        file.write_text(text, encoding="utf-8")
+        judge.same(f"stale after {what}", wrong_bodies(root, "--stale"), (0, wanted))
+    edit = root / "crates/toy/wrong-bodies/one_more.edit"
+    for changed, wanted in ((low, below), (root / "HANDLES", below), (toy, own), (edit, own)):
+        keep_digest(root)
+        add_byte(changed)
+        what = f"stale after a byte more in {changed.relative_to(root)}"
+        judge.same(what, wrong_bodies(root, "--stale"), (0, wanted))
+    keep_digest(root)
+    (root / "crates.txt").write_text("toy: low # above\nlow:\n", encoding="utf-8")
+    judge.same("stale after another line of crates.txt", wrong_bodies(root, "--stale"), (0, own))
+
+
+def try_order(judge):
+    """The stale crates whose own files changed come first, by name, and then the others from the name of the day."""
+    states = dict.fromkeys("fdb", State.OWN) | dict.fromkeys("ecg", State.BELOW) | {"a": State.HOLDS}
+    for day, wanted in enumerate(("bdfceg", "bdfegc", "bdfgce", "bdfceg")):
+        judge.same(f"the order of day {day}", "".join(turns.order_of(states, day)), wanted)
+    judge.same("nothing is stale", turns.order_of({"a": State.HOLDS}, 7), [])
+    edits = {it: {f"{it}{number:02}" for number in range(count)} for it, count in (("a", 12), ("b", 2), ("c", 25))}
+    chosen = turns.control_of(edits, 0)
+    judge.same("the control of day 0", chosen, {**edits, "c": {"c00", "c01", "c02", "c03"}})
+    chosen = turns.control_of(edits, 4)
+    judge.same("the control of day 4", chosen, {"b": edits["b"], "c": {f"c{number:02}" for number in range(4, 20)}})
+    left = set().union(*edits.values())
+    for day in range(75):
+        left -= set().union(*turns.control_of(edits, day).values())
+    judge.same("edits that no control of 75 days reaches", left, set())
+    judge.same("nothing holds", turns.control_of({}, 7), {})
+
+
+def begun(line, ends=()):
+    """The crates that are begun, in their order, as soon as each fits; those that run end in that order, after the
+    seconds of `ends`, once no other fits."""
+    order, seconds = [], dict(ends)
+    while True:
+        while (name := line.begin()) is not None:
+            order.append(name)
+        if not line.running:
+            return "".join(order)
+        first = next(iter(line.running))
+        line.end(first, seconds.get(first, line.running[first]))
+
+
+def try_bound(judge):
+    """A crate is begun if it stays within the bound with what was spent and with what runs, the first whatever it
+    takes; one that doesn't fit is passed over, and may fit later. None is begun that would end too late."""
+    counts = {"a": 25, "b": 25, "c": 25, "d": 1, "e": 1}
+    runs = [
+        ("as expected", turns.Turns(counts, 1_200), (), "abc", "de"),
+        ("for less than expected", turns.Turns(counts, 1_200), {"a": 384, "b": 384}, "abcde", ""),
+        ("for more than expected", turns.Turns(counts, 1_200), {"a": 401}, "abc", "de"),
+        ("a small one first", turns.Turns(counts, 1_199), (), "abde", "c"),
+        ("one that is passed over and fits later", turns.Turns(counts, 1_199), {"a": 300}, "abdec", ""),
+        ("the first past the bound", turns.Turns(counts, 10), (), "a", "bcde"),
+        ("no bound", turns.Turns(counts), (), "abcde", ""),
+        ("an end for small ones", turns.Turns(counts, end_by=1_016.5, now=lambda: 1_000.0), (), "de", "abc"),
+        ("an end too near", turns.Turns(counts, end_by=1_015.5, now=lambda: 1_000.0), (), "", "abcde"),
+    ]
+    for what, line, ends, wanted, left in runs:
+        judge.same(f"begun: {what}", (begun(line, ends), "".join(line.left)), (wanted, left))
+    judge.same("the bounds", (turns.STALE_BOUND, turns.CONTROL_BOUND, turns.AN_EDIT), (1_200, 300, 16))
+
+
+def try_choice(judge):
+    """What a run chooses, and its bound: with names or --all it has none, and with names nothing that holds is tried."""
+    root, every = judge.folder / "choice", {"above_at_the_bound", "larger_is_smaller"}
+    write(root, {name: EDITS[name] for name in every})
+    bounds, states = (None, None, None), (State.OWN, State.BELOW, State.HOLDS)
+    for words, wanted in (({}, (1_200, 1_200, 300)), ({"all": True}, bounds), ({"names": ["toy"]}, bounds)):
+        for state, bound in zip(states, wanted):
+            asked = argparse.Namespace(**{"root": root, "day": 0, "all": False, "names": [], **words})
+            run = judge.script.Run(asked, kit.crates_of(root))
+            run.states = {"toy": state}
+            with contextlib.redirect_stdout(io.StringIO()):
+                run.choose()
+            chosen = {} if "names" in words and state is State.HOLDS else {"toy": every}
+            judge.same(f"chosen by {words} of {state}", (run.bound, run.chosen), (bound, chosen))
+
+
+def try_left(judge):
+    """What a run doesn't reach is named by crate, apart from what is taken on its digest, and fails nothing."""
+    root = judge.folder / "left"
+    write(root, {name: EDITS[name] for name in ("above_at_the_bound", "larger_is_smaller")})
+    count = "0 passed, 0 failed, 2 skipped\n"
+    status, said = wrong_bodies(root, "--end-by", "1.5")
+    wanted = f"not reached: toy (2)\nown files changed and not tried: toy (2)\n{count}"
+    judge.see("own files changed, and not reached", status == 0 and said == wanted, said)
+    line = keep_digest(root)
+    (root / "tests/wrong_bodies.digests").write_text(f"{line[:-65]}-\n", encoding="utf-8")
+    status, said = wrong_bodies(root, "--end-by", "1.5")
+    judge.see("what is below changed, and not reached", status == 0 and said == f"not reached: toy (2)\n{count}", said)
+    keep_digest(root)
+    status, said = wrong_bodies(root, "--end-by", "1.5", "--day", "3")
+    wanted = f"all digests hold; tried as the control of --day 3: toy (2)\ntaken on their digests: toy (2)\n{count}"
+    judge.see("a control that isn't reached", status == 0 and said == wanted, said)
+    status, said = wrong_bodies(root, "--end-by", "1.5", "--all")
+    judge.see("all, and not reached", status == 0 and said == f"not reached: toy (2)\n{count}", said)
+
+
+def try_telling(judge):
+    """What came of a crate is given as it ends, while others run, and the next is begun in its lane."""
+    is_told, asked = threading.Event(), []
+
+    def one(name):
+        # the second waits until the first was told, and would else wait for ever
+        is_held = name != "b" or is_told.wait(60)
+        return Outcome(name, 1, rows=[{"processor_seconds": 5.0}], notes=[] if is_held else ["it was told too late"])
+
+    line = turns.Turns(dict.fromkeys("abc", 1))
+    with concurrent.futures.ThreadPoolExecutor(2) as pool:
+
+        def begin(name):
+            asked.append(name)
+            return pool.submit(one, name)
+
+        ended = []
+        for outcome in lanes.outcomes_of(line, 2, begin):
+            ended.append(outcome)
+            judge.see(f"lanes as {outcome.crate} ends", len(asked) <= len(ended) + 1, str(asked))
+            is_told.set()
+    judge.same("what came of each", sorted((it.crate, *it.notes) for it in ended), [("a",), ("b",), ("c",)])
+    judge.same("what was spent", (line.spent, line.running, line.left), (15.0, {}, {}))
+    for processors, available, wanted in ((4, 23_000_000, 4), (4, 8_999_999, 2), (4, 1_000, 1), (1, 23_000_000, 1)):
+        judge.same(f"lanes with {available} kB", lanes.lanes_for(processors, available), wanted)
+
+
+def try_control(judge):
+    """A control finds out a digest over a body that passes."""
     write(judge.root, {name: EDITS["larger_told_otherwise"] for name in ("one", "other")})
-    digests = judge.root / "tests/wrong_bodies.digests"
-    crate = kit.crates_of(judge.root)[0]
-    Digests(digests).keep("toy", 2, digest_of(judge.root, crate))
-    status, said = wrong_bodies(judge.root)
-    judge.see("it is found out", status == 1 and said.endswith("\n0 passed, 1 failed, 1 skipped\n"), said)
-    judge.see("and its digest is gone", digests.read_text(encoding="utf-8") == "", said)
-    names = {f"crate{number}": {f"edit{place}" for place in range(number)} for number in range(1, 25)}
-    count, sizes, tries = collections.Counter(), set(), 3_000
-    for seed in range(tries):
-        chosen = tenth_of(names, seed)
-        sizes.add(sum(map(len, chosen.values())))
-        count.update((crate, name) for crate, edits in chosen.items() for name in edits)
-    judge.see("a tenth of 300", sizes == {30}, str(sizes))
-    shares = [count[crate, name] / tries for crate, edits in names.items() for name in edits]
-    judge.see("each is as likely as any other", 0.07 < min(shares) and max(shares) < 0.13, f"{min(shares)} to {max(shares)}")
-    judge.see("a seed chooses the same again", tenth_of(names, 7) == tenth_of(names, 7))
+    keep_digest(judge.root)
+    status, said = wrong_bodies(judge.root, "--day", "1")
+    judge.see("it is found out", status == 1 and said.endswith("\n0 passed, 2 failed, 0 skipped\n"), said)
+    judge.see("the day is told", said.startswith("all digests hold; tried as the control of --day 1: toy (2)\n"), said)
+    text = (judge.root / "tests/wrong_bodies.digests").read_text(encoding="utf-8")
+    judge.see("and its digest is gone", text == "", text)
 
 
 def try_goals(judge):
@@ -241,37 +283,106 @@ def try_goals(judge):
     edit = judge.root / "crates/toy/wrong-bodies/larger_is_smaller.edit"
     text, digests = edit.read_text(encoding="utf-8"), judge.root / "tests/wrong_bodies.digests"
     edit.write_text(f"goal: returns-then-a-b-clause-second\n{text}", encoding="utf-8")
-    crate = kit.crates_of(judge.root)[0]
+    crate = crate_of(judge.root, "toy")
     verdict = judging.Verdict(judging.Kind.REFUSED, "toy::larger", ("returns-then-a-b-clause-first", "returns"))
     held = judging.compared(edits_of(crate)[0], verdict)
     judge.see("another goal than it names", held.kind is judging.Kind.OTHER and "`returns-then-a-b-clause-second`" in str(held), str(held))
     status, said = wrong_bodies(judge.root, "--write-goals")
     judge.see("goals are written", status == 0, said)
     judge.see("the goal", edit.read_text(encoding="utf-8") == f"goal: returns-then-a-b-clause-first\n{text}", said)
-    judge.see("the digest is of what was written", Digests(digests).has("toy", 1, digest_of(judge.root, crate)), said)
+    state = Digests(digests).state("toy", 1, *Sums(judge.root).of(crate))
+    judge.see("the digest is of what was written", state is State.HOLDS, said)
     judge.see("the goal that it names", judging.compared(edits_of(crate)[0], verdict) == verdict)
 
 
 def try_lost(judge):
-    """Over a library that isn't proved nothing is tried, and no digest is kept: it may be the one of yesterday."""
+    """A library that stands isn't built anew. Over one that isn't proved nothing is tried, and no digest is kept."""
     root = judge.folder / "two"
-    for path, text in (("low/src/lib.rt", BOUND), ("toy/src/lib.rt", WITHIN)):
-        (root / "crates" / path).parent.mkdir(parents=True)
-        (root / "crates" / path).write_text(text, encoding="utf-8")
-    lay_out(root, "low:\ntoy: low\n")
-    folder = root / "crates/toy/wrong-bodies"
-    folder.mkdir()
-    (folder / "one_more.edit").write_text("file: src/lib.rt\nold: bound()\nnew: bound() + 1\n", encoding="utf-8")
-    toy = next(it for it in kit.crates_of(root) if it.name == "toy")
+    toy, low = put_two(root), root / "crates/low/src/lib.rt"
     judge.see("the library is built", kit.are_libraries_built(toy, 1))
-    low = root / "crates/low/src/lib.rt"
+    rlib, digests = root / "crates/low/out/rlib/low.rlib", root / "tests/wrong_bodies.digests"
+    (rlib.parent / "stamp").unlink()
+    made = rlib.stat().st_mtime_ns
+    status, text = wrong_bodies(root)
+    judge.see("it is tried over what stands", status == 0 and text.endswith("\n1 passed, 0 failed, 0 skipped\n"), text)
+    judge.see("which isn't built anew", rlib.stat().st_mtime_ns == made and not (rlib.parent / "stamp").exists(), text)
     low.write_text(BOUND.replace("    2\n", "    1\n").replace("result ≡ 2", "result ≡ 1"), encoding="utf-8")
+    digests.unlink()
     said = judge.folder / "said"
     said.write_text("rt: low NOT PROVED\n0 passed, 2 failed\n", encoding="utf-8")
-    status, text = wrong_bodies(root, "--beside-ci", said)
+    status, text = wrong_bodies(root, "--after-ci", said)
     judge.see("nothing is tried", status == 1 and text.endswith("\n0 passed, 1 failed, 0 skipped\n"), text)
     judge.see("it is told why", "it isn't tried, since it isn't said to be proved: low" in text, text)
-    judge.see("no digest is kept", not (root / "tests/wrong_bodies.digests").exists(), text)
+    judge.see("no digest is kept", not digests.exists(), text)
+
+
+def try_libraries(judge):
+    """Libraries stand if each is there, newer than its sources and crates.txt, and not older than those below it."""
+    root, now = judge.folder / "three", libraries.installed() + 1_000 * 10**9
+    lay_out(root, "low:\nmid: low\ntoy: mid low\n")
+    for name in ("low", "mid", "toy"):
+        for path in (f"crates/{name}/src", f"crates/{name}/proofs/f", f"crates/{name}/out/rlib/{name}.rlib/below"):
+            (root / path).mkdir(parents=True)
+            (root / path / "lib.rt").write_text("", encoding="utf-8")
+    rlibs = [root / f"crates/{name}/out/rlib/{name}.rlib" for name in ("low", "mid")]
+
+    def stands(*later, only=()):
+        """Whether they stand with the sources at 10 seconds, the libraries at 20 and 30, and these at others: folders
+        with what they hold, and paths alone."""
+        ages = [(root, 10), (rlibs[0], 20), (rlibs[1], 30), *later]
+        ages = [(it, age) for path, age in ages for it in [path, *path.glob("**/*")]]
+        for path, age in [*ages, *only]:
+            os.utime(path, ns=(now + age * 10**9,) * 2)
+        return libraries.do_stand(root, crate_of(root, "toy"))
+
+    judge.see("they stand", stands())
+    judge.see("whatever the crate's own age", stands((root / "crates/toy/src", 90)))
+    judge.see("two of one time", stands((rlibs[1], 20)))
+    ages = {"crates.txt": 20, "crates/low/src/lib.rt": 20, "crates/low/src": 25, "crates/low/proofs/f": 25}
+    for path, age in {**ages, "crates/mid/proofs/f/lib.rt": 35}.items():
+        judge.see(f"not with {path} at {age}", not stands(only=[(root / path, age)]))
+    judge.see("not with one older than the one below it", not stands((rlibs[1], 19)))
+    judge.see("not with one older than the kit", not stands((root, -1_002), (rlibs[0], -1_001), (rlibs[1], 30)))
+    stamp, toy = rlibs[0].parent / "stamp", crate_of(root, "toy")
+    stamp.write_text("", encoding="utf-8")
+    judge.see("not with a stamp of the kit's", not stands())
+    stamp.unlink()
+    stands()
+    calls, real = [], kit.are_libraries_built
+    kit.are_libraries_built = lambda crate, jobs: calls.append((crate.name, jobs)) or False
+    try:
+        judge.see("those that stand are taken", libraries.are_ready(root, toy, 3) and not calls, str(calls))
+        shutil.rmtree(rlibs[1])
+        judge.see("not without one", not libraries.are_ready(root, toy, 3))
+        judge.same("the others are built", calls, [("toy", 3)])
+    finally:
+        kit.are_libraries_built = real
+
+
+def try_killed(judge):
+    """A check that was killed is made once more, by one process. If that is killed too, nothing is known of the
+    edit."""
+    crate, real, words = crate_of(judge.root, "toy"), kit.RT.checked, []
+    for killed in (-9, 137):
+        for after, wanted in ((1, "logic=not-proved"), (killed, "killed")):
+            answers, words[:] = iter([(killed, "killed"), (after, wanted), (0, "a third")]), []
+
+            def checked(*how):
+                words.append(how[2])
+                return types.SimpleNamespace(**dict(zip(("returncode", "stdout"), next(answers))))
+
+            kit.RT.checked = checked
+            try:
+                judge.same(f"killed, and then {after}", kit.check(crate, {}, ["f"], 2, "kept"), (after, wanted))
+            finally:
+                kit.RT.checked = real
+            judge.same("how it was made", words, [["--jobs", number, "--only", "f"] for number in ("2", "1")])
+    real, kit.check = kit.check, lambda *_: (-9, "killed")
+    try:
+        verdict, _ = judging.judged(crate, {}, set(), 1, "kept")
+    finally:
+        kit.check = real
+    judge.see("nothing is known of it", verdict.kind is judging.Kind.UNREADABLE, str(verdict))
 
 
 def try_gone(judge):
@@ -313,27 +424,21 @@ def try_disbelief(judge):
     judge.see("and found refused", kinds == [judging.Kind.REFUSED], str(verdicts))
 
 
-def try_waiting(judge):
-    """Beside `rt ci` a crate is tried once that says of each library below it that it stands, or once it has ended."""
-    loader = importlib.machinery.SourceFileLoader("wrong_bodies", str(TESTS / "wrong_bodies"))
-    script = importlib.util.module_from_spec(importlib.util.spec_from_loader("wrong_bodies", loader))
-    sys.modules["wrong_bodies"] = script
-    loader.exec_module(script)
-    libraries, said = [types.SimpleNamespace(name="low"), types.SimpleNamespace(name="toy")], judge.root / "said"
-    begun = [
-        ("nothing", "", (["low", "toy"], False)),
-        ("one of both", "rt: low proved\nrt: toy: its tests are proved\n", (["toy"], False)),
-        ("one that isn't proved", "rt: low proved\nrt: toy NOT PROVED\n", (["toy"], False)),
-        ("both", "rt: toy proved\nrt: low is kept: an earlier run proved the same\n", ([], False)),
-        ("the end", "rt: low NOT PROVED\n0 passed, 2 failed\n", (["low", "toy"], True)),
+def try_proved(judge):
+    """After `rt ci` a crate is tried if that said of each library below it that it stands."""
+    low_and_toy, said = [types.SimpleNamespace(name="low"), types.SimpleNamespace(name="toy")], judge.root / "said"
+    texts = [
+        ("nothing", "", ["low", "toy"]),
+        ("one of both", "rt: low proved\nrt: toy: its tests are proved\n", ["toy"]),
+        ("one that isn't proved", "rt: low proved\nrt: toy NOT PROVED\n", ["toy"]),
+        ("both", "rt: toy proved\nrt: low is kept: an earlier run proved the same\n", []),
     ]
-    said.unlink(missing_ok=True)
-    judge.see("it waits for a file", script.unproved(libraries, said) == (["low", "toy"], False))
-    for what, text, wanted in begun:
+    judge.same("without its file", libraries.unproved(low_and_toy, said), ["low", "toy"])
+    for what, text, wanted in texts:
         said.write_text(text, encoding="utf-8")
-        judge.see(f"after {what}", script.unproved(libraries, said) == wanted)
+        judge.same(f"after {what}", libraries.unproved(low_and_toy, said), wanted)
     put(judge.root, {"above_at_the_bound": EDITS["above_at_the_bound"]})
-    status, text = wrong_bodies(judge.root, "--all", "--beside-ci", said)
+    status, text = wrong_bodies(judge.root, "--all", "--after-ci", said)
     judge.see("it tries them with what stands", status == 0 and text.endswith("\n1 passed, 0 failed, 0 skipped\n"), text)
 
 
@@ -341,7 +446,25 @@ def report_of(functions):
     return "".join(f"fn {name}: {status}\n" for name, status in functions.items()) + "logic=not-proved\n"
 
 
-PARTS = (try_verdicts, try_answers, try_digests, try_tenth, try_goals, try_gone, try_lost, try_disbelief, try_waiting)
+PARTS = (
+    try_order,
+    try_bound,
+    try_choice,
+    try_left,
+    try_stale,
+    try_telling,
+    try_libraries,
+    try_killed,
+    try_verdicts,
+    try_answers,
+    try_digests,
+    try_control,
+    try_goals,
+    try_gone,
+    try_lost,
+    try_disbelief,
+    try_proved,
+)
 
 if __name__ == "__main__":
     sys.exit(program.main(__doc__, Judge, PARTS))

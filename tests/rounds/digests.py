@@ -1,18 +1,28 @@
 """What was refused over the same bytes isn't tried again.
 
 tests/wrong_bodies.digests has a line for each crate whose wrong bodies were all refused: its name, how many they were,
-and the digest of all that the verdict on them depends on, what gives the verdict included.
+and two sums. The first is over the crate's own files: its sources, its edits and its line of crates.txt. The second is
+over all that the verdict rests on: that, the sources and lines of the crates below it, HANDLES, the kit, and the files
+that give the verdict. A second sum of - holds never: the edits were refused over the same own files, and over others
+below.
 """
 
+import enum
 import hashlib
 import pathlib
 
 from . import kit
 
 PARTS = ("src", "specs", "proofs")
-# What judges: tests/wrong_bodies and what it is made of.
 TESTS = pathlib.Path(__file__).resolve().parent.parent
-JUDGES = (TESTS / "wrong_bodies", *TESTS.glob("rounds/*.py"))
+# What gives the verdict on an edit. What says which are tried, when, and how it is told isn't among it.
+JUDGES = tuple(TESTS / "rounds" / f"{name}.py" for name in ("edits", "judging", "kit", "trying"))
+
+
+class State(enum.Enum):
+    HOLDS = "its edits were refused over the same bytes"
+    BELOW = "only what is below changed"
+    OWN = "own files changed"
 
 
 def line_of(root, crate):
@@ -28,37 +38,55 @@ def add_files(digest, folder, files):
         digest.update(data)
 
 
-def digest_of(root, crate):
-    """The kit, what judges, the handles that are allowed, the crate's wrong bodies, and the sources and crates.txt's lines of
-    the crate and of those below it."""
-    digest = hashlib.sha256(f"{kit.identity()}\n".encode())
-    add_files(digest, TESTS, JUDGES)
-    add_files(digest, root, [root / "HANDLES"])
-    folder = pathlib.Path(crate.folder)
-    add_files(digest, folder, folder.glob("wrong-bodies/*.edit"))
-    for it in sorted([crate, *crate.below()], key=lambda it: it.name):
-        digest.update(f"{it.name}\n{line_of(root, it)}\n".encode())
-        folder = pathlib.Path(it.folder)
-        add_files(digest, folder, [file for part in PARTS for file in folder.glob(f"{part}/**/*") if file.is_file()])
-    return digest.hexdigest()
+class Sums:
+    """The sums of a repository's crates. The sources of each are read once, so that all are of one moment."""
+
+    def __init__(self, root):
+        self.root, self.sources = pathlib.Path(root), {}
+
+    def sources_of(self, crate):
+        """Over what of a crate matters above it: its sources and its line of crates.txt."""
+        if crate.name not in self.sources:
+            digest, folder = hashlib.sha256(f"{line_of(self.root, crate)}\n".encode()), pathlib.Path(crate.folder)
+            add_files(digest, folder, [it for part in PARTS for it in folder.glob(f"{part}/**/*") if it.is_file()])
+            self.sources[crate.name] = digest.hexdigest()
+        return self.sources[crate.name]
+
+    def own_of(self, crate):
+        """Over the crate's own files."""
+        digest, folder = hashlib.sha256(f"{self.sources_of(crate)}\n".encode()), pathlib.Path(crate.folder)
+        add_files(digest, folder, folder.glob("wrong-bodies/*.edit"))
+        return digest.hexdigest()
+
+    def of(self, crate):
+        """Both sums of the crate's line."""
+        own, digest = self.own_of(crate), hashlib.sha256(f"{kit.identity()}\n".encode())
+        add_files(digest, TESTS, JUDGES)
+        add_files(digest, self.root, [self.root / "HANDLES"])
+        digest.update(f"{own}\n".encode())
+        for it in sorted(crate.below(), key=lambda it: it.name):
+            digest.update(f"{it.name} {self.sources_of(it)}\n".encode())
+        return own, digest.hexdigest()
 
 
 class Digests:
-    """The committed lines, by the crate's name."""
+    """The committed lines, by the crate's name. A line of another form is none."""
 
     def __init__(self, file):
-        self.file = file
-        self.lines = {}
-        if file.is_file():
-            for line in file.read_text(encoding="utf-8").splitlines():
-                name, count, digest = line.split(" ")
-                self.lines[name] = (int(count), digest)
+        self.file, self.lines = file, {}
+        lines = file.read_text(encoding="utf-8").splitlines() if file.is_file() else []
+        for name, count, *sums in (line.split(" ") for line in lines if line.count(" ") == 3):
+            self.lines[name] = (int(count), *sums)
 
-    def has(self, name, count, digest):
-        return self.lines.get(name) == (count, digest)
+    def state(self, name, count, own, whole):
+        """What changed since the crate's edits were refused, by how many they are now and the sums of now."""
+        kept = self.lines.get(name)
+        if kept is None or kept[:2] != (count, own):
+            return State.OWN
+        return State.HOLDS if kept[2] == whole else State.BELOW
 
-    def keep(self, name, count, digest):
-        self.lines[name] = (count, digest)
+    def keep(self, name, count, own, whole):
+        self.lines[name] = (count, own, whole)
         self.write()
 
     def drop(self, name):
@@ -66,5 +94,5 @@ class Digests:
             self.write()
 
     def write(self):
-        lines = [f"{name} {count} {digest}\n" for name, (count, digest) in sorted(self.lines.items())]
+        lines = [f"{name} {count} {own} {whole}\n" for name, (count, own, whole) in sorted(self.lines.items())]
         self.file.write_text("".join(lines), encoding="utf-8")
