@@ -12,8 +12,6 @@ worked board of a group, and what is refused.
 Takes faketime. Ends with the line `N passed, M failed`; the exit status is 0 if M is 0.
 """
 
-import concurrent.futures
-import os
 import sys
 
 from lib import clock, demo, program
@@ -61,7 +59,7 @@ def try_made(desk):
         for jury, group in [(index % 2 == 1, group) for group in groups_of(contest).values()]:
             same(desk, f"contest {index}", folder, contest, Shown(contest, jury, thawed, at, None, group))
 
-    with concurrent.futures.ThreadPoolExecutor(os.cpu_count() or 1) as pool:
+    with program.lanes() as pool:
         list(pool.map(one, range(desk.options.made)))
 
 

@@ -13,12 +13,10 @@ export that was written by then, or the text.
 Takes faketime and a C compiler. Ends with the line `N passed, M failed`; the exit status is 0 if M is 0.
 """
 
-import concurrent.futures
 import csv
 import hashlib
 import io
 import json
-import os
 import random
 import shutil
 import sys
@@ -155,7 +153,7 @@ def try_results(desk):
         desk.answers(f"contest {index}, export as CSV", (0, export_text(contest), ""), folder, "export", "cup.db", "--format", "csv")
         return wanted[1]
 
-    with concurrent.futures.ThreadPoolExecutor(os.cpu_count() or 1) as pool:
+    with program.lanes() as pool:
         texts = list(pool.map(one, range(desk.options.made)))
     for what in ("Gold Medal", "Silver Medal", "Bronze Medal", "Ranked", "\t-1\t\n", "\tNorth\n", "\tSouth\n", "\tGäste\n"):
         desk.note(any(what in text for text in texts), f"no results with {what!r}")
@@ -173,7 +171,7 @@ def try_made(desk):
                 desk.answers(f"contest {index}, {' '.join(asked)}", (0, awards_text(contest, now, caller), ""), folder, *asked)
         desk.answers(f"contest {index}, export", (0, export_text(contest), ""), folder, "export", "cup.db")
 
-    with concurrent.futures.ThreadPoolExecutor(os.cpu_count() or 1) as pool:
+    with program.lanes() as pool:
         list(pool.map(one, range(desk.options.made)))
 
 

@@ -23,9 +23,7 @@ failed`; the exit status is 0 if M is 0.
 """
 
 import collections
-import concurrent.futures
 import contextlib
-import os
 import shutil
 import subprocess
 import sys
@@ -47,7 +45,7 @@ class Faults(trials.Trials):
     def upwards(self, trial, way, hinder, first, every):
         """Does the same with one number after the other, up to one at which nothing was in its way."""
         at, answers, is_over = first, collections.Counter(), False
-        with concurrent.futures.ThreadPoolExecutor(os.cpu_count() or 1) as pool:
+        with program.lanes() as pool:
             while not is_over:
                 numbers = range(at, at + 16 * every, every)
                 found = list(pool.map(lambda number: hinder(self, trial, number), numbers))

@@ -16,7 +16,6 @@ feed.
 Takes faketime, curl, jq and a C compiler. Ends with the line `N passed, M failed`; the exit status is 0 if M is 0.
 """
 
-import concurrent.futures
 import json
 import os
 import shutil
@@ -146,7 +145,7 @@ def try_made(desk):
         shutil.rmtree(folder)
         return contest
 
-    with concurrent.futures.ThreadPoolExecutor(os.cpu_count() or 1) as pool:
+    with program.lanes() as pool:
         made = list(pool.map(one, range(desk.options.made)))
     for what in ("submissions", "releases", "clarifications", "rejudgings", "thaw", "finalized"):
         desk.note(any(contest[what] for contest in made) or len(made) < 8, f"no contest has {what}")

@@ -14,7 +14,6 @@ Takes cc, sqlite3, faketime and setpriv, and runs as root, which may be another 
 failed`; the exit status is 0 if M is 0.
 """
 
-import concurrent.futures
 import errno
 import os
 import pathlib
@@ -331,7 +330,7 @@ def try_kills(desk):
     desk.run(full, "import", "cup.db", "teams-csv", "teams.csv")
     longest = 4 * (time.monotonic() - start)
     delays = [chance.uniform(0, longest) for _ in range(kills)]
-    with concurrent.futures.ThreadPoolExecutor(os.cpu_count() or 1) as pool:
+    with program.lanes() as pool:
         ends = list(pool.map(lambda delay: kill(desk, base, delay), delays))
     for wrong, _ in ends:
         desk.note(wrong is None, wrong)

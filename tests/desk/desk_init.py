@@ -14,8 +14,6 @@ Takes sqlite3. Ends with the line `N passed, M failed`; the exit status is 0 if 
 """
 
 import collections
-import concurrent.futures
-import os
 import shutil
 import sys
 
@@ -89,7 +87,7 @@ def try_file(desk, number):
 
 
 def try_files(desk):
-    with concurrent.futures.ThreadPoolExecutor(os.cpu_count() or 1) as pool:
+    with program.lanes() as pool:
         ends = collections.Counter(pool.map(lambda number: try_file(desk, number), range(desk.options.files)))
     for (end, form), count in sorted(ends.items()):
         print(f"{count:8}  {end.strip()} {form}".rstrip())

@@ -13,8 +13,6 @@ Takes sqlite3 and faketime. Ends with the line `N passed, M failed`; the exit st
 """
 
 import collections
-import concurrent.futures
-import os
 import re
 import shutil
 import sys
@@ -155,7 +153,7 @@ def try_joined(desk):
     def one(number):
         return tried(desk, worlds[KINDS[number % len(KINDS)]][number // len(KINDS) % 2], number)
 
-    with concurrent.futures.ThreadPoolExecutor(os.cpu_count() or 1) as pool:
+    with program.lanes() as pool:
         met = collections.Counter(pool.map(one, range(desk.options.cases)))
     both = {kind for kind, outcome in met if outcome == "rows of both"}
     outcomes = {outcome for _, outcome in met}

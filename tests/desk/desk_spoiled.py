@@ -11,8 +11,6 @@ two minutes.
 Takes sqlite3. Ends with the line `N passed, M failed`; the exit status is 0 if M is 0.
 """
 
-import concurrent.futures
-import os
 import random
 import shutil
 import sys
@@ -66,7 +64,7 @@ class Spoiler(Program):
         shutil.rmtree(folder)
 
     def spoil_all(self, whole, cases):
-        with concurrent.futures.ThreadPoolExecutor(os.cpu_count() or 1) as pool:
+        with program.lanes() as pool:
             list(pool.map(lambda changes: self.spoil(whole, changes), cases))
         print(f"{len(cases)} of a file of {len(whole)} bytes: {self.refused} refused so far, {len(self.known)} sets of rows", flush=True)
 

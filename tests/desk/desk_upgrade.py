@@ -16,8 +16,6 @@ the file shows what it did before.
 Takes faketime, sqlite3 and a C compiler. Ends with the line `N passed, M failed`; the exit status is 0 if M is 0.
 """
 
-import concurrent.futures
-import os
 import pathlib
 import re
 import shutil
@@ -229,7 +227,7 @@ def try_memory(desk):
     right = cells_opinion.differences(whole / "cup.db") == ([], [])
     desk.note(right and re.sub(r"(?m)^INSERT INTO cells .*\n", "", desk.after) == wanted_of(desk), "the demo contest: other rows")
     library, every = compiled("refuse_call", desk.folder), desk.options.every
-    with concurrent.futures.ThreadPoolExecutor(os.cpu_count() or 1) as pool:
+    with program.lanes() as pool:
         for later in (False, True):
             call, refused_calls, is_over = 1, 0, False
             while not is_over:

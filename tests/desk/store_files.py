@@ -21,7 +21,6 @@ one to two minutes of four processors; --every N refuses each Nth alone, --no-me
 Takes sqlite3 and a C compiler. Ends with the line `N passed, M failed`; the exit status is 0 if M is 0.
 """
 
-import concurrent.futures
 import os
 import pathlib
 import random
@@ -366,7 +365,7 @@ def try_memory(probe):
     probe.run("open", filled)
     probe.shown, probe.cells = without_cells(dump(probe.good)), cells_in(dump(filled))
     library, every = compiled("refuse_call", probe.folder), probe.options.every
-    with concurrent.futures.ThreadPoolExecutor(os.cpu_count() or 1) as pool:
+    with program.lanes() as pool:
         for later in (False, True):
             call, refused, same, is_over = 1, 0, 0, False
             while not is_over:

@@ -117,11 +117,16 @@ def limited_to(count):
     return limit
 
 
+def lanes():
+    """Threads, one for each processor that this process may use."""
+    return concurrent.futures.ThreadPoolExecutor(len(os.sched_getaffinity(0)))
+
+
 def refused_in_turn(one, step):
     """Has a function refuse the first call for memory, and each so manieth after it, until none is left: how many of these were told.
     It answers how many calls it refused, and whether that was told."""
     call, told, is_over = 1, 0, False
-    with concurrent.futures.ThreadPoolExecutor(os.cpu_count() or 1) as pool:
+    with lanes() as pool:
         while not is_over:
             tried = list(pool.map(one, range(call, call + 100 * step, step)))
             is_over, told = not all(count for count, _ in tried), told + sum(is_told for _, is_told in tried)

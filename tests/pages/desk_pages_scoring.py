@@ -13,11 +13,9 @@ that can't be read are told by their line.
 Takes nginx, openssl, chromium, chromium-driver and faketime. Ends with the line `N passed, M failed`; the exit status is 0 if M is 0.
 """
 
-import concurrent.futures
 import csv
 import io
 import json
-import os
 import pathlib
 import sys
 
@@ -102,7 +100,7 @@ def hold_steps(pages, what, contest, shown):
 def try_made(pages):
     """Made contests."""
     pages.page("scoring", "scoreboard")
-    with concurrent.futures.ThreadPoolExecutor(os.cpu_count() or 1) as pool:
+    with program.lanes() as pool:
         contests = [made_case(pages.options.seed, index)[1] for index in range(pages.options.made)]
         told = list(pool.map(lambda contest: feed_and_boards(pages, contest), contests))
         shown = [pages.browser.run(BOARDS, feed) for feed, _, _ in told]

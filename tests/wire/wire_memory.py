@@ -12,8 +12,6 @@ calls from one on are refused: the answer is one of the same two. --every N refu
 Ends with the line `N passed, M failed`; the exit status is 0 if M is 0.
 """
 
-import concurrent.futures
-import os
 import sys
 
 from lib import program, verdict_file_opinion, wire, wire_opinion
@@ -187,7 +185,7 @@ def try_case(desk, pool, name, case):
 
 
 def try_requests(desk):
-    with concurrent.futures.ThreadPoolExecutor(os.cpu_count() or 1) as pool:
+    with program.lanes() as pool:
         before = [Request(NOW, request) for request in BEFORE]
         for name, (request, more) in REQUESTS.items():
             try_case(desk, pool, name, Case(Request(NOW, request), before + [Request(NOW, one) for one in more]))
@@ -199,14 +197,14 @@ def try_final(desk):
     contest = Case(Request(NOW, READS[0]), before).contest
     *judging, final = [Request(END, request) for request in closing(contest)]
     awards = Request(END, ("token-j1", None, "GET", f"{AT_REHEARSAL}/awards", ""))
-    with concurrent.futures.ThreadPoolExecutor(os.cpu_count() or 1) as pool:
+    with program.lanes() as pool:
         try_case(desk, pool, "final results", Case(final, before + judging))
         try_case(desk, pool, "awards", Case(awards, [*before, *judging, final]))
 
 
 def try_files(desk):
     """A file of each kind."""
-    with concurrent.futures.ThreadPoolExecutor(os.cpu_count() or 1) as pool:
+    with program.lanes() as pool:
         for kind, text in FILES.items():
             is_late = kind == "verdicts-csv"
             before = [Request(NOW, request) for request in BEFORE] if is_late else []
