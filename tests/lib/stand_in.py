@@ -11,8 +11,8 @@ ANSWER = b"HTTP/1.1 200 OK\r\nContent-Type: application/json\r\nContent-Length: 
 
 
 class StandIn:
-    """Answers each connection's one request by some bytes, and closes it. While it is held back it answers as many as it may, and
-    none at first."""
+    """Answers each connection's one request by some bytes, and closes it. While it is held back it answers as many as
+    it may, and none at first."""
 
     def __init__(self, answer=ANSWER):
         self.answer, self.came, self.open, self.most = answer, [], 0, 0
@@ -30,13 +30,12 @@ class StandIn:
             threading.Thread(target=self.serve, args=(client,), daemon=True).start()
 
     def serve(self, client):
-        with client:
-            head, _, body = taken(client).partition(b"\r\n\r\n")
-            self.note(1, head.split(b"\r\n")[0].decode())
+        with client, contextlib.suppress(OSError):
+            line = taken(client).split(b"\r\n")[0].decode()
+            self.note(1, line)
             self.wait()
-            with contextlib.suppress(OSError):
-                client.sendall(self.answer)
             self.note(-1)
+            client.sendall(self.answer)
 
     def wait(self):
         with self.changed:

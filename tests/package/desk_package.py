@@ -42,28 +42,35 @@ BY_PACKAGE = re.compile(r"(?ms)^<!-- by the package -->\n```sh\n(.*?)^```$")
 CONSOLE = re.compile(r"(?ms)^```console\n(.*?)^```$")
 IN_NGINX = [f"{name}.conf" for name in ("account", "ask", "files", "long", "pages", "public", "refusals", "replies")]
 IN_NGINX.insert(1, "account.js")
-CONFIGURED = [*(f"/etc/nginx/desk/{name}" for name in IN_NGINX), "/etc/nginx/sites-available/desk"]
-UNIT, COPY_UNIT = (f"usr/lib/systemd/system/{name}@.service" for name in ("desk", "desk-copy"))
+IN_DESK = ["away.http", "malformed.http", "queue.cfg"]
+CONFIGURED = [*(f"/etc/desk/{name}" for name in IN_DESK), *(f"/etc/nginx/desk/{name}" for name in IN_NGINX), "/etc/nginx/sites-available/desk"]
+UNIT, COPY_UNIT, QUEUE_UNIT = (f"usr/lib/systemd/system/{name}@.service" for name in ("desk", "desk-copy", "desk-queue"))
 # The name of the machine in the fresh root.
 NAME = "desk.example"
 # What stands in a fresh root beside what every machine has: what the package names, and what the guide calls.
-BESIDE = "nginx,libnginx-mod-http-js,curl,jq,openssl,sqlite3,systemd,python3"
+BESIDE = "haproxy,nginx,libnginx-mod-http-js,curl,jq,openssl,sqlite3,systemd,python3"
 DEBIAN = ["--quiet", "--variant=minbase", "bookworm"]
 # What isn't the package's, and changes by itself.
 PASSING = ("proc", "sys", "dev", "run", "tmp", "var/log", "var/cache", "var/lib/dpkg", "var/lib/apt", "var/lib/systemd")
-SYSTEMCTL = """#!/bin/sh
-# Starts what systemd would start.
+SYSTEMCTL = r"""#!/bin/sh
+# Starts what systemd would start, in the folder in which it would: a desk, and the queue that its unit wants.
+cd /
+command_of() {
+    sed -n "s/%i/$name/g; s/[\$][\$]/\$/g; /^ExecStart=/,/[^\\]\$/{ s/^ExecStart=//; p }" "/usr/lib/systemd/system/$1@.service"
+}
 case "$*" in
 "reload nginx") exec nginx ;;
 "enable --now desk@"*)
     name=${3#desk@}
     /usr/bin/systemctl enable "$3"
     . "/etc/desk/$name"
-    command=$(sed -n 's/^ExecStart=//p' /UNIT | sed "s/%i/$name/g")
-    su desk -s /bin/sh -c "umask 077; PORT=$PORT; exec $command" >/dev/null 2>&1 & ;;
+    mkdir -p "/run/desk/$name" && chown desk: "/run/desk/$name"
+    su desk -s /bin/sh -c "umask 077; export PORT=$PORT; $(command_of desk)" >/dev/null 2>&1 &
+    grep -q "^Wants=desk-queue@" /usr/lib/systemd/system/desk@.service &&
+        su nobody -s /bin/sh -c "export PORT=$PORT; exec $(command_of desk-queue)" >/dev/null 2>&1 & ;;
 *) exit 1 ;;
 esac
-""".replace("UNIT", UNIT)
+"""
 BASH = """source {completion}
 COMP_WORDS=({words}) COMP_CWORD=$((${{#COMP_WORDS[@]}} - 1))
 _desk {program} "${{COMP_WORDS[COMP_CWORD]}}" "${{COMP_WORDS[COMP_CWORD - 1]}}"
@@ -160,6 +167,8 @@ def try_files(package):
         package.is_from(f"usr/share/desk/web/{name}", f"web/{name}")
     for name in ("README.md", "docs/GUIDE.md", "docs/FORMATS.md", "docs/SHEET.md"):
         package.is_from(f"usr/share/doc/desk/{name}", name)
+    for name in IN_DESK:
+        package.is_from(f"etc/desk/{name}", f"examples/nginx/{name}")
     for name in IN_NGINX:
         package.is_from(f"etc/nginx/desk/{name}", f"examples/nginx/{name}")
     for name in ("front", "through"):
@@ -171,11 +180,11 @@ def try_files(package):
 def try_places(package):
     """The files of the package name its own folders, and the program is the one that was given."""
     units = [f"usr/lib/systemd/system/desk-copy@.{kind}" for kind in ("service", "timer")]
-    for path in (UNIT, *units, "usr/share/desk/examples/nginx/riverside.conf", "etc/nginx/sites-available/desk"):
+    for path in (UNIT, QUEUE_UNIT, *units, "usr/share/desk/examples/nginx/riverside.conf", "etc/nginx/sites-available/desk"):
         found = re.findall(rb"/usr/local|/srv|conf\.d", package.read(path))
         package.same(f"{path}: folders of what is installed by hand", found, [])
     package.note(b"alias /usr/share/desk/web/;" in package.read("usr/share/desk/examples/nginx/riverside.conf"), "no pages")
-    package.note(b"ExecStart=/usr/bin/desk serve" in package.read(UNIT), "the unit starts another program")
+    package.note(b"exec /usr/bin/desk serve" in package.read(UNIT), "the unit starts another program")
     for name in ("desk-copy", "desk-judge"):
         status, text = said(package.inside / "usr/bin" / name, "--help")
         package.note(status == 0 and "usage" in text.lower(), f"{name} --help: {text}")
@@ -276,7 +285,7 @@ def try_completion(package):
 
 def try_unit(package):
     """How exposed the unit is, and that it lets through what the desk calls."""
-    for name in (UNIT, COPY_UNIT):
+    for name in (UNIT, COPY_UNIT, QUEUE_UNIT):
         try_exposure(package, package.inside / name)
     unit = package.read(UNIT).decode()
     for line in ("User=desk", "UMask=0077", "CapabilityBoundingSet=", "RestrictAddressFamilies=AF_INET"):
@@ -441,7 +450,7 @@ def try_fresh_root(package):
     look_at_board(package, inside)
     take_next_version(package, inside)
     contest = root / "var/lib/desk/spring/spring.db"
-    done(package, inside, "the desk ends", "kill $(pidof desk); nginx -s stop; sleep 1")
+    done(package, inside, "the desk ends", "kill $(pidof desk haproxy); nginx -s stop; sleep 1")
     kept = contest.read_bytes()
     done(package, inside, "removed", "apt-get remove desk && nginx -t")
     package.note((root / "etc/nginx/sites-available/desk").exists(), "a package that is removed keeps its settings")

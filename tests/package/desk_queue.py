@@ -3,11 +3,12 @@
 
     desk_queue.py [--program PATH]
 
-32 requests at a time are handed on. The order of the others is counted at a server that is held back: posts, what isn't long, long
-lists, and none waits for ever. Who gave up isn't handed on. What the queue says itself, since a desk is away, breaks off, says nothing
-or is too long in coming, is 503 `Away`, or 400 `Malformed`, in the desk's form. No post is sent twice. What the desk answers comes
-through the queue as it is, also to requests that servers could read differently, and to the longest and largest. nginx hands on
-nothing that the queue can't read. The queue writes down nothing of a request, and a second one on its port doesn't start.
+32 requests at a time are handed on. The order of the others is counted at a server that is held back: posts, what
+isn't long, long lists, and none waits for ever. Who gave up isn't handed on. What the queue says itself, since a desk
+is away, breaks off, says nothing or is too long in coming, is 503 `Away`, or 400 `Malformed`, in the desk's form. No
+post is sent twice. What the desk answers comes through the queue as it is, also to requests that servers could read
+differently, and to the longest and largest. nginx hands on nothing that the queue can't read. The queue writes down
+nothing of a request, and a second one on its port doesn't start.
 
 Takes haproxy, nginx, openssl and faketime. Ends with the line `N passed, M failed`; the exit status is 0 if M is 0.
 """
@@ -35,10 +36,14 @@ AWAY, MALFORMED = ({"code": 503, "message": "Away"}, {"code": 400, "message": "M
 SLOWLY = {"int(-2000)": "int(-200000)", "int(5000)": "int(500000)"}
 SMALL, LARGE = 65_536, 65_537
 # What waits, in the order in which it comes, and in that in which it is handed on.
-WAITING = ["GET /long/submissions", "GET /plain", f"POST /large {LARGE}", "GET /first/contests", "GET /long/event-feed", "GET /later",
-           "POST /empty 0", f"PATCH /small {SMALL}", "HEAD /long/judgements", "POST /submissions 2", "DELETE /submissions"]  # fmt: skip
-GOING = ["POST /empty", "PATCH /small", "POST /submissions", "POST /large", "GET /first/contests", "GET /plain", "GET /later",
-         "DELETE /submissions", "GET /long/submissions", "GET /long/event-feed", "HEAD /long/judgements"]  # fmt: skip
+WAITING = ["GET /long/submissions", "GET /plain", f"POST /large {LARGE}", "GET /first/contests", "GET /long/event-feed",
+           "GET /later", "POST /empty 0", f"PATCH /small {SMALL}", "HEAD /long/judgements", "POST /submissions 2",
+           "DELETE /submissions"]  # fmt: skip
+GOING = ["POST /empty", "PATCH /small", "POST /submissions", "POST /large", "GET /first/contests", "GET /plain",
+         "GET /later", "DELETE /submissions", "GET /long/submissions", "GET /long/event-feed",
+         "HEAD /long/judgements"]  # fmt: skip
+# What differs between two connections or moments.
+PASSING = (b"date", b"connection", b"server")
 
 
 def asked(port, data, ends=False):
@@ -67,19 +72,18 @@ def request(line, fields="", body=b""):
 
 
 def parts_of(reply):
-    """The status, the fields in any order but for those of a connection and a moment, and the body of a reply, behind an interim
-    one."""
+    """The status, the fields in any order but for those that pass, and the body of a reply, behind an interim one."""
     head, _, body = reply.removeprefix(INTERIM).partition(b"\r\n\r\n")
     line, *fields = head.split(b"\r\n")
     fields = sorted((name.lower(), value.strip()) for name, _, value in (field.partition(b":") for field in fields))
-    return line.split(b" ")[1:2], [field for field in fields if field[0] not in (b"date", b"connection", b"server")], body
+    return line.split(b" ")[1:2], [field for field in fields if field[0] not in PASSING], body
 
 
 def said_by_queue(reply):
     """What a reply says that is the queue's own, if it has its form; else its bytes."""
     status, fields, body = parts_of(reply)
-    has_form = {(b"content-type", b"application/json"), (b"cache-control", b"no-store"), (b"content-length", b"%d" % len(body))} <= set(fields)
-    said = json.loads(body) if has_form and body[:1] == b"{" else {}
+    form = {b"content-type": b"application/json", b"cache-control": b"no-store", b"content-length": b"%d" % len(body)}
+    said = json.loads(body) if form.items() <= dict(fields).items() and body[:1] == b"{" else {}
     return said if status == [str(said.get("code")).encode()] else reply
 
 
@@ -171,12 +175,13 @@ def try_order(desk):
 
 
 def try_age(desk):
-    """A long list that has waited for longer than it is put back goes before what came since; as one that is put back for
+    """A long list that has waited for longer than it is put back goes before what came since; one that is put back for
     longer doesn't, as a control."""
     lines = ["GET /submissions", "GET /plain", "GET /submissions", "GET /later"]
     soon = {"int(5000)": "int(300)"}
     desk.same("an old list", order_of(desk, lines, soon, 1)[:2], lines[:2])
-    desk.same("the same, put back for longer", order_of(desk, lines, SLOWLY, 1), [lines[1], lines[3], lines[0], lines[2]])
+    later = [lines[1], lines[3], lines[0], lines[2]]
+    desk.same("the same, put back for longer", order_of(desk, lines, SLOWLY, 1), later)
 
 
 def try_gave_up(desk):
@@ -240,20 +245,26 @@ NO_HEADS = [b"GET\r\n\r\n", b"\x16\x03\x01\x02\r\n\r\n", b"GET / HTTP/1.1\r\nHos
 
 
 def try_malformed(desk):
-    """Who says that no more comes, while a desk is asked, is told so in the desk's form. What can't be read is told by HAProxy
-    itself, whose form no file changes."""
+    """Who says that no more comes, while a desk is asked, is told so in the desk's form. What can't be read is told by
+    HAProxy itself, whose form no file changes."""
     server, replies = StandIn(), []
     queue = desk.before(server.port)
     for head in NO_HEADS:
         desk.same(f"{head[:60]}", parts_of(asked(queue.port, head))[0], [b"400"])
     server.take()
     clients = filled(desk, queue, server, replies)
-    desk.same("a client that says no more", said_by_queue(asked(queue.port, request("GET /"), ends=True)) or MALFORMED, MALFORMED)
+    asked(queue.port, request("GET /"), ends=True)
     ended(server, queue, clients)
     desk.same("what is handed on", server.take(), [])
+    server = StandIn()
+    server.let(0)
+    queue = desk.before(server.port)
+    desk.same("a client that says no more", said_by_queue(asked(queue.port, request("GET /"), ends=True)), MALFORMED)
+    ended(server, queue)
 
 
 TOKEN = "Authorization: Bearer token-a1\r\n"
+PROGRAM = json.dumps(POSTED).encode()
 KEY, DEMO = "Idempotency-Key: k1\r\n", "/contests/demo"
 # Requests that the desk and the queue could read differently, with a path that ends in Q for a byte past ASCII.
 SAME = {
@@ -268,7 +279,7 @@ SAME = {
     "HTTP/1.0 with a host": f"GET {DEMO} HTTP/1.0\r\nHost: x\r\n\r\n".encode(),
     "HTTP/1.1 without a host": f"GET {DEMO} HTTP/1.1\r\nConnection: close\r\n\r\n".encode(),
     "the absolute form": f"GET http://x{DEMO} HTTP/1.1\r\nHost: x\r\nConnection: close\r\n\r\n".encode(),
-    "the absolute form of another host": f"GET http://other{DEMO} HTTP/1.1\r\nHost: x\r\nConnection: close\r\n\r\n".encode(),
+    "the absolute form of another host": request(f"GET http://other{DEMO}"),
     "a long path": request(f"GET {DEMO}/{'a' * 7_000}"),
     "a long query": request(f"GET {DEMO}?{'a' * 7_000}"),
     "a query past ASCII": request(f"GET {DEMO}?Zoë"),
@@ -278,15 +289,15 @@ SAME = {
     "many fields": request(f"GET {DEMO}", "a: b\r\n" * 2_700),
     "an unknown token": request(f"GET {DEMO}", "Authorization: Bearer nobody-at-all\r\n"),
     "two tokens": request(f"GET {DEMO}", TOKEN * 2),
-    "a post": request(f"POST {DEMO}/submissions", TOKEN + KEY, json.dumps(POSTED).encode()),
+    "a post": request(f"POST {DEMO}/submissions", TOKEN + KEY, PROGRAM),
     "a post without a body": request(f"POST {DEMO}/submissions 0", TOKEN),
     "a post without a length": request(f"POST {DEMO}/submissions", TOKEN),
-    "Expect: 100-continue": request(f"POST {DEMO}/submissions", f"{TOKEN}Expect: 100-continue\r\n{KEY}", json.dumps(POSTED).encode()),
+    "Expect: 100-continue": request(f"POST {DEMO}/submissions", f"{TOKEN}Expect: 100-continue\r\n{KEY}", PROGRAM),
     "HTTP/3": b"GET / HTTP/3\r\nHost: x\r\nConnection: close\r\n\r\n",
     "a byte that no head has": request(f"GET {DEMO}", "a: \0\r\n"),
-    "chunked": f"POST {DEMO}/submissions HTTP/1.1\r\nHost: x\r\nConnection: close\r\nTransfer-Encoding: chunked\r\n\r\n2\r\n{{}}\r\n0\r\n\r\n".encode(),
+    "chunked": request(f"POST {DEMO}/submissions", "Transfer-Encoding: chunked\r\n") + b"2\r\n{}\r\n0\r\n\r\n",
     **{f"403 of {size}": request(f"POST {DEMO}/submissions {size}") for size in (1_000_000, 2_000_000, 2_097_152)},
-    **{f"413 of {size}": request(f"POST {DEMO}/submissions {size}", TOKEN) for size in (2_097_153, 2_500_000, 2_900_000)},
+    **{f"413 of {size}": request(f"POST {DEMO}/submissions {size}", TOKEN) for size in (2_097_153, 2_900_000)},
 }  # fmt: skip
 TIMES = 5
 
@@ -305,45 +316,45 @@ def try_same(desk):
 
 
 # What comes to nginx in a request of two contests: one that it leads to the queue, and one to the desk itself.
-CREDENTIAL = "Authorization: Bearer token-a1\r\n"
+LED = "/CONTEST/contests/demo"
 AT_NGINX = {
-    "a read": request("GET /CONTEST/contests/demo", CREDENTIAL),
-    "of the public": request("GET /CONTEST/contests/demo"),
-    "a long list": request("GET /CONTEST/contests/demo/submissions", CREDENTIAL),
-    "HEAD": request("HEAD /CONTEST/contests/demo/teams", CREDENTIAL),
-    "405": request("DELETE /CONTEST/contests/demo/teams", CREDENTIAL),
-    "an unknown method": request("BREW /CONTEST/contests/demo/teams", CREDENTIAL),
+    "a read": request(f"GET {LED}", TOKEN),
+    "of the public": request(f"GET {LED}"),
+    "a long list": request(f"GET {LED}/submissions", TOKEN),
+    "HEAD": request(f"HEAD {LED}/teams", TOKEN),
+    "405": request(f"DELETE {LED}/teams", TOKEN),
+    "an unknown method": request(f"BREW {LED}/teams", TOKEN),
     "HTTP/1.0": b"GET /CONTEST/contests/demo HTTP/1.0\r\nAuthorization: Bearer token-a1\r\n\r\n",
     "no version": b"GET /CONTEST/contests/demo\r\n\r\n",
-    "the absolute form": request("GET http://other/CONTEST/contests/demo", CREDENTIAL),
-    "a post": request("POST /CONTEST/contests/demo/submissions", CREDENTIAL + KEY, json.dumps(POSTED).encode()),
-    "413": request("POST /CONTEST/contests/demo/submissions 2500000", CREDENTIAL),
-    "403": request("POST /CONTEST/jury/proposals 1000000", CREDENTIAL),
-    "chunked": request("POST /CONTEST/contests/demo/submissions", CREDENTIAL + KEY + "Transfer-Encoding: chunked\r\n")
+    "the absolute form": request("GET http://other/CONTEST/contests/demo", TOKEN),
+    "a post": request(f"POST {LED}/submissions", TOKEN + KEY, PROGRAM),
+    "413": request(f"POST {LED}/submissions 2500000", TOKEN),
+    "403": request("POST /CONTEST/jury/proposals 1000000", TOKEN),
+    "chunked": request(f"POST {LED}/submissions", TOKEN + KEY + "Transfer-Encoding: chunked\r\n")
     + b"2\r\n{}\r\n0\r\ntrailer: x\r\n\r\n",
-    "another encoding": request("POST /CONTEST/contests/demo/submissions", CREDENTIAL + "Transfer-Encoding: gzip\r\n"),
-    "a length and chunks": request("POST /CONTEST/contests/demo/submissions 5", CREDENTIAL + "Transfer-Encoding: chunked\r\n"),
-    "two lengths": request("POST /CONTEST/contests/demo/submissions 5", CREDENTIAL + "Content-Length: 5\r\n"),
-    "no length": request("POST /CONTEST/contests/demo/submissions", CREDENTIAL + "Content-Length: x\r\n"),
-    "two hosts": request("GET /CONTEST/contests/demo", CREDENTIAL + "Host: y\r\n"),
-    "another protocol": request("GET /CONTEST/contests/demo", CREDENTIAL + "Upgrade: websocket\r\nTE: x\r\n"),
-    "Expect": request("POST /CONTEST/contests/demo/submissions 9", CREDENTIAL + "Expect: 100-continue\r\n"),
-    "another expectation": request("POST /CONTEST/contests/demo/submissions 9", CREDENTIAL + "Expect: more\r\n"),
-    "a long path": request(f"GET /CONTEST/contests/demo/{'a' * 7_000}", CREDENTIAL),
-    "a path of bytes": request("GET /CONTEST/contests/demo/%00%01%7f%ff%0d%0a%20", CREDENTIAL),
-    "a path past ASCII": request("GET /CONTEST/contests/demo/Zoë", CREDENTIAL),
-    "a query past ASCII": request("GET /CONTEST/contests/demo?Zoë", CREDENTIAL),
-    "a query of marks": request('GET /CONTEST/contests/demo?"<>^`{|}\\[]', CREDENTIAL),
-    "fields of marks": request("GET /CONTEST/contests/demo", CREDENTIAL + "a_b: 1\r\na.b: 1\r\n(a): 1\r\na b: 1\r\n: 1\r\nc: \x01\x7f\tZoë\r\n"),
-    "lines that go on": request("GET /CONTEST/contests/demo", CREDENTIAL + "a: 1\r\n  2\r\n"),
-    "a byte that no head has": request("GET /CONTEST/contests/demo", CREDENTIAL + "a: \0\r\n"),
-    "ends of lines": request("GET /CONTEST/contests/demo", CREDENTIAL + "a: 1\r2\r\nb: 3\nc:\r\n"),
-    "many fields": request("GET /CONTEST/contests/demo", CREDENTIAL + "a:\n" * 900),
-    "more": request("GET /CONTEST/contests/demo", CREDENTIAL + "a:\n" * 10_000),
-    "large fields": request("GET /CONTEST/contests/demo", CREDENTIAL + f"a: {'b' * 8_000}\r\n" * 3),
-    "large fields beside small ones": request("GET /CONTEST/contests/demo", CREDENTIAL + f"a: {'b' * 8_000}\r\n" * 3 + "c:\n" * 900),
-    "larger ones": request("GET /CONTEST/contests/demo", CREDENTIAL + f"a: {'b' * 8_100}\r\n" * 5),
-    "a field that is larger": request("GET /CONTEST/contests/demo", CREDENTIAL + f"a: {'b' * 9_000}\r\n"),
+    "another encoding": request(f"POST {LED}/submissions", TOKEN + "Transfer-Encoding: gzip\r\n"),
+    "a length and chunks": request(f"POST {LED}/submissions 5", TOKEN + "Transfer-Encoding: chunked\r\n"),
+    "two lengths": request(f"POST {LED}/submissions 5", TOKEN + "Content-Length: 5\r\n"),
+    "no length": request(f"POST {LED}/submissions", TOKEN + "Content-Length: x\r\n"),
+    "two hosts": request(f"GET {LED}", TOKEN + "Host: y\r\n"),
+    "another protocol": request(f"GET {LED}", TOKEN + "Upgrade: websocket\r\nTE: x\r\n"),
+    "Expect": request(f"POST {LED}/submissions 9", TOKEN + "Expect: 100-continue\r\n"),
+    "another expectation": request(f"POST {LED}/submissions 9", TOKEN + "Expect: more\r\n"),
+    "a long path": request(f"GET {LED}/{'a' * 7_000}", TOKEN),
+    "a path of bytes": request(f"GET {LED}/%00%01%7f%ff%0d%0a%20", TOKEN),
+    "a path past ASCII": request(f"GET {LED}/Zoë", TOKEN),
+    "a query past ASCII": request(f"GET {LED}?Zoë", TOKEN),
+    "a query of marks": request(f'GET {LED}?"<>^`{{|}}\\[]', TOKEN),
+    "fields of marks": request(f"GET {LED}", TOKEN + "a_b: 1\r\na.b: 1\r\n(a): 1\r\na b: 1\r\n: 1\r\nc: \x01\të\r\n"),
+    "lines that go on": request(f"GET {LED}", TOKEN + "a: 1\r\n  2\r\n"),
+    "a byte that no head has": request(f"GET {LED}", TOKEN + "a: \0\r\n"),
+    "ends of lines": request(f"GET {LED}", TOKEN + "a: 1\r2\r\nb: 3\nc:\r\n"),
+    "many fields": request(f"GET {LED}", TOKEN + "a:\n" * 900),
+    "more": request(f"GET {LED}", TOKEN + "a:\n" * 10_000),
+    "large fields": request(f"GET {LED}", TOKEN + f"a: {'b' * 8_000}\r\n" * 3),
+    "large ones beside small ones": request(f"GET {LED}", TOKEN + f"a: {'b' * 8_000}\r\n" * 3 + "c:\n" * 900),
+    "larger ones": request(f"GET {LED}", TOKEN + f"a: {'b' * 8_100}\r\n" * 5),
+    "a field that is larger": request(f"GET {LED}", TOKEN + f"a: {'b' * 9_000}\r\n"),
 }  # fmt: skip
 
 
@@ -376,8 +387,9 @@ def try_log(desk):
     server = StandIn()
     queue = desk.before(server.port)
     secret = "Authorization: Bearer a-secret-token\r\n"
-    for data in (request("GET /a-secret-path", secret), request("POST /a-secret-path 100", secret), NO_HEADS[2] + secret.encode()):
+    for data in (request("GET /a-secret-path", secret), request("POST /a-secret-path 100", secret)):
         asked(queue.port, data)
+        asked(queue.port, NO_HEADS[2] + data)
     server.close()
     asked(queue.port, request("GET /a-secret-path", secret))
     files = {file.name: file.read_bytes() for file in queue.folder.iterdir() if file.is_file()}
@@ -389,7 +401,7 @@ def try_log(desk):
 
 
 def try_second(desk):
-    """A second queue on its port ends at once; without one line of the file it takes half of the requests, as a control."""
+    """A second queue on its port ends at once; without one line of the file it doesn't, as a control."""
     server = StandIn()
     queue = desk.before(server.port)
     words = ["haproxy", "-db", "-f", queue.folder / "queue.cfg"]
@@ -416,8 +428,8 @@ def try_files(desk):
         desk.same(f"{limit} files", "ALERT" in said or "too low" in said, not fits)
 
 
-PARTS = (try_at_once, try_order, try_age, try_gave_up, try_long_wait, try_away, try_malformed, try_same, try_nginx, try_log, try_second,
-         try_files)  # fmt: skip
+PARTS = (try_at_once, try_order, try_age, try_gave_up, try_long_wait, try_away, try_malformed, try_same, try_nginx,
+         try_log, try_second, try_files)  # fmt: skip
 
 if __name__ == "__main__":
     sys.exit(program.main(__doc__, Beside, PARTS, program="desk"))

@@ -3,16 +3,17 @@
 
     desk_second_machine.py [--program PATH]
 
-Two desks stand on one machine behind nginx, each in a folder of its own, which stands for its disk. Teams post, a judge gives
-verdicts, tools/desk-copy copies the contest to the second, and they go on. Then the first desk is killed and its folder taken
-away, while teams post. The copy is put in its place, the second desk starts, and nginx leads there. Who had no reply is answered.
-Who posts again by key what the copy has gets the first reply, byte for byte; what the copy lacks is taken anew, once, and may
-get an id that another program had. What was lost is what tools/posts-since reads from nginx's log. Then that tool by itself.
-Last the guide's commands give the second machine the first one's address, in a network of three machines that are made for it:
-a machine of the teams, which knew the first one, sends to the second at once. By the address alone it doesn't, as a control.
+Two desks stand on one machine behind nginx, each with its queue and in a folder of its own, which stands for its
+disk. Teams post, a judge gives verdicts, tools/desk-copy copies the contest to the second, and they go on. Then the
+first desk and its queue are killed and the folder taken away, while teams post. The copy is put in its place, the
+second desk starts, and nginx leads there. Who had no reply is answered. Who posts again by key what the copy has gets
+the first reply, byte for byte; what the copy lacks is taken anew, once, and may get an id that another program had.
+What was lost is what tools/posts-since reads from nginx's log. Then that tool by itself. Last the guide's commands
+give the second machine the first one's address, in a network of three machines that are made for it: a machine of the
+teams, which knew the first one, sends to the second at once. By the address alone it doesn't, as a control.
 
-Takes nginx, openssl, faketime, unshare, nsenter, ip and arping. Ends with the line `N passed, M failed` and, if no network
-could be made, `, K skipped`; the exit status is 0 if M is 0.
+Takes nginx, haproxy, openssl, faketime, unshare, nsenter, ip and arping. Ends with the line `N passed, M failed` and,
+if no network could be made, `, K skipped`; the exit status is 0 if M is 0.
 """
 
 import concurrent.futures
@@ -31,6 +32,7 @@ from lib.copier import copied, rows_of
 from lib.import_opinion import compact
 from lib.nginx import GUIDE, HERE, Client, Nginx, post_until_taken
 from lib.program import ROOT, Program, ran
+from lib.queue import Queue
 from lib.server import Server
 
 SINCE = ROOT / "tools/posts-since"
@@ -80,7 +82,8 @@ class Hall:
     def __init__(self, desk):
         self.desk, self.first, self.second = desk, demo.made(desk, demo.FILES), desk.new_folder()
         self.server = Server(desk, self.first, moment="2024-03-02 10:00:00")
-        self.nginx = Nginx(desk.new_folder(), {"demo": self.server.port}, is_limited=False)
+        self.queue = Queue(desk.new_folder(), self.server.port)
+        self.nginx = Nginx(desk.new_folder(), {"demo": self.queue.port}, is_limited=False)
         self.judge = Client(self.nginx.port, "token-j1")
 
     def post(self, posts):
@@ -102,14 +105,16 @@ class Hall:
         return {path: int(count) for count, path in map(str.split, out.decode().splitlines())}
 
     def take_over(self):
-        """The copy in its place, a desk that serves it, and nginx, which leads there."""
+        """The copy in its place, a desk that serves it with its queue, and nginx, which leads there."""
         shutil.copy(self.second / "copy.db", self.second / "cup.db")
         self.server = Server(self.desk, self.second, moment="2024-03-02 11:00:00")
-        self.nginx.lead("demo", self.server.port)
+        self.queue = Queue(self.desk.new_folder(), self.server.port)
+        self.nginx.lead("demo", self.queue.port)
         self.nginx.reload()
 
     def stop(self):
         self.nginx.stop()
+        self.queue.stop()
         self.server.stop()
 
 
@@ -133,6 +138,7 @@ def try_take_over(desk):
     desk.same("what nginx says came since", told, {f"{HERE}/submissions": len(after), "/demo/jury/proposals": 1})
     with concurrent.futures.ThreadPoolExecutor(len(TEAMS)) as pool:
         hall.server.stop(signal.SIGKILL)
+        hall.queue.stop()
         shutil.rmtree(hall.first)
         start = time.monotonic()
         running = {one: pool.submit(post_until_taken, hall.nginx.port, *one) for one in numbered([12])}
