@@ -4,12 +4,12 @@
     desk_units.py [--program PATH]
 
 systemd is the first process of a machine apart, over this one's files (lib/booted.py): it can set nothing of the
-kernel, whose settings are held beside those of before. The units are those of examples/nginx/, as docs/GUIDE.md puts
-them there by hand. The desk is killed, twice within a second too, stopped and started anew, and the queue is killed
-alone: after each both are there again, the desk first, and a connection of before is never answered by the desk after
-it. While another program has the desk's port no queue starts, and once that is gone both do. A port for which there
-is none 10,000 above is refused with its reason in the log. How long it takes is printed; half a minute would be too
-long.
+kernel, whose settings are held beside those of before. The units are those of examples/nginx/, put there by the lines
+of docs/GUIDE.md. The desk is killed, twice within a second too, stopped and started anew, and the queue is killed
+alone: after each both are there again, the desk first, no connection of before is answered by the desk after it, and
+no post of before reaches it. While another program has the desk's port no queue starts, and once that is gone both
+do. A port for which there is none 10,000 above is refused with its reason in the log. How long it takes is printed;
+half a minute would be too long.
 
 Takes haproxy, faketime, systemd, unshare, nsenter, capsh and curl. Where no such machine can be made its cases are
 skipped. Ends with the line `N passed, M failed`, with `, K skipped` behind it if something was; the exit status is 0
@@ -24,12 +24,14 @@ import time
 
 from lib import demo, program
 from lib.booted import Booted, settings
+from lib.nginx import GUIDE
 from lib.program import PATIENCE, ROOT, Program
 from lib.units import try_exposure
 
 NGINX = ROOT / "examples/nginx"
 UNITS = ("desk@.service", "desk-queue@.service")
-IN_DESK = ("queue.cfg", "away.http", "malformed.http")
+# How the guide has their files put in place by hand.
+BY_HAND = re.findall(r"(?m)^(?:\(cd examples/nginx && cp queue|cp examples/nginx/desk@).*$", GUIDE)
 BOTH = ["active", "active"]
 PORT, BEHIND = 8081, 18081
 # Seconds in which both are there again, where some two are usual.
@@ -42,6 +44,12 @@ ASK = f"curl -s -o /dev/null -w '%{{http_code}}' --max-time 5 127.0.0.1:{PORT}/c
 OPEN = f"""exec 3<>/dev/tcp/127.0.0.1/{PORT}; printf 'GET /contests HTTP/1.1\\r\\n' >&3; touch /run/open
 until [ -e /run/close ]; do sleep 0.05; done
 printf 'Host: x\\r\\n\\r\\n' >&3; head -c 12 <&3"""
+# Posts of a judge, all at once; a file for each says how it is answered, and one that all are.
+POSTED, CURL = 48, "curl -s --oauth2-bearer token-j1"
+CLARIFICATIONS = f"127.0.0.1:{PORT}/contests/demo/clarifications"
+POSTS = f"""mkdir -p /run/posts; (cd /run/posts; for it in $(seq {POSTED}); do
+    {CURL} -o /dev/null -w '%{{http_code}}\\n' -d '{{"text":"before"}}' {CLARIFICATIONS} > $it.status &
+done; wait; touch over) > /dev/null 2>&1 &"""
 OTHER = f"import socket, time; s = socket.create_server(('127.0.0.1', {BEHIND})); time.sleep(600)"
 
 
@@ -62,12 +70,12 @@ class Machine(Program):
         self.machine.put("/usr/local/bin/desk", (pathlib.Path(self.path)).read_bytes(), 0o755)
         self.machine.put("/var/lib/desk/demo/demo.db", (made / "cup.db").read_bytes(), 0o600)
         self.machine.does("chown -R desk: /var/lib/desk")
-        for name in UNITS:
-            self.machine.put(f"/etc/systemd/system/{name}", (NGINX / name).read_bytes())
-        for name in IN_DESK:
-            self.machine.put(f"/etc/desk/{name}", (NGINX / name).read_bytes())
+        for file in NGINX.iterdir():
+            self.machine.put(f"/root/clone/examples/nginx/{file.name}", file.read_bytes())
+        self.same("the guide's lines", len(BY_HAND), 2)
+        put = f"mkdir -p /etc/desk; cd /root/clone; {'; '.join(BY_HAND)}"
+        self.same("what they print", self.machine.does(put), (0, ""))
         self.set_port(PORT)
-        self.machine.does("systemctl daemon-reload")
 
     def set_port(self, port):
         self.machine.put("/etc/desk/demo", f"PORT={port}\n".encode())
@@ -159,6 +167,22 @@ def try_ends(machine):
         machine.note("HTTP" not in came(machine), f"{what}: a connection of before was answered")
 
 
+def try_waiting(machine):
+    """Posts that a desk which stands still was handed, and posts that wait, when it is killed: none is answered, and none
+    is at the desk after it, which counts them."""
+    before = machine.state()
+    machine.says(f"kill -STOP $({PROCESS} desk@demo); {POSTS}")
+    machine.says(f"until [ $(ss -Htn state established dst 127.0.0.1:{BEHIND} | wc -l) -ge 32 ]; do sleep 0.05; done")
+    machine.says(DESK)
+    judged(machine, "a desk that stands still and is killed", before)
+    answers = machine.says("until [ -e /run/posts/over ]; do sleep 0.05; done; cat /run/posts/*.status").split()
+    machine.note(len(answers) == POSTED and not {"200", "409"} & set(answers), f"posts of before: {answers}")
+    count = f"{CURL} {CLARIFICATIONS} | grep -o '\"id\"' | wc -l"
+    machine.same("posts of before at the desk after it", machine.says(count), "0")
+    post = f"{CURL} -o /dev/null -d '{{\"text\":\"now\"}}' {CLARIFICATIONS}"
+    machine.same("with a post of now, as a control", machine.says(f"{post}; {count}"), "1")
+
+
 def try_two_crashes(machine):
     """The desk is killed once more as soon as it is a process again."""
     before = machine.state()
@@ -229,7 +253,7 @@ def try_settings(machine):
     machine.note(len(now) > 100, f"settings that were looked at: {len(now)}")
 
 
-STEPS = (try_first_start, try_ends, try_two_crashes, try_stop, try_other_program, try_ports)
+STEPS = (try_first_start, try_ends, try_waiting, try_two_crashes, try_stop, try_other_program, try_ports)
 
 
 def try_systemd(machine):
