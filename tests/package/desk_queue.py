@@ -21,7 +21,7 @@ import sys
 import threading
 import time
 
-from lib import demo, program
+from lib import demo, http2, program
 from lib.nginx import POSTED, Nginx, free_port
 from lib.program import PATIENCE, ROOT, Program, ran
 from lib.queue import Queue
@@ -358,6 +358,32 @@ AT_NGINX = {
 }  # fmt: skip
 
 
+# The same by HTTP/2: a path, and fields.
+BEARER, IN_DEMO = (b"authorization", b"Bearer token-a1"), b"/contests/demo"
+BY_HTTP2 = {
+    "a read": (IN_DEMO, []),
+    "the end of a line": (IN_DEMO, [(b"a", b"1\r\nb: 2")]),
+    "a byte that no head has": (IN_DEMO, [(b"a", b"\0")]),
+    "bytes of any kind": (IN_DEMO, [(b"a", b"\x01\x7f\t\xff")]),
+    "spaces": (IN_DEMO, [(b"a", b"  1  ")]),
+    "names of marks": (IN_DEMO, [(b"a b", b"1")]),
+    "names of other marks": (IN_DEMO, [(b"(a)", b"1"), (b"a_b", b"1"), (b"a.b", b"1")]),
+    "no name": (IN_DEMO, [(b"", b"1")]),
+    "another host": (IN_DEMO, [(b"host", b"y")]),
+    "a connection's fields": (IN_DEMO, [(b"connection", b"close"), (b"upgrade", b"x"), (b"te", b"gzip")]),
+    "an encoding": (IN_DEMO, [(b"transfer-encoding", b"chunked")]),
+    "a length": (IN_DEMO, [(b"content-length", b"5")]),
+    "a path with a space": (IN_DEMO + b"/a b", []),
+    "a path of bytes": (IN_DEMO + b"/\x01\xff", []),
+    "a query of bytes": (IN_DEMO + b"?\xff\xfe", []),
+    "a long path": (IN_DEMO + b"/" + b"a" * 7_000, []),
+    "many fields": (IN_DEMO, [(b"a", b"")] * 900),
+    "more": (IN_DEMO, [(b"a", b"")] * 20_000),
+    "large fields": (IN_DEMO, [(b"a", b"b" * 8_000)] * 3),
+    "larger ones": (IN_DEMO, [(b"a", b"b" * 8_000)] * 5),
+}
+
+
 def try_nginx(desk):
     """What nginx hands on is read by the queue: whatever comes to it is answered as without the queue."""
     server = Server(desk, demo.made(desk, demo.FILES))
@@ -367,6 +393,10 @@ def try_nginx(desk):
         plain, given = (through(nginx, data.replace(b"CONTEST", contest)) for contest in (b"plain", b"queue"))
         desk.same(what, parts_of(given), parts_of(plain))
         desk.note(b"invalid request" not in given, f"{what}: {given!r:.300}")
+    for what, (path, fields) in BY_HTTP2.items():
+        plain, given = (http2.asked(nginx.port, to + path, [BEARER, *fields]) for to in (b"/plain", b"/queue"))
+        desk.same(f"{what}, by HTTP/2", given, plain)
+    desk.same("a read, by HTTP/2", http2.asked(nginx.port, b"/queue/contests/demo", [BEARER])[0], b"\x88")
     nginx.stop()
     queue.stop()
     server.stop()

@@ -168,8 +168,8 @@ def try_ends(machine):
 
 
 def try_waiting(machine):
-    """Posts that a desk which stands still was handed, and posts that wait, when it is killed: none is answered, and none
-    is at the desk after it, which counts them."""
+    """Posts that a desk which stands still was handed, and posts that wait, when it is killed: none is answered, and
+    none is at the desk after it, which counts them."""
     before = machine.state()
     machine.says(f"kill -STOP $({PROCESS} desk@demo); {POSTS}")
     machine.says(f"until [ $(ss -Htn state established dst 127.0.0.1:{BEHIND} | wc -l) -ge 32 ]; do sleep 0.05; done")
