@@ -265,7 +265,7 @@ def try_large(pages):
     pages.submits("b", file=large)
     pages.sees("the largest file", "#told", "The desk has your submission s2-")
     longest = max(browser.run("return window.patience"))
-    pages.note(20_000 + 139_000 < longest < 20_000 + 145_000, f"it has {longest} ms on its way")
+    pages.note(75_000 + 139_000 < longest < 75_000 + 145_000, f"it has {longest} ms on its way")
 
 
 def try_too_many(pages):

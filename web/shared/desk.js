@@ -3,9 +3,9 @@
 import { isAway, isFinal, nameOf, wordsOf } from "./refusals.js";
 import { token } from "./token.js";
 
-// So long, in milliseconds, a page waits for a reply; and longer for what it sends, of which a slow link carries so
-// many bytes in one.
-const PATIENCE = 20_000;
+// So long, in milliseconds, a page waits for a reply: longer than nginx waits for the queue before a desk, and that for
+// the desk. And longer for what it sends, of which a slow link carries so many bytes in one.
+const PATIENCE = 75_000;
 const SLOW_BYTES = 10;
 const AGAIN = 2_000;
 // So many bytes the desk takes at once.
