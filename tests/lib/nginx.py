@@ -47,7 +47,7 @@ GUIDE = (ROOT / "docs/GUIDE.md").read_text(encoding="utf-8")
 CERTIFICATE = re.search(r"^openssl req .*?certificate\.pem$", GUIDE, re.M | re.S)[0]
 CONNECTIONS = re.search(r"s/worker_connections \.\*/worker_connections (\d+);/", GUIDE)[1]
 # What desk.conf and the files of the contests include.
-OWN_FILES = ("ask.conf", "public.conf", "long.conf", "replies.conf", "refusals.conf", "account.conf", "account.js", "pages.conf")
+OWN_FILES = ("ask.conf", "public.conf", "replies.conf", "refusals.conf", "account.conf", "account.js", "pages.conf")
 # So much of what nginx says is told where it isn't as it should be.
 TOLD = 2_000
 # The files that a worker may have open if nothing is said of them.
@@ -239,6 +239,17 @@ class Client:
 
     def close(self):
         self.client.close()
+
+
+def without_lookups(requests):
+    """Requests as a desk gets them, but for those by which nginx asks whether a credential is an account's: these name an
+    address and show a credential."""
+
+    def is_lookup(sent):
+        head = sent.partition(b"\r\n\r\n")[0].lower()
+        return head.startswith(b"get /contests http/") and b"\r\nx-address:" in head and b"\r\nauthorization:" in head
+
+    return [sent for sent in requests if not is_lookup(sent)]
 
 
 def post_until_taken(port, team, number):

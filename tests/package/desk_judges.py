@@ -1,5 +1,5 @@
 #!/usr/bin/env -S python3 -B
-"""Has examples/judge/judge.py judge contests of `desk serve`, through nginx as examples/nginx/ has it, with its limits.
+"""Has examples/judge/judge.py judge contests of `desk serve`, through nginx and the queue as examples/nginx/ has them.
 
     desk_judges.py [--program PATH] [--submissions N]
 
@@ -12,7 +12,7 @@ hold up another's by one of them. It gives the command its words and no token, a
 with a proposal that is mended, and beside a desk that goes on from an older copy. A made-up desk asks for patience by 429
 and 503, and breaks off.
 
-Takes nginx, openssl and faketime. Ends with the line `N passed, M failed`; the exit status is 0 if M is 0.
+Takes nginx, haproxy, openssl and faketime. Ends with the line `N passed, M failed`; the exit status is 0 if M is 0.
 """
 
 import base64
@@ -29,6 +29,7 @@ from lib.bridge import LEFT, Bridge, Calls
 from lib.import_opinion import compact
 from lib.nginx import Client, Nginx, free_port
 from lib.program import PATIENCE, Program
+from lib.queue import Queue
 from lib.server import Server
 
 TWICE = demo.STARTED.replace('"duration"', '"verification":true,"duration"')
@@ -44,7 +45,8 @@ class Place:
         self.desk, self.port = desk, free_port()
         self.folder = demo.made(desk, {**demo.FILES, "init": contest, "accounts-csv": ACCOUNTS})
         self.begin()
-        self.nginx = Nginx(desk.new_folder(), {"demo": self.port}, name="localhost")
+        self.queue = Queue(desk.new_folder(), self.port)
+        self.nginx = Nginx(desk.new_folder(), {"demo": self.queue.port}, name="localhost")
         self.calls, self.words = Calls(desk.new_folder()), {}
         self.address = f"https://localhost:{self.nginx.port}/demo"
 
@@ -52,10 +54,12 @@ class Place:
         self.server = Server(self.desk, self.folder, port=str(self.port))
 
     def restart(self, number):
-        """The desk is away for a moment."""
+        """The desk is away for a moment, and its queue with it."""
         self.server.stop(number)
+        self.queue.stop()
         time.sleep(0.3)
         self.begin()
+        self.queue.start()
 
     def client(self, who):
         return Client(self.server.port, f"token-{who}", is_plain=True)

@@ -1,5 +1,5 @@
 #!/usr/bin/env -S python3 -B
-"""Asks `desk serve` through Debian's nginx, as examples/nginx/ has it: TLS, many clients, a cache, two contests.
+"""Asks `desk serve` through Debian's nginx and the queue, as examples/nginx/ has them: TLS, many clients, a cache, two contests.
 
     desk_nginx.py [--program PATH] [--requests N] [--seconds N]
 
@@ -13,7 +13,7 @@ hasn't read of a large reply lies in memory. Two contests stand side by side. Th
 machine's name. The pages are served. All this asks more than people do, so nginx has no limits here: desk_nginx_limits.py
 tries those.
 
-Takes nginx, openssl, wrk, curl and faketime. Ends with the line `N passed, M failed`; the exit status is 0 if M is 0.
+Takes nginx, haproxy, openssl, wrk, curl and faketime. Ends with the line `N passed, M failed`; the exit status is 0 if M is 0.
 """
 
 import base64
@@ -31,8 +31,9 @@ import time
 
 from lib import demo, program
 from lib.import_opinion import compact
-from lib.nginx import HERE, POSTED, Client, Nginx, free_port, post_until_taken
+from lib.nginx import HERE, POSTED, Client, Nginx, free_port, post_until_taken, without_lookups
 from lib.program import PATIENCE, ROOT, Program, ran
+from lib.queue import Queue
 from lib.relay import Relay
 from lib.server import Server, read_all
 from lib.wire_opinion import asked
@@ -58,15 +59,20 @@ SMUGGLED = (
 
 
 def front(desk):
-    """A desk with the demo contest behind a relay, and nginx before it."""
+    """A desk with the demo contest behind a relay, and nginx and the queue before it."""
     server = Server(desk, demo.made(desk, demo.FILES))
     relay = Relay(server.port)
-    return server, relay, Nginx(desk.new_folder(), {"demo": relay.port}, is_limited=False)
+    return server, relay, Nginx(desk.new_folder(), {"demo": queued(desk, relay.port)}, is_limited=False)
+
+
+def queued(desk, port):
+    """The port of a queue before a desk's."""
+    return Queue(desk.new_folder(), port).port
 
 
 def taken(relay):
-    """What the desk was asked since this was called last, but for what nginx asks it for itself, by HTTP/1.0."""
-    return [sent for sent in relay.take() if not sent.startswith(b"GET /contests HTTP/1.0\r\n")]
+    """What the desk was asked since this was called last, but for what nginx asks it for itself."""
+    return without_lookups(relay.take())
 
 
 def stop(server, nginx, relay=None):
@@ -85,7 +91,7 @@ def seconds_of(action):
 def try_many_clients(desk):
     """200 clients at once: of the public, whose board is kept for a second, and of a team, whose board never is."""
     server = Server(desk, demo.made(desk, demo.FILES))
-    nginx = Nginx(desk.new_folder(), {"demo": server.port}, is_limited=False)
+    nginx = Nginx(desk.new_folder(), {"demo": queued(desk, server.port)}, is_limited=False)
     for who, fields in (("the public", []), ("a team", ["-H", "Authorization: Bearer token-a1"])):
         words = ["wrk", "-t", "2", "-c", "200", "-d", f"{desk.options.seconds}s", "--timeout", f"{PATIENCE}s", *fields]
         status, out, _ = ran([*words, f"https://127.0.0.1:{nginx.port}{HERE}/scoreboard"])
@@ -351,7 +357,7 @@ def try_large_replies(desk):
     desk.note("proxy_temp_path /run/" in conf, "desk.conf keeps what a slow client doesn't take elsewhere")
     with socket.create_server(("127.0.0.1", 0)) as large:
         threading.Thread(target=answer_largely, args=(large,), daemon=True).start()
-        nginx = Nginx(desk.new_folder(), {"demo": large.getsockname()[1]})
+        nginx = Nginx(desk.new_folder(), {"demo": queued(desk, large.getsockname()[1])})
         with nginx.connected() as client:
             client.sendall(b"GET /demo/contests/demo/submissions HTTP/1.1\r\n" + HOST + b"\r\n")
             desk.same("the desk's own part of it", LARGE_DONE.wait(PATIENCE), True)
@@ -369,7 +375,7 @@ def answer_largely(listener):
         except OSError:
             return
         with client:
-            is_lookup = client.recv(65536).startswith(b"GET /contests HTTP/1.0")
+            is_lookup = not without_lookups([client.recv(65536)])
             body = b"[]" if is_lookup else b"x" * LARGE
             head = b"HTTP/1.1 200 OK\r\nContent-Type: application/json\r\nContent-Length: %d\r\n\r\n" % len(body)
             client.sendall(head + body)
@@ -381,15 +387,18 @@ def try_restarts(desk):
     """Posts while their desk is killed and started again: each is there once, and is answered so to its repeat."""
     folder, port = demo.made(desk, demo.FILES), free_port()
     server = Server(desk, folder, port=str(port))
-    nginx = Nginx(desk.new_folder(), {"demo": port}, is_limited=False)
+    queue = Queue(desk.new_folder(), port)
+    nginx = Nginx(desk.new_folder(), {"demo": queue.port}, is_limited=False)
     posts = [(team, number) for number in range(60) for team in (1, 2, 3)]
     with concurrent.futures.ThreadPoolExecutor(12) as pool:
         running = [pool.submit(post_until_taken, nginx.port, *one) for one in posts]
         for how in (signal.SIGKILL, signal.SIGTERM) * 3:
             time.sleep(0.1)
             server.stop(how)
+            queue.stop()
             time.sleep(0.1)
             server = Server(desk, folder, port=str(port))
+            queue.start()
         replies = [one.result() for one in running]
     desk.note(sum(away for _, _, away in replies) > 0, "no post met a desk that was away")
     for one, (status, reply, _) in zip(posts, replies):
@@ -423,7 +432,7 @@ def try_two_contests(desk):
     accounts = demo.FILES["accounts-csv"].replace("token-", "secret-")
     other = {**demo.FILES, "init": demo.STARTED.replace('"demo"', '"demo-2"'), "accounts-csv": accounts}
     first, second = (Server(desk, demo.made(desk, files)) for files in (demo.FILES, other))
-    nginx = Nginx(desk.new_folder(), {"demo": first.port, "demo-2": second.port})
+    nginx = Nginx(desk.new_folder(), {"demo": queued(desk, first.port), "demo-2": queued(desk, second.port)})
     for token, path, wanted, text in contest_cases():
         status, _, reply = Client(nginx.port, token).ask("GET", path)
         desk.note(status == wanted and text in reply.decode(), f"{token} asks for {path}: {status} {reply}")

@@ -1,5 +1,6 @@
 #!/usr/bin/env -S python3 -B
-"""Asks `desk serve` through nginx, as examples/nginx/ has it, for what costs it most, in a contest of a large hall.
+"""Asks `desk serve` through nginx and the queue, as examples/nginx/ has them, for what costs it most, in a contest of a large
+hall.
 
     desk_nginx_costs.py [--program PATH] [--submissions N]
 
@@ -7,10 +8,10 @@ The contest has 500 teams and N submissions (10,000), each with a verdict. One t
 connections, and eight tokens on 30 each: for the event feed, and for each long list and the scoreboard, as they are and
 compressed. Another team's posts are all taken meanwhile; how long they take is printed beside a run without a flood,
 and isn't judged. Pages go on beside the worst of these: the ceremony gets its feed, and the page of the balloons its
-lists. The limits of the event feed and of long lists are those that desk.conf names: of a token, of an address without
-one, and of all.
+lists. The limits of a token's event feeds and long lists are those that desk.conf names. Who reads a feed slowly keeps it
+from nobody.
 
-Takes nginx, openssl, wrk, sqlite3 and faketime. Ends with the line `N passed, M failed`; the exit status is 0 if M is 0.
+Takes nginx, haproxy, openssl, wrk, sqlite3 and faketime. Ends with the line `N passed, M failed`; the exit status is 0 if M is 0.
 """
 
 import collections
@@ -23,7 +24,8 @@ from lib import large_hall, program
 from lib.floods import Flood, note_taken, posts_of
 from lib.large_hall import token
 from lib.nginx import HERE, Client, Nginx
-from lib.program import Program
+from lib.program import PATIENCE, Program
+from lib.queue import Queue
 from lib.server import Server
 from lib.timetable import timetable
 
@@ -40,10 +42,10 @@ FLOODS = [
     (8, "scoreboard", True),
 ]
 CONNECTIONS = 30
-# The limits of the event feed: so many at once, then each after so many seconds; and so many of all tokens at one time.
-AT_ONCE, WAIT, OF_ALL = 5, 6, 4
-# And of long lists: so many in a second, of a token and of all.
-OF_A_TOKEN, OF_ALL_LISTS = 4, 40
+# The limits of a token's event feed: so many at once, then each after so many seconds; and of its long lists: so many at once,
+# then so many in a second.
+AT_ONCE, WAIT, LISTS_AT_ONCE, LISTS_IN_A_SECOND = 3, 6, 80, 4
+SLOW = 12
 LISTS = timetable()["balloons"][1]["paths"]
 
 
@@ -53,13 +55,14 @@ class Hall(Program):
     def __init__(self, options, folder):
         super().__init__(options, folder)
         self.server = Server(self, large_hall.made(self, options.submissions))
+        self.queue = Queue(self.new_folder(), self.server.port)
 
     def posts(self, nginx, place):
         """The posts of the team at a place."""
         return posts_of(nginx, token(POSTING + place), problem=large_hall.PROBLEM)
 
     def nginx(self):
-        return Nginx(self.new_folder(), {"demo": self.server.port})
+        return Nginx(self.new_folder(), {"demo": self.queue.port})
 
 
 def try_floods(hall):
@@ -106,40 +109,49 @@ def feeds(client, count):
     return [client.ask("GET", FEED)[0] for _ in range(count)], time.monotonic() - start
 
 
-def ask_feeds(hall, nginx, who):
-    """Asks for as many event feeds as go on at once, and for two more, one of them by the usual path."""
-    client = Client(nginx.port, who)
-    statuses, took = feeds(client, AT_ONCE)
-    hall.note(statuses == [200] * AT_ONCE and took < WAIT, f"feeds of {who}: {statuses} in {took:.1f} s")
+def try_limits(hall):
+    """The limit of a token's event feeds: as many as go on at once, and two more, one of them by the usual path, each of which
+    waits for its turn."""
+    nginx = hall.nginx()
+    client = Client(nginx.port, token(1))
+    hall.same("feeds of a token", feeds(client, AT_ONCE)[0], [200] * AT_ONCE)
     statuses, took = feeds(client, 1)
-    hall.note(statuses == [200] and took > WAIT / 2, f"one more of {who}: {statuses} in {took:.1f} s")
+    hall.note(statuses == [200] and took > WAIT / 2, f"one more: {statuses} in {took:.1f} s")
     start = time.monotonic()
     status = client.ask("HEAD", "/contests/demo/event-feed")[0]
     took = time.monotonic() - start
-    hall.note(status == 200 and took > WAIT / 2, f"one more of {who} by the usual path: {status} in {took:.1f} s")
-
-
-def try_limits(hall):
-    """The limits of the event feed: of a token, whichever path it takes, and of an address without one."""
-    nginx = hall.nginx()
-    with concurrent.futures.ThreadPoolExecutor(2) as pool:
-        for done in [pool.submit(ask_feeds, hall, nginx, who) for who in (token(1), None)]:
-            done.result()
-    statuses, took = feeds(Client(nginx.port, token(2)), 1)
-    hall.note(statuses == [200] and took < WAIT / 2, f"a feed of another token: {statuses} in {took:.1f} s")
+    hall.note(status == 200 and took > WAIT / 2, f"one more by the usual path: {status} in {took:.1f} s")
+    hall.same("feeds of another token", feeds(Client(nginx.port, token(2)), AT_ONCE)[0], [200] * AT_ONCE)
     nginx.stop()
 
 
 def try_lists(hall):
-    """The limits of long lists: of a token, and of all of them."""
-    for tokens, most in ((1, OF_A_TOKEN), (15, OF_ALL_LISTS)):
-        nginx, start = hall.nginx(), time.monotonic()
-        with Flood(nginx, f"{HERE}/judgements", tokens, tokens * 8, "tokens.lua"):
-            time.sleep(1.5)
-        count, took = nginx.statuses()[200], time.monotonic() - start
-        hall.note(0 < count <= most * (took + 1), f"{tokens} tokens had {count} lists in {took:.1f} s")
-        print(f"  {tokens} tokens had {count} lists in {took:.1f} s")
-        nginx.stop()
+    """The limit of a token's long lists."""
+    nginx, start = hall.nginx(), time.monotonic()
+    with Flood(nginx, f"{HERE}/judgements", 1, CONNECTIONS, "tokens.lua"):
+        time.sleep(1.5)
+    count, took = nginx.statuses()[200], time.monotonic() - start
+    most = LISTS_AT_ONCE + LISTS_IN_A_SECOND * (took + 1)
+    hall.note(0 < count <= most, f"a token had {count} lists in {took:.1f} s, and {most:.0f} may come")
+    print(f"  a token had {count} lists in {took:.1f} s")
+    nginx.stop()
+
+
+def try_at_once(hall):
+    """Feeds of a token that wait for a desk: three, beside which one more is refused once it is its turn."""
+    nginx, clients = hall.nginx(), []
+    for _ in range(AT_ONCE + 1):
+        clients.append(Client(nginx.port, token(30)))
+        clients[-1].ask("GET", f"{HERE}/state")
+    nginx.statuses()
+    hall.server.process.send_signal(signal.SIGSTOP)
+    with concurrent.futures.ThreadPoolExecutor(AT_ONCE + 1) as pool:
+        asked = [pool.submit(client.ask, "GET", FEED) for client in clients]
+        concurrent.futures.wait(asked, PATIENCE, concurrent.futures.FIRST_COMPLETED)
+        hall.server.process.send_signal(signal.SIGCONT)
+        statuses = collections.Counter(one.result()[0] for one in asked)
+    hall.same("feeds of a token at one time", statuses, {200: AT_ONCE, 429: 1})
+    nginx.stop()
 
 
 def slow_reader(nginx, who):
@@ -149,29 +161,18 @@ def slow_reader(nginx, who):
     return client
 
 
-def try_at_once(hall):
-    """One feed at a time of a token, also while it is read slowly; four that the desk is asked for, of which slow readers hold
-    none."""
+def try_slow_readers(hall):
+    """Feeds that are read slowly hold none of another token, nor another of the same."""
     nginx = hall.nginx()
-    slow = [slow_reader(nginx, token(number)) for number in range(1, OF_ALL + 3)]
+    slow = [slow_reader(nginx, token(number)) for number in range(1, SLOW)]
     time.sleep(1)
-    hall.same("a second feed of a token", Client(nginx.port, token(1)).ask("GET", FEED)[0], 429)
-    hall.same("a feed beside slow readers", Client(nginx.port, token(20)).ask("GET", FEED)[0], 200)
+    for who in (token(1), token(SLOW)):
+        hall.same(f"a feed of {who} beside slow readers", Client(nginx.port, who).ask("GET", FEED)[0], 200)
     for client in slow:
         client.close()
-    with concurrent.futures.ThreadPoolExecutor(OF_ALL + 2) as pool:
-        clients = [Client(nginx.port, token(number)) for number in range(30, 30 + OF_ALL + 2)]
-        for client in clients:
-            client.ask("GET", f"{HERE}/state")
-        hall.server.process.send_signal(signal.SIGSTOP)
-        asked = [pool.submit(client.ask, "GET", FEED) for client in clients]
-        time.sleep(1)
-        hall.server.process.send_signal(signal.SIGCONT)
-        statuses = collections.Counter(one.result()[0] for one in asked)
-    hall.same("feeds of six tokens at one time", statuses, {200: OF_ALL, 429: 2})
     nginx.stop()
 
 
 if __name__ == "__main__":
-    PARTS = (try_floods, try_pages, try_limits, try_lists, try_at_once)
+    PARTS = (try_floods, try_pages, try_limits, try_lists, try_at_once, try_slow_readers)
     sys.exit(program.main(__doc__, Hall, PARTS, program="desk", submissions=10_000))

@@ -1,20 +1,24 @@
 #!/usr/bin/env -S python3 -B
-"""Asks `desk serve` through nginx, as examples/nginx/ has it, as strangers do, who have no account, while teams post.
+"""Asks `desk serve` through nginx and the queue, as examples/nginx/ has them, as strangers do, who have no account, while teams
+post.
 
     desk_nginx_strangers.py [--program PATH] [--seconds N]
 
 What nginx answers strangers itself: who changes something or sends a body without a credential, and who shows one that no
 account has, whatever the path; the desk sees none of it. Ever new tokens on eight connections keep out no team that signs
-in behind the same address, at an nginx that knows nobody yet. 300 clients that send most of a body and then nothing leave
-nginx's memory as it was. A head that isn't whole after five seconds is dropped. 1,900 connections without a credential,
+in behind the same address, at an nginx that knows nobody yet; nor do 40 connections of HTTP/2 with 100 requests each, which
+show credentials off their form, or ever new tokens; and boards come meanwhile. 300 clients that send most of a body and then
+nothing leave nginx's memory as it was. A head that isn't whole after five seconds is dropped. 1,900 connections without a credential,
 at paths that aren't kept, keep no team's post from being taken. How long posts take beside a flood is printed beside a
 run without one, and isn't judged. Floods last N seconds each (6). The guide's firewall counts the connections of each
 address; without root's rights that counts as skipped.
 
-Takes nginx, openssl, wrk, curl, faketime, unshare and nft. Ends with the line `N passed, M failed` and, if something
+Takes nginx, haproxy, openssl, wrk, curl, faketime, unshare and nft. Ends with the line `N passed, M failed` and, if something
 couldn't be tried, `, K skipped`; the exit status is 0 if M is 0.
 """
 
+import asyncio
+import collections
 import concurrent.futures
 import json
 import os
@@ -25,8 +29,10 @@ import time
 
 from lib import demo, program
 from lib.floods import Flood, note_taken, posts_of
-from lib.nginx import GUIDE, HERE, Client, Nginx
+from lib.streams import Http2
+from lib.nginx import GUIDE, HERE, Client, Nginx, without_lookups
 from lib.program import PATIENCE, Program, ran
+from lib.queue import Queue
 from lib.relay import Relay
 from lib.server import Server, read_all
 
@@ -40,6 +46,7 @@ ANYWHERE = [f"{HERE}/{path}" for path in PATHS] + OTHERS
 SENT, WHOLE, HOLDERS, MEGABYTES = 2_090_000, 2_097_152, 300, 40
 HEAD_SECONDS = 5
 FLOODING, POSTING = 1_900, 6
+STREAMING, STREAMS = 40, 100
 # The guide's firewall, and its limit; and what tries it in a network of its own, by two addresses.
 FIREWALL = re.search(r"(?ms)^cat >> /etc/nftables\.conf << END\n(.*?)^END$", GUIDE)[1]
 LIMIT, ROOM, OPENED = "over 3000", 30, 40
@@ -75,9 +82,10 @@ class Hall(Program):
         soft, hard = resource.getrlimit(resource.RLIMIT_NOFILE)
         resource.setrlimit(resource.RLIMIT_NOFILE, (min(hard, 4_096), hard))
         self.server = Server(self, demo.made(self, files()))
+        self.queue = Queue(self.new_folder(), self.server.port)
 
     def nginx(self):
-        return Nginx(self.new_folder(), {"demo": self.server.port})
+        return Nginx(self.new_folder(), {"demo": self.queue.port})
 
 
 def told(answer):
@@ -98,7 +106,7 @@ def asked_by_curl(nginx, *words):
 def try_answers(hall):
     """What nginx answers itself, whatever the path; of all of it the desk sees whether a token is an account's."""
     relay = Relay(hall.server.port)
-    nginx = Nginx(hall.new_folder(), {"demo": relay.port})
+    nginx = Nginx(hall.new_folder(), {"demo": Queue(hall.new_folder(), relay.port).port})
     client = Client(nginx.port)
     for path in ANYWHERE:
         for method, body in (("POST", "{}"), ("POST", None), ("PATCH", "{}"), ("DELETE", None), ("GET", "{}")):
@@ -111,7 +119,7 @@ def try_answers(hall):
     for words in (["-X", "GET", "-d", "{}"], ["-X", "GET", "-d", "{}", "-H", "Content-Length:"]):
         hall.same(f"curl {words}", asked_by_curl(nginx, *words), (403, '{"code":403,"message":"RoleForbids"}'))
     hall.same("curl with no body", asked_by_curl(nginx)[0], 200)
-    seen = [sent for sent in relay.take() if not sent.startswith(b"GET /contests HTTP/1.0\r\n")]
+    seen = without_lookups(relay.take())
     hall.same("requests that the desk saw, but for lookups and the board", len(seen), 1)
     nginx.stop()
     relay.close()
@@ -130,10 +138,59 @@ def try_sign_in(hall):
             took.append(time.monotonic() - start)
             time.sleep(hall.options.seconds / 40)
         note_taken(hall, "beside ever new tokens", posts_of(nginx, TEAMS[0]), alone)
-    hall.note(max(took) < 1, f"a team signs in within {max(took):.2f} s")
     print(f"  a team signs in within {max(took) * 1000:.0f} ms; the flood was answered {dict(nginx.statuses())}")
     hall.note("requests in" in flood.said, f"the flood: {flood.said}")
     nginx.stop()
+
+
+async def stream(nginx, credentials, is_greedy):
+    """Asks on 40 connections, 100 requests each at one time or as many as nginx lets it, again and again with credentials that are
+    made."""
+
+    async def go(client):
+        while True:
+            await client.ask("GET", f"{HERE}/account", fields=[("authorization", next(credentials))])
+
+    clients = [Http2(nginx.port, is_greedy=is_greedy) for _ in range(STREAMING)]
+    try:
+        await asyncio.gather(*(go(client) for client in clients for _ in range(STREAMS)))
+    finally:
+        for client in clients:
+            client.close()
+
+
+async def signed_in(nginx, token):
+    """The statuses of a team's account and board."""
+    client = Http2(nginx.port, [("authorization", f"Bearer {token}")])
+    statuses = [(await client.ask("GET", f"{HERE}/{path}"))[0] for path in ("account", "scoreboard")]
+    client.close()
+    return statuses
+
+
+async def beside_streams(nginx, credentials, is_greedy):
+    """What teams are answered that sign in beside these, and look at the board, by their statuses."""
+    flood = asyncio.create_task(stream(nginx, credentials, is_greedy))
+    await asyncio.sleep(1)
+    found = await asyncio.gather(*(signed_in(nginx, token) for token in TEAMS))
+    flood.cancel()
+    await asyncio.gather(flood, return_exceptions=True)
+    return collections.Counter(status for statuses in found for status in statuses)
+
+
+def try_streams(hall):
+    """4,000 requests at one time of one address, by HTTP/2, with credentials that no account has: 40 teams sign in behind it, and
+    see the board. A client asks for as much at one time as nginx lets it, or for more, and is cut off."""
+    off_form, made_up = iter(lambda: "nonsense", None), (f"Bearer made-up-{number}" for number in range(10**9))
+    for what, credentials, is_greedy in (
+        ("credentials off their form", off_form, False),
+        ("ever new tokens", made_up, False),
+        ("ever new tokens of a client that heeds no bound", made_up, True),
+    ):
+        nginx = hall.nginx()
+        statuses = asyncio.run(beside_streams(nginx, credentials, is_greedy))
+        hall.same(f"{len(TEAMS)} teams beside {what} on {STREAMING} connections", statuses, {200: 2 * len(TEAMS)})
+        print(f"  {what}: all was answered {dict(nginx.statuses())}")
+        nginx.stop()
 
 
 def keep_body(nginx, fields):
@@ -226,5 +283,5 @@ def try_public(hall):
 
 
 if __name__ == "__main__":
-    PARTS = (try_answers, try_sign_in, try_bodies, try_heads, try_firewall, try_public)
+    PARTS = (try_answers, try_sign_in, try_streams, try_bodies, try_heads, try_firewall, try_public)
     sys.exit(program.main(__doc__, Hall, PARTS, program="desk", seconds=6))

@@ -12,7 +12,7 @@ the desk each time. What a machine for spectators doesn't hand on never comes to
 paths, a path with a line's end. While the desk is away it shows the last board. A browser that loads the page of the
 scoreboard from there gets each file that the page loads, and shows the board.
 
-Takes nginx, openssl, wrk, chromium, chromium-driver and faketime. Ends with the line `N passed, M failed`; the exit
+Takes nginx, haproxy, openssl, wrk, chromium, chromium-driver and faketime. Ends with the line `N passed, M failed`; the exit
 status is 0 if M is 0.
 """
 
@@ -27,8 +27,9 @@ import time
 from lib import demo, program
 from lib.browsers import BACKS
 from lib.import_opinion import compact
-from lib.nginx import HERE, POSTED, Client, Front, Nginx
+from lib.nginx import HERE, POSTED, Client, Front, Nginx, without_lookups
 from lib.program import PATIENCE, ROOT, TESTS, Program
+from lib.queue import Queue
 from lib.relay import Relay
 from lib.server import Server
 
@@ -48,12 +49,13 @@ FILES = {**demo.FILES, "teams-csv": demo.FILES["teams-csv"] + "".join(f"h{number
 
 
 class Contest:
-    """The demo contest in its frozen hour, at a desk behind a relay and nginx, with all boards that the public may see."""
+    """The demo contest in its frozen hour, at a desk behind a relay, the queue and nginx, with all boards that the public may see."""
 
     def __init__(self, desk):
         self.server = Server(desk, demo.made(desk, FILES))
         self.relay = Relay(self.server.port)
-        self.nginx = Nginx(desk.new_folder(), {"demo": self.relay.port}, is_limited=False, name=NAME)
+        queue = Queue(desk.new_folder(), self.relay.port)
+        self.nginx = Nginx(desk.new_folder(), {"demo": queue.port}, is_limited=False, name=NAME)
         self.direct = {who: Client(self.server.port, who, is_plain=True) for who in (None, "token-a1", "token-a2", "token-j1")}
         self.send("token-a1")
         self.server.at(FREEZE)
@@ -73,7 +75,7 @@ class Contest:
 
     def taken(self):
         """What the desk was asked since this was called last, with a credential and without, but for what nginx asks for itself."""
-        sent = [one for one in self.relay.take() if not one.startswith(b"GET /contests HTTP/1.0\r\n")]
+        sent = without_lookups(self.relay.take())
         known = [one for one in sent if b"authorization:" in one.lower()]
         return known, [one for one in sent if one not in known]
 
