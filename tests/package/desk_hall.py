@@ -3,14 +3,15 @@
 
     desk_hall.py [--program PATH] [--submissions N] [--teams N]
 
-The contest has 500 teams and N submissions (1,000). Pages ask as those of web/ do (lib/hall_pages.py), by HTTP/2, on a clock
-that each reply moves, as on a machine that answers 400 requests a second, and 2,000 where nginx keeps most of what they ask: so
-what a page waits for is counted in replies. 500 pages of teams, 16 of one judge, three of balloons and two scoreboards are
-opened within two seconds of that clock, and all loaded anew once. Nothing is refused by 429 or 503, no reply takes 180 seconds, each page is shown, and none waits for longer
-than its patience, after which it would say that the desk is away. So it is of 1,000 pages, N of teams (300), as many of the jury
-and of balloons as before and the others scoreboards, which are loaded anew while they wait for their first replies. Then the first hall is loaded anew while teams post,
-and meanwhile the desk is killed and started again, twice, and the queue with it: each post is there once, and all pages are
-shown again.
+The contest has 500 teams and N submissions (1,000). Pages ask as those of web/ do (lib/hall_pages.py), by HTTP/2, on a
+clock that each reply moves, as on a machine that answers 400 requests a second, and 2,000 where nginx keeps most of
+what they ask: so what a page waits for is counted in replies. 500 pages of teams, 16 of one judge, three of balloons
+and two scoreboards are opened within two seconds of that clock, and all loaded anew once. Nothing is refused by 429 or
+503, no reply takes 180 seconds, each page is shown, and none waits for longer than its patience, after which it would
+say that the desk is away. So it is of 1,000 pages, N of teams (300), as many of the jury and of balloons as before and
+the others scoreboards, which are loaded anew while they wait for their first replies. Then the first hall is loaded
+anew while teams post, and meanwhile the desk is killed and started again, twice, and the queue with it: each post is
+there once, and all pages are shown again.
 
 Takes nginx, haproxy, openssl, sqlite3 and faketime. Ends with the line `N passed, M failed`; the exit status is 0 if M is 0.
 """

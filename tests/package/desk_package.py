@@ -40,7 +40,7 @@ from follow_guide import commands_in
 GUIDE = (ROOT / "docs/GUIDE.md").read_text(encoding="utf-8")
 BY_PACKAGE = re.compile(r"(?ms)^<!-- by the package -->\n```sh\n(.*?)^```$")
 CONSOLE = re.compile(r"(?ms)^```console\n(.*?)^```$")
-IN_NGINX = [f"{name}.conf" for name in ("account", "ask", "files", "long", "pages", "public", "refusals", "replies")]
+IN_NGINX = [f"{name}.conf" for name in ("account", "ask", "files", "pages", "public", "refusals", "replies")]
 IN_NGINX.insert(1, "account.js")
 IN_DESK = ["away.http", "malformed.http", "queue.cfg"]
 CONFIGURED = [*(f"/etc/desk/{name}" for name in IN_DESK), *(f"/etc/nginx/desk/{name}" for name in IN_NGINX), "/etc/nginx/sites-available/desk"]

@@ -199,7 +199,7 @@ def try_gave_up(desk):
         server.waits_for(1 + len(wanted))
         ended(server, queue, clients)
         came = [line.removesuffix(" HTTP/1.1") for line in server.take()]
-        desk.same("what is handed on", came, [*wanted, "GET /stays"])
+        desk.same("what is handed on", sorted(came), [*wanted, "GET /stays"])
 
 
 def try_long_wait(desk):

@@ -8,8 +8,7 @@ kernel, whose settings are held beside those of before. The units are those of e
 of docs/GUIDE.md. The desk is killed, twice within a second too, stopped and started anew, and the queue is killed
 alone: after each both are there again, the desk first, no connection of before is answered by the desk after it, and
 no post of before reaches it. While another program has the desk's port no queue starts, and once that is gone both
-do. A port for which there is none 10,000 above is refused with its reason in the log. How long it takes is printed;
-half a minute would be too long.
+do. A port for which there is none 10,000 above is refused with its reason in the log. How long each takes is printed.
 
 Takes haproxy, faketime, systemd, unshare, nsenter, capsh and curl. Where no such machine can be made its cases are
 skipped. Ends with the line `N passed, M failed`, with `, K skipped` behind it if something was; the exit status is 0
@@ -34,8 +33,6 @@ UNITS = ("desk@.service", "desk-queue@.service")
 BY_HAND = re.findall(r"(?m)^(?:\(cd examples/nginx && cp queue|cp examples/nginx/desk@).*$", GUIDE)
 BOTH = ["active", "active"]
 PORT, BEHIND = 8081, 18081
-# Seconds in which both are there again, where some two are usual.
-SOON = 30
 # What tells how units are, and which process one is.
 PROCESS = "systemctl show -P MainPID"
 SHOW = "systemctl show -p ActiveState,ActiveEnterTimestampMonotonic,MainPID desk@demo desk-queue@demo"
@@ -100,7 +97,7 @@ def names(state):
 def both_anew(machine, before, changed=(True, True)):
     """Waits until both are there, each with another process if it should have one, and answer; how long it took."""
     start = time.monotonic()
-    while time.monotonic() < start + SOON:
+    while time.monotonic() < start + PATIENCE:
         state = machine.state()
         others = tuple(now.process != then.process for now, then in zip(state, before))
         if names(state) == BOTH and others == changed and machine.says(ASK) == "200":
